@@ -1,0 +1,19 @@
+-- What is proved of the logic. First the presses and samples, computed; then what the theorems rest on; last the theorems.
+pub mod Presses
+pub mod MorePresses
+pub mod Samples
+pub mod Granted
+pub mod Passes
+pub mod Comparing
+pub mod Derivations
+pub mod BytesInForm
+pub mod ReadInForm
+pub mod Every
+pub mod FactsCounted
+pub mod Learning
+pub mod FactsInForm
+pub mod Called
+pub mod NeverSix
+pub mod StateSpelling
+pub mod Writing
+pub mod Theorems

@@ -1,0 +1,32 @@
+-- What the theorems speak of: inputs that are bytes, and inputs from which the rules derive the goal.
+use Prim.Native.Nat.{ℕ, _≤_, _<_}
+use mathlib.Core.Path.{_≡_}
+use mathlib.Core.List.{List}
+use mathlib.Core.Option.{some}
+use lib.ListN.{length}
+use Rattle.procap.specs.Lists.{All}
+use Rattle.procap.specs.Times.{latest}
+use Rattle.procap.specs.Facts.{Spelled}
+use Rattle.procap.specs.States.{stated}
+use Rattle.procap.specs.declared.procap.Request.{Request}
+use Rattle.bl.specs.declared.Certificate.{Certificate}
+use Rattle.bl.specs.Trees.{Check}
+use Rattle.bl.specs.Steps.{proof-in}
+use Rattle.bl.specs.Outcome.{granted}
+use Rattle.bl.specs.Certificates.{Statement, statements}
+use Rattle.bl.specs.Rules.{Derives}
+
+-- A lent buffer holds bytes.
+abbrev pub AreBytes : List ℕ → Type 0
+AreBytes bytes = All (λ b. b < 256) bytes
+
+-- Demand 2: all that is lent reads, and the proof derives the goal by the rules at that moment in that state.
+pub record Derivable (r : Request) (records : List Certificate) (buffer proof : List ℕ) (m : ℕ) (state : List ℕ) : Type 0 where
+  pub certificates : List Statement
+  pub steps : Check
+  pub facts : List Spelled
+  pub certificates-read : statements buffer records ≡ granted certificates
+  pub proof-reads : proof-in (length records) proof ≡ some steps
+  pub moment-in-range : m ≤ latest
+  pub state-reads : stated state ≡ some facts
+  pub derived : Derives m facts certificates r steps
