@@ -16,7 +16,7 @@ use Rattle.procap.specs.Writable.{largest-name, TermInForm}
 use Rattle.procap.specs.declared.tag.TermTag.{TermTag}
 use Rattle.procap.specs.declared.tag.TermTag.the-variants.{NameTag, MomentTag, MinusInfinityTag, PlusInfinityTag, CtimeTag, VariableTag, NoTermTag}
 use Rattle.procap.proofs.Each.{each-left}
-use Rattle.bl.specs.Derivable.{AreBytes}
+use Rattle.bl.specs.Accepting.{AreBytes}
 use Rattle.procap.specs.Bytes.{Reader, then, _>>=_, give, fail, ensure, big-endian, term-tag, next, number, term-by, term, many, predicate-and, to-the-end, whole}
 
 -- ── Lists of bytes ──

@@ -21,7 +21,7 @@ use Rattle.bl.specs.Kinds.{as-name, as-time, as-terms, as-top, as-and, a
 use Rattle.bl.specs.Walk.{Judgement, assumed, infer, check, walk}
 use Rattle.bl.specs.Calls.{read-case}
 use Rattle.procap.proofs.Each.{each-mapped}
-use Rattle.bl.specs.Derivable.{AreBytes}
+use Rattle.bl.specs.Accepting.{AreBytes}
 use Rattle.bl.proofs.BytesInForm.{SpelledInForm, IfSome, is-none, is-some}
 use Rattle.bl.proofs.Every.{Every, comes-to, misfits, asks-fact, then-every, need-every, need-any, Tested, test-then, order-tested, same-tested, view-tested, term-tested}
 use Rattle.bl.proofs.ReadInForm.{PlaceInForm, FactsInForm, InferringInForm, CheckingInForm, StatementInForm, CaseInForm, IfGranted, is-granted, read-case-yields}

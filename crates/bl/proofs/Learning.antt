@@ -6,15 +6,16 @@ use mathlib.Core.Logic.{ite, inl, inr, _↔_}
 use native.Mathlib.Decide.{decLt}
 use native.Mathlib.Omega.{arith}
 use lib.ListN.{length, length-append}
-use Rattle.procap.specs.Lists.{All, In, in?}
+use Rattle.procap.specs.Lists.{All, In}
 use Rattle.procap.specs.Times.{AtMost, decided}
-use Rattle.procap.specs.Facts.{Spelled, spelled?}
+use Rattle.procap.specs.Facts.{Spelled}
 use Rattle.procap.specs.Procaps.{most-facts, HoldsAt}
 use Rattle.procap.specs.declared.time.Time.{Time}
 use Rattle.procap.specs.declared.time.Decision.{Decision}
 use Rattle.procap.specs.declared.time.Decision.the-variants.{Holds, Fails, RaisesFrom, LowersTo}
 use Rattle.procap.specs.Answers.{number-of}
 use Rattle.procap.specs.declared.answer.Answer.the-variants.{FactsFull}
+use Rattle.procap.specs.Deciding.{in?, spelled?}
 use Rattle.procap.proofs.Decided.{Right, decided-right}
 use Rattle.bl.specs.Outcome.{Outcome, granted, refused, go-on}
 use Rattle.bl.specs.Questions.{Question, at-most, holds, Walk, done, misfit, ask}

@@ -3,9 +3,8 @@ use Prim.Native.Nat.{ℕ}
 use mathlib.Core.Path.{_≡_, refl}
 use mathlib.Core.List.{List, [], _∷_}
 use lib.ListN.{length}
-use Rattle.procap.specs.Lists.{All, nth, pad, in?, lists?}
-use Rattle.procap.specs.Times.{second-at-most?, is-plus-infinity?, at-most?}
-use Rattle.procap.specs.Facts.{fact-of, spelled-at-moment, terms?, spelled?}
+use Rattle.procap.specs.Lists.{All, nth, pad}
+use Rattle.procap.specs.Facts.{fact-of, spelled-at-moment}
 use Rattle.procap.specs.Procaps.{procap-of, empty-procap}
 use Rattle.procap.specs.Answers.{number-of, place-of}
 use Rattle.procap.specs.Bytes.{then, ensure, big-endian, next, number, term-by, term, many, predicate-and, to-the-end, whole}
@@ -14,6 +13,7 @@ use Rattle.procap.specs.declared.time.Time.the-variants.{Moment}
 use Rattle.procap.specs.declared.fact.Term.the-variants.{Name}
 use Rattle.procap.specs.declared.procap.Request.{Request}
 use Rattle.procap.specs.declared.procap.Procap.{Procap}
+use Rattle.procap.specs.Deciding.{in?, lists?, second-at-most?, is-plus-infinity?, at-most?, terms?, spelled?}
 use native.Mathlib.Decide.{ℕ-discrete, decLe, decLt}
 use Rattle.bl.specs.declared.Certificate.{Certificate}
 use Rattle.bl.specs.Trees.{put-place, put, offset, states-inferring, states}

@@ -29,7 +29,7 @@ use Rattle.bl.specs.Outcome.{Outcome, granted, refused, go-on}
 use Rattle.bl.specs.Certificates.{Statement, most-certificates, most-part-bytes, fixed-time, part-of, formula-of, statement-by, statement-of, and-then, statements-from, statements}
 use Rattle.bl.specs.Calls.{or-else, Case, read-case}
 use Rattle.procap.proofs.Each.{each-taken, each-left}
-use Rattle.bl.specs.Derivable.{AreBytes}
+use Rattle.bl.specs.Accepting.{AreBytes}
 use Rattle.bl.proofs.BytesInForm.{IfSome, is-none, is-some, unread, Yields, give-yields, fail-yields, any-read, then-read, then-yields, skip-yields, some-pick, whole-yields, WithTerms, term-by-yields, term-yields, predicate-and-yields}
 
 -- ── Formulas ──

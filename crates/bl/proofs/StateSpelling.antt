@@ -16,7 +16,7 @@ use Rattle.procap.specs.Facts.{Spelled, most-terms, term-at-moment, spelled-at-
 use Rattle.procap.specs.Procaps.{most-facts}
 use Rattle.procap.specs.Writable.{largest-name, TermInForm}
 use Rattle.procap.proofs.Each.{each-of-both, each-mapped}
-use Rattle.bl.specs.Derivable.{AreBytes}
+use Rattle.bl.specs.Accepting.{AreBytes}
 use Rattle.bl.proofs.BytesInForm.{SpelledInForm}
 use Rattle.procap.specs.Bytes.{Reader, then, _>>=_, give, ensure, big-endian, next, number, byte, term-tag, term-by, many, predicate-and, to-the-end, whole}
 use Rattle.procap.specs.States.{most-state-bytes, settled, settled-term, fact, more, facts, stated}

@@ -23,7 +23,7 @@ use Rattle.bl.specs.Certificates.{Statement}
 use Rattle.bl.specs.Walk.{walk}
 use Rattle.bl.specs.Readings.{Kept, start, office, run}
 use Rattle.bl.specs.Calls.{read-case, verified, directly}
-use Rattle.bl.specs.Derivable.{AreBytes, Derivable}
+use Rattle.bl.specs.Accepting.{AreBytes, Derivable, Issued, AcceptedSomewhere}
 use Rattle.bl.proofs.FactsCounted.{asks, walk-asks}
 use Rattle.bl.proofs.Learning.{Open, list-grows, kept-open, passes-kept}
 use Rattle.bl.proofs.Derivations.{walk-derives}
@@ -106,29 +106,34 @@ module _ (r : Request) (records : List Certificate) (buffer proof : List ℕ) wh
 
   -- (c) Verify issues exactly when there are a moment in range and a well-formed state, as bytes, at which the direct check accepts.
   pub issued-exactly-where-some-press-is-accepted : AreBytes buffer → AreBytes proof
-      → ((p : Procap) × (verified r records buffer proof ≡ granted p))
-      ↔ ((m : ℕ) × (m ≤ latest) × (state : List ℕ) × AreBytes state × (directly r records buffer proof m state ≡ granted tt))
+      → Issued r records buffer proof ↔ AcceptedSomewhere r records buffer proof
   issued-exactly-where-some-press-is-accepted in-bytes proof-in-bytes = (there, back)
     where
-      there : (p : Procap) × (verified r records buffer proof ≡ granted p)
-          → (m : ℕ) × (m ≤ latest) × (state : List ℕ) × AreBytes state × (directly r records buffer proof m state ≡ granted tt)
+      there : Issued r records buffer proof → AcceptedSomewhere r records buffer proof
       there (p, e) =
-          verified-from r records buffer proof p e λ cs M s e₁ e₂ l same.
+          verified-from r records buffer proof p e λ cs M s e₁ e₂ l _.
           let m = s .from in
           let σ = map (spelled-at-moment m) (s .facts) in
           let o : Open s m σ = record { since = omega arith; until = l; facts-hold = all-stand m (s .facts) } in
           let opens = kept-open m σ (walk r cs M) start tt s e₂ .0 o in
           let in-range : m ≤ latest = opens .0 .until in
-          let says =
-          state-says m in-range (s .facts) (few-kept cs M s e₁ e₂)
-          (kept-listable r records buffer proof cs M s in-bytes proof-in-bytes e₁ e₂ .0) in
-          (m, in-range, state-of σ, says .1, accepts r records buffer proof m (state-of σ) cs M σ e₁ in-range (says .0) .1 (opens .1))
+          let listable = kept-listable r records buffer proof cs M s in-bytes proof-in-bytes e₁ e₂ in
+          let says = state-says m in-range (s .facts) (few-kept cs M s e₁ e₂) (listable .0) in
+          record {
+            moment = m;
+            moment-in-range = in-range;
+            state = state-of σ;
+            state-is-bytes = says .1;
+            facts = σ;
+            state-reads = says .0;
+            accepted = accepts r records buffer proof m (state-of σ) cs M σ e₁ in-range (says .0) .1 (opens .1);
+          }
 
-      back : (m : ℕ) × (m ≤ latest) × (state : List ℕ) × AreBytes state × (directly r records buffer proof m state ≡ granted tt)
-          → (p : Procap) × (verified r records buffer proof ≡ granted p)
-      back (m, l, state, _, e) =
-          accepted-from r records buffer proof m state e λ cs M σ e₁ _ _ passes.
+      back : AcceptedSomewhere r records buffer proof → Issued r records buffer proof
+      back x =
+          accepted-from r records buffer proof (x .moment) (x .state) (x .accepted) λ cs M σ e₁ l _ passes.
           case-read r records buffer proof cs M e₁ λ _ reads.
+          let m = x .moment in
           let room : 0 + asks (walk r cs M) ≤ most-facts = omega (arith, walk-asks r cs M, few-steps (length records) proof M reads) in
           let kept = passes-kept m σ (walk r cs M) start tt room (open-at-first m σ l) passes in
           let o = kept-open m σ (walk r cs M) start tt (kept .0) (kept .1) .1 (open-at-first m σ l, passes) in

@@ -5,15 +5,16 @@ use mathlib.Core.List.{List, [], _∷_, _++_}
 use mathlib.Core.Logic.{ite, inl, inr}
 use native.Mathlib.Decide.{decLt}
 use lib.ListN.{length}
-use Rattle.procap.specs.Lists.{All, In, Distinct, in?}
+use Rattle.procap.specs.Lists.{All, In, Distinct}
 use Rattle.procap.specs.Times.{latest, decided}
-use Rattle.procap.specs.Facts.{Spelled, spelled?, fact-of, argument-of, most-terms, no-argument, no-fact}
+use Rattle.procap.specs.Facts.{Spelled, fact-of, argument-of, most-terms, no-argument, no-fact}
 use Rattle.procap.specs.Procaps.{most-facts, procap-of}
 use Rattle.procap.specs.Writable.{TermInForm, ArgumentInForm, FactInForm, RequestInForm, Writable}
 use Rattle.procap.specs.declared.time.Decision.{Decision}
 use Rattle.procap.specs.declared.time.Decision.the-variants.{Holds, Fails, RaisesFrom, LowersTo}
 use Rattle.procap.specs.declared.answer.Answer.the-variants.{FactsFull}
 use Rattle.procap.specs.declared.procap.Request.{Request}
+use Rattle.procap.specs.Deciding.{in?, spelled?}
 use Rattle.procap.proofs.Each.{each-of-both, each-mapped}
 use Rattle.procap.proofs.Listed.{take-padded, padded-zeros, listed-back}
 use Rattle.bl.specs.declared.Certificate.{Certificate}
@@ -24,7 +25,7 @@ use Rattle.bl.specs.Questions.{Walk}
 use Rattle.bl.specs.Walk.{walk}
 use Rattle.bl.specs.Readings.{Kept, start, one-more, narrow, list-fact, learn, office, answered, run}
 use Rattle.bl.specs.Calls.{read-case}
-use Rattle.bl.specs.Derivable.{AreBytes}
+use Rattle.bl.specs.Accepting.{AreBytes}
 use Rattle.bl.proofs.BytesInForm.{SpelledInForm}
 use Rattle.bl.proofs.ReadInForm.{IfGranted, is-granted, is-refused, go-on-yields}
 use Rattle.bl.proofs.Every.{Every, comes-to, misfits, asks-order, asks-fact}

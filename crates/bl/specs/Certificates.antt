@@ -15,10 +15,11 @@ use Rattle.bl.specs.Trees.{Formula}
 use Rattle.bl.specs.Formulas.{formula-in}
 use Rattle.bl.specs.Outcome.{Outcome, granted, refused, go-on}
 
--- [Two questions, certificates] The limits.
+-- [Two questions, certificates] How many records are taken.
 abbrev pub most-certificates : ℕ
 most-certificates = 32
 
+-- [Two questions, certificates] How many bytes a part may have.
 abbrev pub most-part-bytes : ℕ
 most-part-bytes = 256
 
@@ -44,10 +45,12 @@ part-of buffer c =
     (some (take (c .length) (drop (c .start) buffer)))
     none
 
+-- The formula in a part, if both are there.
 unfoldable pub formula-of : Option (List ℕ) → Option Formula
 formula-of none = none
 formula-of (some part) = formula-in part
 
+-- The record with its formula, if that is there.
 unfoldable pub statement-by : Certificate → Option Formula → Option Statement
 statement-by c none = none
 statement-by c (some A) = some (record { by = c .principal; says = A; from = c .from; to = c .to })

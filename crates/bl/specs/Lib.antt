@@ -11,4 +11,4 @@ pub mod Kinds
 pub mod Walk
 pub mod Readings
 pub mod Calls
-pub mod Derivable
+pub mod Accepting

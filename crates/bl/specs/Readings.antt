@@ -4,14 +4,14 @@ use mathlib.Core.List.{List, [], _∷_, _++_}
 use mathlib.Core.Logic.{ite}
 use native.Mathlib.Decide.{decLt}
 use lib.ListN.{length}
-use Rattle.procap.specs.Lists.{in?}
-use Rattle.procap.specs.Times.{earliest, latest, AtMost, at-most?, decided}
-use Rattle.procap.specs.Facts.{Spelled, spelled?, spelled-at-moment}
+use Rattle.procap.specs.Times.{earliest, latest, AtMost, decided}
+use Rattle.procap.specs.Facts.{Spelled, spelled-at-moment}
 use Rattle.procap.specs.Procaps.{most-facts, HoldsAt}
 use Rattle.procap.specs.declared.time.Decision.{Decision}
 use Rattle.procap.specs.declared.time.Decision.the-variants.{Holds, Fails, RaisesFrom, LowersTo}
 use Rattle.procap.specs.declared.answer.Answer.{Answer}
 use Rattle.procap.specs.declared.answer.Answer.the-variants.{StepUnfit, OrderFalse, FactsFull, FactMissing}
+use Rattle.procap.specs.Deciding.{in?, at-most?, spelled?}
 use Rattle.bl.specs.Outcome.{Outcome, granted, refused, go-on}
 use Rattle.bl.specs.Questions.{Question, at-most, holds, Walk, done, misfit, ask}
 
@@ -22,6 +22,7 @@ unfoldable pub True : ℕ → List Spelled → Question → Type 0
 True m σ (at-most t u) = AtMost m t u
 True m σ (holds f) = HoldsAt m σ f
 
+-- What decides it.
 unfoldable pub true? : (m : ℕ) (σ : List Spelled) (x : Question) → Dec (True m σ x)
 unfolding True
 true? m σ (at-most t u) = at-most? m t u
@@ -44,19 +45,22 @@ pub record Kept : Type 0 where
 abbrev pub start : Kept
 start = record { from = earliest; to = latest; facts = [] }
 
--- [Rules, verify] A moment that the press must not precede, and one that it must not pass.
+-- [Rules, verify] A moment that the press must not precede.
 abbrev pub raise : ℕ → Kept → Kept
 raise k s = record { from = max (s .from) k; to = s .to; facts = s .facts }
 
+-- [Rules, verify] A moment that the press must not pass.
 abbrev pub lower : ℕ → Kept → Kept
 lower k s = record { from = s .from; to = min (s .to) k; facts = s .facts }
 
+-- [Rules, verify; Numbers 4] What a decision about an order leaves of it.
 unfoldable pub narrow : ℕ → Kept → Decision → Outcome Kept
 narrow q s Holds = granted s
 narrow q s Fails = refused (OrderFalse q)
 narrow q s (RaisesFrom k) = granted (raise k s)
 narrow q s (LowersTo k) = granted (lower k s)
 
+-- The list with a fact more, at its end.
 abbrev pub one-more : Spelled → Kept → Kept
 one-more f s = record { from = s .from; to = s .to; facts = s .facts ++ (f ∷ []) }
 
@@ -68,6 +72,7 @@ list-fact f q s =
     (granted s)
     (ite (decLt (length (s .facts)) most-facts) (granted (one-more f s)) (refused (FactsFull q)))
 
+-- [Rules, verify] What verify makes of a question, asked at the offset q.
 unfoldable pub learn : Question → ℕ → Kept → Outcome Kept
 learn (at-most t u) q s = narrow q s (decided t u)
 learn (holds f) q s = list-fact f q s

@@ -8,3 +8,4 @@ pub mod Writable
 pub mod Answers
 pub mod Bytes
 pub mod States
+pub mod Deciding

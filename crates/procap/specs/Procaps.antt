@@ -7,6 +7,7 @@ use Rattle.procap.specs.Facts.{Spelled, spelled, fact-of, no-fact, spell
 use Rattle.procap.specs.declared.procap.Request.{Request}
 use Rattle.procap.specs.declared.procap.Procap.{Procap}
 
+-- [Text, Numbers 6] How many facts a procap may list.
 abbrev pub most-facts : ℕ
 most-facts = 16
 

@@ -3,7 +3,8 @@ use crate::time::Time;
 ghost use mathlib.Core.Path.{_≡_};
 ghost use Prim.Native.Nat.{min};
 ghost use Rattle.procap.specs.Tells.{Tells};
-ghost use Rattle.procap.specs.Facts.{«no-fact», «term-at-moment», «fact-at-moment», spelled, «kind-of», «value-of»};
+ghost use Rattle.procap.specs.Facts.{«no-fact», «term-at-moment», «fact-at-moment», spelled};
+ghost use Rattle.procap.specs.Deciding.{«kind-of», «value-of»};
 
 // How many terms a fact has at the most.
 pub const MOST_TERMS: usize = 4;

@@ -1,7 +1,7 @@
 // Times, their order at a moment, and what verify makes of an order that it cannot ask the clock about.
 ghost use mathlib.Core.Path.{_≡_};
 ghost use Rattle.procap.specs.Tells.{Tells};
-ghost use Rattle.procap.specs.Times.{AtMost, SecondAtMost, IsPlusInfinity, InRange, decided, «at-moment»};
+ghost use Rattle.procap.specs.Times.{earliest, latest, AtMost, SecondAtMost, IsPlusInfinity, InRange, decided, «at-moment»};
 
 // The last second that the clock shows.
 pub const LATEST_SECOND: u64 = 1_099_511_627_775;
@@ -22,6 +22,34 @@ impl Time {
     pub const MINUS_INFINITY: Time = Time::MinusInfinity;
 
     pub const PLUS_INFINITY: Time = Time::PlusInfinity;
+
+    // The first second of the clock.
+    pub fn earliest() -> Time
+        ensures { λ r. ⌜ r ≡ Time.Moment earliest ⌝ }
+    {
+        Time::EARLIEST
+    }
+
+    // The last second of the clock.
+    pub fn latest() -> Time
+        ensures { λ r. ⌜ r ≡ Time.Moment latest ⌝ }
+    {
+        Time::LATEST
+    }
+
+    // The time before every moment.
+    pub fn minus_infinity() -> Time
+        ensures { λ r. ⌜ r ≡ Time.MinusInfinity ⌝ }
+    {
+        Time::MINUS_INFINITY
+    }
+
+    // The time after every moment.
+    pub fn plus_infinity() -> Time
+        ensures { λ r. ⌜ r ≡ Time.PlusInfinity ⌝ }
+    {
+        Time::PLUS_INFINITY
+    }
 
     // The time that is this second of the clock.
     pub fn moment(second: u64) -> Time

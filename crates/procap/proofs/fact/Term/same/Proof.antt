@@ -1,7 +1,7 @@
 -- Two terms are the same when their kinds and their numbers are: a term is told by the two.
 use borrow.Author.Needs.{needs}
 use mathlib.Core.Path.{ap, sym, _∙_}
-use Rattle.procap.specs.Facts.{kind-of, value-of, same-term}
+use Rattle.procap.specs.Deciding.{kind-of, value-of, same-term}
 use Rattle.procap.proofs.fact.Term.same.Statement.{statement}
 use Rattle.procap.proofs.fact.Term.same.Tie as tie
 

@@ -1,4 +1,4 @@
--- What the theorems speak of: inputs that are bytes, and inputs from which the rules derive the goal.
+-- What the theorems speak of: a derivation from all that is lent, a procap that is issued, and a press that is accepted.
 use Prim.Native.Nat.{ℕ, _≤_, _<_}
 use mathlib.Core.Path.{_≡_}
 use mathlib.Core.List.{List}
@@ -9,10 +9,12 @@ use Rattle.procap.specs.Times.{latest}
 use Rattle.procap.specs.Facts.{Spelled}
 use Rattle.procap.specs.States.{stated}
 use Rattle.procap.specs.declared.procap.Request.{Request}
+use Rattle.procap.specs.declared.procap.Procap.{Procap}
 use Rattle.bl.specs.declared.Certificate.{Certificate}
 use Rattle.bl.specs.Trees.{Check}
 use Rattle.bl.specs.Steps.{proof-in}
 use Rattle.bl.specs.Outcome.{granted}
+use Rattle.bl.specs.Calls.{verified, directly}
 use Rattle.bl.specs.Certificates.{Statement, statements}
 use Rattle.bl.specs.Rules.{Derives}
 
@@ -30,3 +32,17 @@ pub record Derivable (r : Request) (records : List Certificate) (buffer proof : 
   pub moment-in-range : m ≤ latest
   pub state-reads : stated state ≡ some facts
   pub derived : Derives m facts certificates r steps
+
+-- Demand 3: a procap is issued.
+abbrev pub Issued : Request → List Certificate → List ℕ → List ℕ → Type 0
+Issued r records buffer proof = (p : Procap) × (verified r records buffer proof ≡ granted p)
+
+-- Demand 3: at some moment in the clock's range and in some well-formed state that same proof, checked directly there, is accepted.
+pub record AcceptedSomewhere (r : Request) (records : List Certificate) (buffer proof : List ℕ) : Type 0 where
+  pub moment : ℕ
+  pub moment-in-range : moment ≤ latest
+  pub state : List ℕ
+  pub state-is-bytes : AreBytes state
+  pub facts : List Spelled
+  pub state-reads : stated state ≡ some facts
+  pub accepted : directly r records buffer proof moment state ≡ granted tt
