@@ -13,7 +13,8 @@ use Rattle.procap.specs.declared.time.Time.the-variants.{Moment}
 use Rattle.procap.specs.declared.fact.Term.the-variants.{Name}
 use Rattle.procap.specs.declared.procap.Request.{Request}
 use Rattle.procap.specs.declared.procap.Procap.{Procap}
-use Rattle.procap.specs.Deciding.{in?, lists?, second-at-most?, is-plus-infinity?, at-most?, terms?, spelled?}
+use Rattle.procap.specs.Deciding.{goes-with?, holds-at?, in?, lists?, second-at-most?, is-plus-infinity?, at-most?, terms?, spelled?}
+use mathlib.Core.Logic.{Dec·and, Dec·not}
 use native.Mathlib.Decide.{ℕ-discrete, decLe, decLt}
 use Rattle.bl.specs.declared.Certificate.{Certificate}
 use Rattle.bl.specs.Trees.{put-place, put, offset, states-inferring, states}
@@ -92,7 +93,7 @@ ComesOut x =
 
 -- To unfold this is to unfold all that its line names.
 unfoldable pub computes : Unit {0}
-unfolding All nth pad in? lists? second-at-most? is-plus-infinity? at-most? fact-of spelled-at-moment terms? spelled? procap-of then ensure big-endian next number term-by term many predicate-and to-the-end whole settled settled-term fact more facts stated ℕ-discrete decLe decLt put-place put offset states-inferring states variable-of of-the-sort fixed-by place-by argument place for-all formula-by formula formula-in only-time time infer-by check-by infer-step check-step few-states proof-in go-on answer-of procap-handed fixed-time part-of formula-of statement-by statement-of and-then statements-from statements shut-out _>>=_ need need-equal as-name as-time as-variable as-term terms-too as-terms as-top as-and as-implies as-all as-says as-at as-atom as-fact as-order same-place same-places same-sort same need-view need-sort assumed infer check walk true? fault narrow list-fact learn answered run or-else read-case issue verified read-press directly
+unfolding All nth pad Dec·and Dec·not goes-with? holds-at? in? lists? second-at-most? is-plus-infinity? at-most? fact-of spelled-at-moment terms? spelled? procap-of then ensure big-endian next number term-by term many predicate-and to-the-end whole settled settled-term fact more facts stated ℕ-discrete decLe decLt put-place put offset states-inferring states variable-of of-the-sort fixed-by place-by argument place for-all formula-by formula formula-in only-time time infer-by check-by infer-step check-step few-states proof-in go-on answer-of procap-handed fixed-time part-of formula-of statement-by statement-of and-then statements-from statements shut-out _>>=_ need need-equal as-name as-time as-variable as-term terms-too as-terms as-top as-and as-implies as-all as-says as-at as-atom as-fact as-order same-place same-places same-sort same need-view need-sort assumed infer check walk true? fault narrow list-fact learn answered run or-else read-case issue verified read-press directly
 computes = tt
 
 pub presses-come-out : All ComesOut presses

@@ -25,6 +25,7 @@ use Rattle.bl.specs.Readings.{Kept, start, office, run}
 use Rattle.bl.specs.Calls.{read-case, verified, directly}
 use Rattle.bl.specs.Accepting.{AreBytes, Derivable, Issued, AcceptedSomewhere}
 use Rattle.bl.proofs.FactsCounted.{asks, walk-asks}
+use Rattle.bl.proofs.Passes.{Passes}
 use Rattle.bl.proofs.Learning.{Open, list-grows, kept-open, passes-kept}
 use Rattle.bl.proofs.Derivations.{walk-derives}
 use Rattle.bl.proofs.Called.{few-steps, case-read, reads-case, verified-from, verifies, accepted-from, accepts}
@@ -104,6 +105,14 @@ module _ (r : Request) (records : List Certificate) (buffer proof : List ℕ) wh
       case-read r records buffer proof cs M e λ _ reads.
       omega (arith, list-grows (walk r cs M) start tt s f, walk-asks r cs M, few-steps (length records) proof M reads)
 
+  -- At every moment that is left the walk passes, in the state that says just the facts kept; and such a moment is in range.
+  passes-where-left : (cs : List Statement) (M : Check) (s : Kept) → run office (walk r cs M) start ≡ granted (tt, s)
+      → (m : ℕ) → s .from ≤ m → m ≤ s .to → (m ≤ latest) × Passes m (map (spelled-at-moment m) (s .facts)) (walk r cs M) tt
+  passes-where-left cs M s e m since until =
+      let σ = map (spelled-at-moment m) (s .facts) in
+      let opens = kept-open m σ (walk r cs M) start tt s e .0 (record { since = since; until = until; facts-hold = all-stand m (s .facts) }) in
+      (opens .0 .until, opens .1)
+
   -- (c) Verify issues exactly when there are a moment in range and a well-formed state, as bytes, at which the direct check accepts.
   pub issued-exactly-where-some-press-is-accepted : AreBytes buffer → AreBytes proof
       → Issued r records buffer proof ↔ AcceptedSomewhere r records buffer proof
@@ -114,9 +123,7 @@ module _ (r : Request) (records : List Certificate) (buffer proof : List ℕ) wh
           verified-from r records buffer proof p e λ cs M s e₁ e₂ l _.
           let m = s .from in
           let σ = map (spelled-at-moment m) (s .facts) in
-          let o : Open s m σ = record { since = omega arith; until = l; facts-hold = all-stand m (s .facts) } in
-          let opens = kept-open m σ (walk r cs M) start tt s e₂ .0 o in
-          let in-range : m ≤ latest = opens .0 .until in
+          let (in-range, passes) = passes-where-left cs M s e₂ m (omega arith) l in
           let listable = kept-listable r records buffer proof cs M s in-bytes proof-in-bytes e₁ e₂ in
           let says = state-says m in-range (s .facts) (few-kept cs M s e₁ e₂) (listable .0) in
           record {
@@ -126,7 +133,7 @@ module _ (r : Request) (records : List Certificate) (buffer proof : List ℕ) wh
             state-is-bytes = says .1;
             facts = σ;
             state-reads = says .0;
-            accepted = accepts r records buffer proof m (state-of σ) cs M σ e₁ in-range (says .0) .1 (opens .1);
+            accepted = accepts r records buffer proof m (state-of σ) cs M σ e₁ in-range (says .0) .1 passes;
           }
 
       back : AcceptedSomewhere r records buffer proof → Issued r records buffer proof
@@ -154,9 +161,6 @@ module _ (r : Request) (records : List Certificate) (buffer proof : List ℕ) wh
       → (p : Procap) → verified r records buffer proof ≡ granted p → Writable p
   issued-can-be-written names in-bytes proof-in-bytes p e =
       verified-from r records buffer proof p e λ cs M s e₁ e₂ l same.
-      let m = s .to in
-      let σ = map (spelled-at-moment m) (s .facts) in
-      let o : Open s m σ = record { since = l; until = omega arith; facts-hold = all-stand m (s .facts) } in
-      let in-range : m ≤ latest = kept-open m σ (walk r cs M) start tt s e₂ .0 o .0 .until in
+      let (in-range, _) = passes-where-left cs M s e₂ (s .to) l (omega arith) in
       let listable = kept-listable r records buffer proof cs M s in-bytes proof-in-bytes e₁ e₂ in
       rw same (made-writable r s names l in-range (few-kept cs M s e₁ e₂) listable)

@@ -5,13 +5,13 @@ use mathlib.Core.Logic.{ite}
 use native.Mathlib.Decide.{decLt}
 use lib.ListN.{length}
 use Rattle.procap.specs.Times.{earliest, latest, AtMost, decided}
-use Rattle.procap.specs.Facts.{Spelled, spelled-at-moment}
+use Rattle.procap.specs.Facts.{Spelled}
 use Rattle.procap.specs.Procaps.{most-facts, HoldsAt}
 use Rattle.procap.specs.declared.time.Decision.{Decision}
 use Rattle.procap.specs.declared.time.Decision.the-variants.{Holds, Fails, RaisesFrom, LowersTo}
 use Rattle.procap.specs.declared.answer.Answer.{Answer}
 use Rattle.procap.specs.declared.answer.Answer.the-variants.{StepUnfit, OrderFalse, FactsFull, FactMissing}
-use Rattle.procap.specs.Deciding.{in?, at-most?, spelled?}
+use Rattle.procap.specs.Deciding.{in?, at-most?, spelled?, holds-at?}
 use Rattle.bl.specs.Outcome.{Outcome, granted, refused, go-on}
 use Rattle.bl.specs.Questions.{Question, at-most, holds, Walk, done, misfit, ask}
 
@@ -26,7 +26,7 @@ True m σ (holds f) = HoldsAt m σ f
 unfoldable pub true? : (m : ℕ) (σ : List Spelled) (x : Question) → Dec (True m σ x)
 unfolding True
 true? m σ (at-most t u) = at-most? m t u
-true? m σ (holds f) = in? spelled? (spelled-at-moment m f) σ
+true? m σ (holds f) = holds-at? m σ f
 
 -- [Numbers 4 and 10] What a press answers to a question that is false.
 unfoldable pub fault : Question → ℕ → Answer

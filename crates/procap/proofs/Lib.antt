@@ -5,3 +5,4 @@ pub mod Spelling
 pub mod Each
 pub mod Listed
 pub mod Decided
+pub mod Samples

@@ -1,16 +1,16 @@
 -- What decides the questions of these pages, so that the definitions compute. There is nothing to believe here: the types say all.
-use Prim.Native.Nat.{ℕ, zero, suc, _≤_}
+use Prim.Native.Nat.{ℕ, zero, suc}
 use mathlib.Core.Path.{_≡_, refl, sym, ap, ap₂, _∙_}
 use mathlib.Core.List.{List, [], _∷_}
-use mathlib.Core.Logic.{_⊎_, inl, inr}
+use mathlib.Core.Logic.{_⊎_, inl, inr, Dec·and, Dec·not}
 use native.Mathlib.Decide.{ℕ-discrete, decLe}
 use native.Mathlib.Omega.{arith}
 use lib.ListN.{take}
-use Rattle.procap.specs.Lists.{All, In, Distinct, ZerosPast, pad}
+use Rattle.procap.specs.Lists.{All, In, Distinct, pad}
 use Rattle.procap.specs.Times.{latest, InRange, SecondAtMost, IsPlusInfinity, AtMost}
 use Rattle.procap.specs.Facts.{Spelled, spelled-at-moment, most-terms, no-argument, no-fact}
 use Rattle.procap.specs.Procaps.{most-facts, version-one, listed, HoldsAt, Satisfied}
-use Rattle.procap.specs.Writable.{largest-name, TermInForm, ArgumentInForm, FactInForm, RequestInForm, Writable}
+use Rattle.procap.specs.Writable.{largest-name, TermInForm, FactInForm, RequestInForm, Writable}
 use Rattle.procap.specs.declared.time.Time.{Time}
 use Rattle.procap.specs.declared.time.Time.the-variants.{Moment, MinusInfinity, PlusInfinity, Ctime}
 use Rattle.procap.specs.declared.fact.Term.{Term}
@@ -20,17 +20,17 @@ use Rattle.procap.specs.declared.fact.Fact.{Fact}
 use Rattle.procap.specs.declared.procap.Request.{Request}
 use Rattle.procap.specs.declared.procap.Procap.{Procap}
 
+-- What is decided is decided of whatever goes with it. (The library's own law for this does not compute outside it.)
+unfoldable pub goes-with? : {P Q : Type 0} → (P → Q) → (Q → P) → Dec P → Dec Q
+goes-with? there back (yes h) = yes (there h)
+goes-with? there back (no n) = no (λ h. n (back h))
+
 -- ── Lists ──
 
 unfoldable pub all? : {A : Type 0} {P : A → Type 0} → ((x : A) → Dec (P x)) → (xs : List A) → Dec (All P xs)
 unfolding All
 all? d [] = yes tt
-all? {P} d (x ∷ xs) = both (d x) (all? d xs)
-  where
-    both : Dec (P x) → Dec (All P xs) → Dec (P x × All P xs)
-    both (yes h) (yes k) = yes (h, k)
-    both (yes h) (no k) = no (λ r. k (r .1))
-    both (no h) k = no (λ r. h (r .0))
+all? d (x ∷ xs) = Dec·and (d x) (all? d xs)
 
 unfoldable pub in? : {A : Type 0} → ((x y : A) → Dec (x ≡ y)) → (x : A) (ys : List A) → Dec (In x ys)
 unfolding In
@@ -45,23 +45,19 @@ in? d x (y ∷ ys) = either (d x y) (in? d x ys)
 unfoldable pub distinct? : {A : Type 0} → ((x y : A) → Dec (x ≡ y)) → (xs : List A) → Dec (Distinct xs)
 unfolding Distinct
 distinct? d [] = yes tt
-distinct? d (x ∷ xs) = both (in? d x xs) (distinct? d xs)
-  where
-    both : Dec (In x xs) → Dec (Distinct xs) → Dec ((In x xs → ⊥) × Distinct xs)
-    both (yes i) k = no (λ r. r .0 i)
-    both (no n) (yes k) = yes (n, k)
-    both (no n) (no k) = no (λ r. k (r .1))
+distinct? d (x ∷ xs) = Dec·and (Dec·not (in? d x xs)) (distinct? d xs)
 
 unfoldable pub lists? : {A : Type 0} → ((x y : A) → Dec (x ≡ y)) → (xs ys : List A) → Dec (xs ≡ ys)
 lists? d [] [] = yes refl
 lists? d [] (y ∷ ys) = no (λ e. let z : _≡_ {A = ℕ} 0 1 = cc in absurd (omega arith))
 lists? d (x ∷ xs) [] = no (λ e. let z : _≡_ {A = ℕ} 0 1 = cc in absurd (omega arith))
-lists? {A} d (x ∷ xs) (y ∷ ys) = both (d x y) (lists? d xs ys)
+lists? {A} d (x ∷ xs) (y ∷ ys) = goes-with? joined parted (Dec·and (d x y) (lists? d xs ys))
   where
-    both : Dec (x ≡ y) → Dec (xs ≡ ys) → Dec (_≡_ {A = List A} (x ∷ xs) (y ∷ ys))
-    both (yes e) (yes k) = yes (cc)
-    both (yes e) (no k) = no (λ r. k (cc))
-    both (no n) k = no (λ r. n (cc))
+    joined : (x ≡ y) × (xs ≡ ys) → _≡_ {A = List A} (x ∷ xs) (y ∷ ys)
+    joined h = ap₂ _∷_ (h .0) (h .1)
+
+    parted : _≡_ {A = List A} (x ∷ xs) (y ∷ ys) → (x ≡ y) × (xs ≡ ys)
+    parted e = (cc, cc)
 
 -- ── Times ──
 
@@ -125,38 +121,31 @@ pub same-term : (t u : Term) → kind-of t ≡ kind-of u → value-of t ≡ valu
 same-term t u e f = sym (of-kind-is t) ∙ ap₂ of-kind e f ∙ of-kind-is u
 
 unfoldable pub terms? : (t u : Term) → Dec (t ≡ u)
-terms? t u = both (ℕ-discrete (kind-of t) (kind-of u)) (ℕ-discrete (value-of t) (value-of u))
-  where
-    both : Dec (kind-of t ≡ kind-of u) → Dec (value-of t ≡ value-of u) → Dec (t ≡ u)
-    both (yes e) (yes f) = yes (same-term t u e f)
-    both (yes e) (no n) = no (λ r. n (ap value-of r))
-    both (no n) d = no (λ r. n (ap kind-of r))
+terms? t u =
+    goes-with?
+    (λ h. same-term t u (h .0) (h .1))
+    (λ e. (ap kind-of e, ap value-of e))
+    (Dec·and (ℕ-discrete (kind-of t) (kind-of u)) (ℕ-discrete (value-of t) (value-of u)))
 
 unfoldable pub spelled? : (f g : Spelled) → Dec (f ≡ g)
-spelled? f g = both (ℕ-discrete (f .0) (g .0)) (lists? terms? (f .1) (g .1))
-  where
-    both : Dec (f .0 ≡ g .0) → Dec (f .1 ≡ g .1) → Dec (f ≡ g)
-    both (yes e) (yes d) = yes (λ i. (e i, d i))
-    both (yes e) (no k) = no (λ r. k (ap (λ s. s .1) r))
-    both (no n) d = no (λ r. n (ap (λ s. s .0) r))
+spelled? f g =
+    goes-with?
+    (λ h i. (h .0 i, h .1 i))
+    (λ e. (ap (λ s. s .0) e, ap (λ s. s .1) e))
+    (Dec·and (ℕ-discrete (f .0) (g .0)) (lists? terms? (f .1) (g .1)))
 
 -- ── Procap values ──
 
 unfoldable pub arguments? : (a b : Argument) → Dec (a ≡ b)
-arguments? a b = by (terms? (a .term) (b .term))
-  where
-    by : Dec (a .term ≡ b .term) → Dec (a ≡ b)
-    by (yes e) = yes (λ i. record { term = e i })
-    by (no n) = no (λ r. n (ap (λ x. x .term) r))
+arguments? a b = goes-with? (λ e i. record { term = e i }) (ap (λ x. x .term)) (terms? (a .term) (b .term))
 
 unfoldable pub facts? : (f g : Fact) → Dec (f ≡ g)
-facts? f g = by (ℕ-discrete (f .predicate) (g .predicate)) (ℕ-discrete (f .count) (g .count)) (lists? arguments? (f .arguments) (g .arguments))
-  where
-    by : Dec (f .predicate ≡ g .predicate) → Dec (f .count ≡ g .count) → Dec (f .arguments ≡ g .arguments) → Dec (f ≡ g)
-    by (yes p) (yes c) (yes a) = yes (λ i. record { predicate = p i; count = c i; arguments = a i })
-    by (yes p) (yes c) (no n) = no (λ r. n (ap (λ x. x .arguments) r))
-    by (yes p) (no n) a = no (λ r. n (ap (λ x. x .count) r))
-    by (no n) c a = no (λ r. n (ap (λ x. x .predicate) r))
+facts? f g =
+    goes-with?
+    (λ h i. record { predicate = h .0 i; count = h .1 .0 i; arguments = h .1 .1 i })
+    (λ e. (ap (λ x. x .predicate) e, (ap (λ x. x .count) e, ap (λ x. x .arguments) e)))
+    (Dec·and (ℕ-discrete (f .predicate) (g .predicate))
+    (Dec·and (ℕ-discrete (f .count) (g .count)) (lists? arguments? (f .arguments) (g .arguments))))
 
 unfoldable pub term-in-form? : (t : Term) → Dec (TermInForm t)
 unfolding TermInForm
@@ -165,63 +154,52 @@ term-in-form? (When t) = in-range? t
 
 unfoldable pub fact-in-form? : (f : Fact) → Dec (FactInForm f)
 fact-in-form? f =
-    by
-    (decLe (f .predicate) largest-name)
-    (decLe (f .count) most-terms)
-    (all? (λ a. term-in-form? (a .term)) (take (f .count) (f .arguments)))
-    (lists? arguments? (f .arguments) (pad most-terms no-argument (take (f .count) (f .arguments))))
-  where
-    by : Dec (f .predicate ≤ largest-name) → Dec (f .count ≤ most-terms) → Dec (All ArgumentInForm (take (f .count) (f .arguments)))
-        → Dec (ZerosPast most-terms no-argument (f .count) (f .arguments)) → Dec (FactInForm f)
-    by (yes p) (yes c) (yes t) (yes z) = yes (record { predicate-in-range = p; few-terms = c; terms-in-form = t; zeros-past = z })
-    by (yes p) (yes c) (yes t) (no n) = no (λ r. n (r .zeros-past))
-    by (yes p) (yes c) (no n) z = no (λ r. n (r .terms-in-form))
-    by (yes p) (no n) t z = no (λ r. n (r .few-terms))
-    by (no n) c t z = no (λ r. n (r .predicate-in-range))
+    goes-with?
+    (λ h. record { predicate-in-range = h .0; few-terms = h .1 .0; terms-in-form = h .1 .1 .0; zeros-past = h .1 .1 .1 })
+    (λ r. (r .predicate-in-range, (r .few-terms, (r .terms-in-form, r .zeros-past))))
+    (Dec·and (decLe (f .predicate) largest-name)
+    (Dec·and (decLe (f .count) most-terms)
+    (Dec·and (all? (λ a. term-in-form? (a .term)) (take (f .count) (f .arguments)))
+    (lists? arguments? (f .arguments) (pad most-terms no-argument (take (f .count) (f .arguments)))))))
 
 unfoldable pub request-in-form? : (r : Request) → Dec (RequestInForm r)
-request-in-form? r = by (decLe (r .who) largest-name) (decLe (r .what) largest-name) (decLe (r .right) largest-name)
-  where
-    by : Dec (r .who ≤ largest-name) → Dec (r .what ≤ largest-name) → Dec (r .right ≤ largest-name) → Dec (RequestInForm r)
-    by (yes a) (yes b) (yes c) = yes (record { who-in-range = a; what-in-range = b; right-in-range = c })
-    by (yes a) (yes b) (no n) = no (λ h. n (h .right-in-range))
-    by (yes a) (no n) c = no (λ h. n (h .what-in-range))
-    by (no n) b c = no (λ h. n (h .who-in-range))
+request-in-form? r =
+    goes-with?
+    (λ h. record { who-in-range = h .0; what-in-range = h .1 .0; right-in-range = h .1 .1 })
+    (λ r. (r .who-in-range, (r .what-in-range, r .right-in-range)))
+    (Dec·and (decLe (r .who) largest-name) (Dec·and (decLe (r .what) largest-name) (decLe (r .right) largest-name)))
 
 unfoldable pub writable? : (p : Procap) → Dec (Writable p)
 writable? p =
-    by
-    (ℕ-discrete (p .version) version-one)
-    (request-in-form? (p .request))
-    (decLe (p .from) (p .to))
-    (decLe (p .to) latest)
-    (decLe (p .count) most-facts)
-    (all? fact-in-form? (take (p .count) (p .facts)))
-    (distinct? spelled? (listed p))
-    (lists? facts? (p .facts) (pad most-facts no-fact (take (p .count) (p .facts))))
-  where
-    by : Dec (p .version ≡ version-one) → Dec (RequestInForm (p .request)) → Dec (p .from ≤ p .to) → Dec (p .to ≤ latest) → Dec (p .count ≤ most-facts)
-        → Dec (All FactInForm (take (p .count) (p .facts))) → Dec (Distinct (listed p)) → Dec (ZerosPast most-facts no-fact (p .count) (p .facts))
-        → Dec (Writable p)
-    by (yes a) (yes b) (yes c) (yes d) (yes e) (yes f) (yes g) (yes h) =
-        yes (record { version-known = a; request-in-form = b; in-order = c; to-in-range = d; few-facts = e; facts-in-form = f; none-twice = g; zeros-past = h })
-    by (yes a) (yes b) (yes c) (yes d) (yes e) (yes f) (yes g) (no n) = no (λ r. n (r .zeros-past))
-    by (yes a) (yes b) (yes c) (yes d) (yes e) (yes f) (no n) h = no (λ r. n (r .none-twice))
-    by (yes a) (yes b) (yes c) (yes d) (yes e) (no n) g h = no (λ r. n (r .facts-in-form))
-    by (yes a) (yes b) (yes c) (yes d) (no n) f g h = no (λ r. n (r .few-facts))
-    by (yes a) (yes b) (yes c) (no n) e f g h = no (λ r. n (r .to-in-range))
-    by (yes a) (yes b) (no n) d e f g h = no (λ r. n (r .in-order))
-    by (yes a) (no n) c d e f g h = no (λ r. n (r .request-in-form))
-    by (no n) b c d e f g h = no (λ r. n (r .version-known))
+    goes-with?
+    (λ h.
+    let facts = h .1 .1 .1 .1 in
+    record {
+      version-known = h .0;
+      request-in-form = h .1 .0;
+      in-order = h .1 .1 .0;
+      to-in-range = h .1 .1 .1 .0;
+      few-facts = facts .0;
+      facts-in-form = facts .1 .0;
+      none-twice = facts .1 .1 .0;
+      zeros-past = facts .1 .1 .1;
+    })
+    (λ r. (r .version-known, (r .request-in-form, (r .in-order, (r .to-in-range, (r .few-facts, (r .facts-in-form, (r .none-twice, r .zeros-past))))))))
+    (Dec·and (ℕ-discrete (p .version) version-one)
+    (Dec·and (request-in-form? (p .request))
+    (Dec·and (decLe (p .from) (p .to))
+    (Dec·and (decLe (p .to) latest)
+    (Dec·and (decLe (p .count) most-facts)
+    (Dec·and (all? fact-in-form? (take (p .count) (p .facts)))
+    (Dec·and (distinct? spelled? (listed p))
+    (lists? facts? (p .facts) (pad most-facts no-fact (take (p .count) (p .facts)))))))))))
 
 unfoldable pub holds-at? : (m : ℕ) (σ : List Spelled) (f : Spelled) → Dec (HoldsAt m σ f)
 holds-at? m σ f = in? spelled? (spelled-at-moment m f) σ
 
 unfoldable pub satisfied? : (p : Procap) (m : ℕ) (σ : List Spelled) → Dec (Satisfied p m σ)
-satisfied? p m σ = by (decLe (p .from) m) (decLe m (p .to)) (all? (holds-at? m σ) (listed p))
-  where
-    by : Dec (p .from ≤ m) → Dec (m ≤ p .to) → Dec (All (HoldsAt m σ) (listed p)) → Dec (Satisfied p m σ)
-    by (yes a) (yes b) (yes c) = yes (record { since = a; until = b; facts-hold = c })
-    by (yes a) (yes b) (no n) = no (λ h. n (h .facts-hold))
-    by (yes a) (no n) c = no (λ h. n (h .until))
-    by (no n) b c = no (λ h. n (h .since))
+satisfied? p m σ =
+    goes-with?
+    (λ h. record { since = h .0; until = h .1 .0; facts-hold = h .1 .1 })
+    (λ r. (r .since, (r .until, r .facts-hold)))
+    (Dec·and (decLe (p .from) m) (Dec·and (decLe m (p .to)) (all? (holds-at? m σ) (listed p))))
