@@ -3,10 +3,9 @@ use Prim.Native.Nat.{ℕ, _≤_}
 use mathlib.Core.Bool.{Bool, true, false}
 use mathlib.Core.Path.{_≡_, refl, sym, ap, _∙_}
 use mathlib.Core.List.{List}
-use mathlib.Core.Option.{Option, some, none}
-use mathlib.Core.Logic.{ite, _↔_}
+use mathlib.Core.Option.{Option, some, none, Option·none-ne-some}
+use mathlib.Core.Logic.{_↔_}
 use native.Mathlib.Decide.{decLe}
-use native.Mathlib.Omega.{arith}
 use borrow.Author.Tests.{leb-true}
 use lib.ListN.{length}
 use lib.Dec.{leb}
@@ -16,18 +15,18 @@ use Rattle.procap.specs.Facts.{Spelled}
 use Rattle.procap.specs.Procaps.{procap-of}
 use Rattle.procap.specs.Bytes.{whole}
 use Rattle.procap.specs.States.{stated}
-use Rattle.procap.specs.declared.answer.Answer.the-variants.{NoMomentLeft, StateMalformed, MomentAboveLatest}
+use Rattle.procap.specs.declared.answer.Answer.the-variants.{NoMomentLeft}
 use Rattle.procap.specs.declared.procap.Request.{Request}
 use Rattle.procap.specs.declared.procap.Procap.{Procap}
 use Rattle.bl.specs.declared.Certificate.{Certificate}
 use Rattle.bl.specs.Trees.{Check, states}
 use Rattle.bl.specs.Steps.{most-proof-bytes, most-proof-levels, most-states, check-step, few-states, proof-in}
-use Rattle.bl.specs.Outcome.{Outcome, granted, refused, go-on}
+use Rattle.procap.specs.Outcome.{granted, go-on, or-else}
 use Rattle.bl.specs.Certificates.{Statement, statements}
 use Rattle.bl.specs.Walk.{walk}
 use Rattle.bl.specs.Readings.{Kept, start, office, press, run}
-use Rattle.bl.specs.Calls.{or-else, read-case, issue, verified, read-press, directly}
-use Rattle.bl.proofs.Granted.{same-grant, no-grant, went-on, was-there}
+use Rattle.bl.specs.Calls.{read-case, issue, verified, directly}
+use Rattle.procap.proofs.Granted.{same-grant, went-on, goes-on, was-there, was-so, is-so, press-read, reads-press}
 use Rattle.bl.proofs.Passes.{Passes, granted-passes, passes-granted}
 
 -- The steps 2C of a proof that reads are few.
@@ -35,20 +34,17 @@ pub few-steps : (n : ℕ) (proof : List ℕ) (M : Check) → proof-in n proof �
 unfolding proof-in few-states
 few-steps n proof M e = within (leb (length proof) most-proof-bytes) (whole proof (check-step proof n most-proof-levels 0)) e
   where
-    lost : {C : Type 0} → _≡_ {A = Option Check} none (some M) → C
-    lost e = let z : _≡_ {A = ℕ} 0 1 = cc in absurd (omega arith)
-
     few : (N : Check) (b : Bool) → leb (states N) most-states ≡ b → pick b (some N) none ≡ some M → states M ≤ most-states
     few N true d e = let same : N ≡ M = cc in rw (← same) (leb-true _ _ d)
-    few N false d e = lost e
+    few N false d e = absurd (Option·none-ne-some M e)
 
     kept : (o : Option Check) → few-states o ≡ some M → states M ≤ most-states
-    kept none e = lost e
+    kept none e = absurd (Option·none-ne-some M e)
     kept (some N) e = few N (leb (states N) most-states) refl e
 
     within : (b : Bool) (o : Option Check) → pick b (few-states o) none ≡ some M → states M ≤ most-states
     within true o e = kept o e
-    within false o e = lost e
+    within false o e = absurd (Option·none-ne-some M e)
 
 module _ (r : Request) (records : List Certificate) (buffer proof : List ℕ) where
   -- ── Certificates and proof ──
@@ -72,23 +68,13 @@ module _ (r : Request) (records : List Certificate) (buffer proof : List ℕ) wh
 
   issued : {C : Type 0} (s : Kept) (p : Procap) → issue r s ≡ granted p → (s .from ≤ s .to → p ≡ procap-of r (s .from) (s .to) (s .facts) → C) → C
   unfolding issue
-  issued {C} s p e k = by (decLe (s .from) (s .to)) e
-    where
-      made : Procap
-      made = procap-of r (s .from) (s .to) (s .facts)
-
-      by : (d : Dec (s .from ≤ s .to)) → ite d (granted made) (refused NoMomentLeft) ≡ granted p → C
-      by (yes l) e = let same : p ≡ made = cc in k l same
-      by (no n) e = no-grant e
+  issued s p e k =
+      went-on _ _ _ e λ u e₁ e₂.
+      k (was-so NoMomentLeft (decLe (s .from) (s .to)) u e₁) (sym (same-grant e₂))
 
   issues : (s : Kept) → s .from ≤ s .to → issue r s ≡ granted (procap-of r (s .from) (s .to) (s .facts))
   unfolding issue
-  issues s l = by (decLe (s .from) (s .to))
-    where
-      by : (d : Dec (s .from ≤ s .to))
-          → _≡_ {A = Outcome Procap} (ite d (granted (procap-of r (s .from) (s .to) (s .facts))) (refused NoMomentLeft)) (granted (procap-of r (s .from) (s .to) (s .facts)))
-      by (yes h) = refl
-      by (no n) = absurd (n l)
+  issues s l = goes-on _ _ tt (is-so NoMomentLeft (decLe (s .from) (s .to)) l)
 
   -- An issued procap was made of what the office kept.
   pub verified-from : {C : Type 0} (p : Procap) → verified r records buffer proof ≡ granted p
@@ -109,22 +95,6 @@ module _ (r : Request) (records : List Certificate) (buffer proof : List ℕ) wh
   verifies cs M s e f l = rw (e, f) (issues s l)
 
   -- ── The direct check ──
-
-  pub press-read : {C : Type 0} (m : ℕ) (state : List ℕ) (σ : List Spelled) → read-press m state ≡ granted σ → (m ≤ latest → stated state ≡ some σ → C) → C
-  unfolding read-press
-  press-read {C} m state σ e k = by (decLe m latest) e
-    where
-      by : (d : Dec (m ≤ latest)) → ite d (or-else StateMalformed (stated state)) (refused MomentAboveLatest) ≡ granted σ → C
-      by (yes l) e = k l (was-there _ _ _ e)
-      by (no n) e = no-grant e
-
-  reads-press : (m : ℕ) (state : List ℕ) (σ : List Spelled) → m ≤ latest → stated state ≡ some σ → read-press m state ≡ granted σ
-  unfolding read-press or-else
-  reads-press m state σ l e = rw e (by (decLe m latest))
-    where
-      by : (d : Dec (m ≤ latest)) → _≡_ {A = Outcome (List Spelled)} (ite d (granted σ) (refused MomentAboveLatest)) (granted σ)
-      by (yes h) = refl
-      by (no n) = absurd (n l)
 
   -- An accepted press was read, and its walk passes.
   pub accepted-from : {C : Type 0} (m : ℕ) (state : List ℕ) → directly r records buffer proof m state ≡ granted tt

@@ -1,8 +1,8 @@
--- What is proved of the logic. First the presses and samples, computed; then what the theorems rest on; last the theorems.
-pub mod Presses
+-- What is proved of the logic. First presses and samples, computed; then what the theorems rest on; last the theorems.
+pub mod CaseP
 pub mod MorePresses
 pub mod Samples
-pub mod Granted
+pub mod NotSix
 pub mod Passes
 pub mod Comparing
 pub mod Derivations

@@ -1,50 +1,42 @@
--- What verify issues can be written: each fact is in form and none is listed twice, since a fact goes on the list only when it is not there.
-use Prim.Native.Nat.{ℕ, _≤_}
-use mathlib.Core.Path.{_≡_, refl, sym, subst}
+-- What verify keeps can be written: each fact is in form and none is listed twice, since a fact goes on the list only when it is not there.
+use Prim.Native.Nat.{ℕ}
+use mathlib.Core.Path.{_≡_, sym}
 use mathlib.Core.List.{List, [], _∷_, _++_}
 use mathlib.Core.Logic.{ite, inl, inr}
 use native.Mathlib.Decide.{decLt}
 use lib.ListN.{length}
 use Rattle.procap.specs.Lists.{All, In, Distinct}
-use Rattle.procap.specs.Times.{latest, decided}
-use Rattle.procap.specs.Facts.{Spelled, fact-of, argument-of, most-terms, no-argument, no-fact}
-use Rattle.procap.specs.Procaps.{most-facts, procap-of}
-use Rattle.procap.specs.Writable.{TermInForm, ArgumentInForm, FactInForm, RequestInForm, Writable}
+use Rattle.procap.specs.Times.{decided}
+use Rattle.procap.specs.Facts.{Spelled}
+use Rattle.procap.specs.Procaps.{most-facts}
 use Rattle.procap.specs.declared.time.Decision.{Decision}
 use Rattle.procap.specs.declared.time.Decision.the-variants.{Holds, Fails, RaisesFrom, LowersTo}
 use Rattle.procap.specs.declared.answer.Answer.the-variants.{FactsFull}
 use Rattle.procap.specs.declared.procap.Request.{Request}
 use Rattle.procap.specs.Deciding.{in?, spelled?}
-use Rattle.procap.proofs.Each.{each-of-both, each-mapped}
-use Rattle.procap.proofs.Listed.{take-padded, padded-zeros, listed-back}
+use Rattle.procap.proofs.Each.{each-of-both}
+use Rattle.procap.proofs.InMore.{in-before}
 use Rattle.bl.specs.declared.Certificate.{Certificate}
 use Rattle.bl.specs.Trees.{Check}
-use Rattle.bl.specs.Outcome.{granted, refused}
+use Rattle.procap.specs.Outcome.{granted, refused}
 use Rattle.bl.specs.Certificates.{Statement}
 use Rattle.bl.specs.Questions.{Walk}
 use Rattle.bl.specs.Walk.{walk}
 use Rattle.bl.specs.Readings.{Kept, start, one-more, narrow, list-fact, learn, office, answered, run}
 use Rattle.bl.specs.Calls.{read-case}
 use Rattle.bl.specs.Accepting.{AreBytes}
-use Rattle.bl.proofs.BytesInForm.{SpelledInForm}
+use Rattle.procap.proofs.Rebuilt.{SpelledInForm}
 use Rattle.bl.proofs.ReadInForm.{IfGranted, is-granted, is-refused, go-on-yields}
 use Rattle.bl.proofs.Every.{Every, comes-to, misfits, asks-order, asks-fact}
 use Rattle.bl.proofs.FactsInForm.{granted-so, asks-in-form}
 
 -- ── No fact twice ──
 
-not-in-more : {A : Type 0} (x y : A) (xs : List A) → (In x xs → ⊥) → (x ≡ y → ⊥) → In x (xs ++ (y ∷ [])) → ⊥
-unfolding In
-not-in-more x y [] h k (inl e) = k e
-not-in-more x y [] h k (inr i) = i
-not-in-more x y (z ∷ zs) h k (inl e) = h (inl e)
-not-in-more x y (z ∷ zs) h k (inr i) = not-in-more x y zs (λ j. h (inr j)) k i
-
 one-more-distinct : {A : Type 0} (y : A) (xs : List A) → Distinct xs → (In y xs → ⊥) → Distinct (xs ++ (y ∷ []))
 unfolding Distinct In
 one-more-distinct y [] h n = (λ i. i, tt)
 one-more-distinct y (x ∷ xs) h n =
-    (not-in-more x y xs (h .0) (λ e. n (inl (sym e))), one-more-distinct y xs (h .1) (λ i. n (inr i)))
+    (λ i. h .0 (in-before x xs y (λ e. n (inl (sym e))) i), one-more-distinct y xs (h .1) (λ i. n (inr i)))
 
 -- ── What verify keeps ──
 
@@ -95,29 +87,3 @@ pub kept-listable : (r : Request) (records : List Certificate) (buffer proof : L
 unfolding All Distinct
 kept-listable r records buffer proof cs M s b p e e′ =
     granted-so (rw e′ at (run-keeps start (asks-in-form r records buffer proof cs M b p e) (tt, tt)))
-
--- ── The procap made of it ──
-
-fact-in-form : (f : Spelled) → SpelledInForm f → FactInForm (fact-of f)
-unfolding fact-of
-fact-in-form f h = record {
-  predicate-in-range = h .0;
-  few-terms = h .1;
-  terms-in-form = rw take-padded (each-mapped TermInForm ArgumentInForm argument-of (λ t k. k) (f .1) (h .2));
-  zeros-past = padded-zeros most-terms no-argument argument-of (f .1);
-}
-
--- A procap made of few distinct facts in form, for a request in form, in order and in range, can be written.
-pub made-writable : (r : Request) (s : Kept) → RequestInForm r → s .from ≤ s .to → s .to ≤ latest → length (s .facts) ≤ most-facts
-    → Listable (s .facts) → Writable (procap-of r (s .from) (s .to) (s .facts))
-unfolding procap-of
-made-writable r s names order range few listable = record {
-  version-known = refl;
-  request-in-form = names;
-  in-order = order;
-  to-in-range = range;
-  few-facts = few;
-  facts-in-form = rw take-padded (each-mapped SpelledInForm FactInForm fact-of fact-in-form (s .facts) (listable .0));
-  none-twice = subst Distinct (sym (listed-back r (s .from) (s .to) (s .facts))) (listable .1);
-  zeros-past = padded-zeros most-facts no-fact fact-of (s .facts);
-}

@@ -1,11 +1,12 @@
 -- Laws of a flag that tells a fact.
 use Prim.Native.Nat.{ℕ, _≤_}
-use mathlib.Core.Bool.{Bool, true, false, not}
+use mathlib.Core.Bool.{Bool, true, false, not, false≢true}
 use mathlib.Core.Path.{_≡_, refl}
 use lib.Dec.{leb}
 use borrow.Author.Tests.{leb-true, leb-false, not-true, not-false}
 use native.Mathlib.Omega.{arith}
 use Rattle.procap.specs.Tells.{Tells}
+use Rattle.procap.specs.Deciding.{told}
 
 -- What a flag tells holds if it is true, and does not if it is false; `holds-else` and `fails-where` say so of a negated flag that was tested.
 pub holds : (b : Bool) {P : Type 0} → b ≡ true → Tells b P → P
@@ -33,3 +34,19 @@ tells-if false h n = n refl
 -- A comparison tells the order.
 pub tells-at-most : (m n : ℕ) → Tells (leb m n) (m ≤ n)
 tells-at-most m n = tells-if (leb m n) (leb-true m n) (λ e h. let l = leb-false m n e in omega arith)
+
+-- The flag of a decision is true where what was decided holds, and only there; else it is false.
+pub told-so : {P : Type 0} (d : Dec P) → told d ≡ true → P
+unfolding told
+told-so (yes h) e = h
+told-so (no n) e = absurd (false≢true e)
+
+pub so-told : {P : Type 0} (d : Dec P) → P → told d ≡ true
+unfolding told
+so-told (yes h) p = refl
+so-told (no n) p = absurd (n p)
+
+pub not-told : {P : Type 0} (d : Dec P) → (P → ⊥) → told d ≡ false
+unfolding told
+not-told (yes h) n = absurd (n h)
+not-told (no m) n = refl

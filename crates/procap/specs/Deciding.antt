@@ -1,5 +1,6 @@
 -- What decides the questions of these pages, so that the definitions compute. There is nothing to believe here: the types say all.
 use Prim.Native.Nat.{ℕ, zero, suc}
+use mathlib.Core.Bool.{Bool, true, false}
 use mathlib.Core.Path.{_≡_, refl, sym, ap, ap₂, _∙_}
 use mathlib.Core.List.{List, [], _∷_}
 use mathlib.Core.Logic.{_⊎_, inl, inr, Dec·and, Dec·not}
@@ -19,6 +20,11 @@ use Rattle.procap.specs.declared.fact.Argument.{Argument}
 use Rattle.procap.specs.declared.fact.Fact.{Fact}
 use Rattle.procap.specs.declared.procap.Request.{Request}
 use Rattle.procap.specs.declared.procap.Procap.{Procap}
+
+-- What is decided, as a flag.
+unfoldable pub told : {P : Type 0} → Dec P → Bool
+told (yes h) = true
+told (no n) = false
 
 -- What is decided is decided of whatever goes with it. (The library's own law for this does not compute outside it.)
 unfoldable pub goes-with? : {P Q : Type 0} → (P → Q) → (Q → P) → Dec P → Dec Q
@@ -161,6 +167,13 @@ fact-in-form? f =
     (Dec·and (decLe (f .count) most-terms)
     (Dec·and (all? (λ a. term-in-form? (a .term)) (take (f .count) (f .arguments)))
     (lists? arguments? (f .arguments) (pad most-terms no-argument (take (f .count) (f .arguments)))))))
+
+unfoldable pub request? : (r s : Request) → Dec (r ≡ s)
+request? r s =
+    goes-with?
+    (λ h i. record { who = h .0 i; what = h .1 .0 i; right = h .1 .1 i })
+    (λ e. (ap (λ x. x .who) e, (ap (λ x. x .what) e, ap (λ x. x .right) e)))
+    (Dec·and (ℕ-discrete (r .who) (s .who)) (Dec·and (ℕ-discrete (r .what) (s .what)) (ℕ-discrete (r .right) (s .right))))
 
 unfoldable pub request-in-form? : (r : Request) → Dec (RequestInForm r)
 request-in-form? r =

@@ -6,6 +6,9 @@ pub mod Facts
 pub mod Procaps
 pub mod Writable
 pub mod Answers
+pub mod Outcome
 pub mod Bytes
+pub mod Reading
 pub mod States
+pub mod Desk
 pub mod Deciding

@@ -36,16 +36,23 @@ pub fn can_be_written(procap: Procap) -> bool
     if LATEST_SECOND < procap.to {
         return false;
     }
-    if MOST_FACTS < procap.count {
+    if !few_and_distinct(procap) {
         return false;
     }
     if !facts_in_form(procap) {
         return false;
     }
-    if !none_twice(procap) {
+    zeros_past_facts(procap)
+}
+
+// Whether the procap lists at most 16 facts, and none twice.
+pub fn few_and_distinct(procap: Procap) -> bool
+    ensures { λ r. ⌜ Tells r ((procap .count ≤ «most-facts») × Distinct (listed procap)) ⌝ }
+{
+    if MOST_FACTS < procap.count {
         return false;
     }
-    zeros_past_facts(procap)
+    none_twice(procap)
 }
 
 // Whether the number is a name's. It always is, as a u16 holds no larger one, and the compiler drops the test: with it no proof speaks of types.

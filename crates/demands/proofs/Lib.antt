@@ -1,0 +1,3 @@
+-- The demands, and the fifteen presses.
+pub mod Demands
+pub mod Presses

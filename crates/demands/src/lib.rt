@@ -1,0 +1,1 @@
+// The demands: theorems over the definitions of the calls, with no code of its own.

@@ -1,0 +1,86 @@
+// The door on a procap that can be written.
+use procap::answer::Answer;
+use procap::procap::Procap;
+use procap::procap::Request;
+use procap::time::LATEST_SECOND;
+use state::stands_in;
+use state::well_formed;
+ghost use mathlib.Core.Path.{_≡_};
+ghost use Prim.Native.Nat.{_≤_};
+ghost use Rattle.procap.specs.Tells.{Tells};
+ghost use Rattle.procap.specs.Procaps.{listed, «most-facts»};
+ghost use Rattle.procap.specs.Writable.{Writable};
+ghost use Rattle.procap.specs.Outcome.{«answer-of»};
+ghost use Rattle.door.specs.Door.{NamesMissing, opening, «request-of»};
+
+// What the door answers to a press for a request of three numbers, at a moment in a state.
+pub(crate) fn decide(
+    procap: Procap,
+    who: u64,
+    what: u64,
+    right: u64,
+    moment: u64,
+    state: &[u8],
+) -> Answer
+    requires { ⌜ Writable procap ⌝ }
+    ensures { λ r. ⌜ r ≡ «answer-of» (opening procap («request-of» who what right) moment (now (state .entry))) ⌝ }
+{
+    if LATEST_SECOND < moment {
+        return Answer::MomentAboveLatest;
+    }
+    if !well_formed(state) {
+        return Answer::StateMalformed;
+    }
+    let request = procap.request;
+    if !asks_for(request, who, what, right) {
+        return Answer::RequestDiffers;
+    }
+    if !opens_at(procap, moment) {
+        return Answer::MomentOutside;
+    }
+    first_missing(procap, moment, state)
+}
+
+// Whether the moment is neither before the procap's from nor after its to.
+fn opens_at(procap: Procap, moment: u64) -> bool
+    ensures { λ r. ⌜ Tells r ((procap .from ≤ moment) × (moment ≤ procap .to)) ⌝ }
+{
+    if moment < procap.from {
+        return false;
+    }
+    moment <= procap.to
+}
+
+// Whether the request is the one of these three numbers.
+fn asks_for(request: Request, who: u64, what: u64, right: u64) -> bool
+    ensures { λ r. ⌜ Tells r («request-of» who what right ≡ request) ⌝ }
+{
+    if request.who as u64 != who {
+        return false;
+    }
+    if request.what as u64 != what {
+        return false;
+    }
+    if request.right as u64 != right {
+        return false;
+    }
+    true
+}
+
+// The answer that names the first fact of the procap that does not hold, or that the door opens.
+fn first_missing(procap: Procap, moment: u64, state: &[u8]) -> Answer
+    requires { ⌜ procap .count ≤ «most-facts» ⌝ }
+    ensures { λ r. ⌜ NamesMissing moment (now (state .entry)) (listed procap) r ⌝ }
+{
+    let count = procap.count;
+    let mut i: usize = 0;
+    while i < count {
+        let fact = procap.facts[i];
+        let wanted = fact.at_moment(moment);
+        if !stands_in(state, wanted) {
+            return Answer::FactMissing(i);
+        }
+        i += 1;
+    }
+    Answer::Granted
+}

@@ -1,0 +1,2 @@
+-- What the state's calls tell.
+pub mod Standing

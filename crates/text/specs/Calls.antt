@@ -1,0 +1,38 @@
+-- What the reader and the writer of the text answer, and what the writer leaves in the buffer.
+use Prim.Native.Nat.{ℕ}
+use mathlib.Core.List.{List, _++_}
+use mathlib.Core.Option.{Option}
+use native.Mathlib.Decide.{decLe}
+use lib.ListN.{length, drop}
+use Rattle.procap.specs.Outcome.{Outcome, granted, refused, go-on, or-else, require}
+use Rattle.procap.specs.Bytes.{to-the-end}
+use Rattle.procap.specs.Deciding.{writable?}
+use Rattle.procap.specs.declared.answer.Answer.the-variants.{ProcapMalformed, BufferShort}
+use Rattle.procap.specs.declared.procap.Procap.{Procap}
+use Rattle.text.specs.Text.{text-of}
+use Rattle.text.specs.Reader.{text-in}
+
+-- [Numbers 12] The procap that was read, if it ends where the bytes do.
+abbrev pub read-to-the-end : List ℕ → Option (Procap × ℕ) → Outcome Procap
+read-to-the-end bytes o = or-else ProcapMalformed (to-the-end bytes o)
+
+-- [Numbers 12] The procap that the bytes say.
+unfoldable pub reading : List ℕ → Outcome Procap
+reading bytes = or-else ProcapMalformed (text-in bytes)
+
+-- [Numbers 12 and 13] The text to be written, into a buffer with so much room: 12 comes before 13.
+unfoldable pub writing : Procap → ℕ → Outcome (List ℕ)
+writing p room =
+    go-on (require ProcapMalformed (writable? p)) λ _.
+    go-on (require BufferShort (decLe (length (text-of p)) room)) λ _.
+    granted (text-of p)
+
+-- [Numbers] The length that the writer gives: the text's, and 0 when it refuses.
+unfoldable pub length-given : Outcome (List ℕ) → ℕ
+length-given (granted text) = length text
+length-given (refused answer) = 0
+
+-- [Numbers] What stands in the buffer afterwards: the text, and past it what was there; when it refuses, all as it was.
+unfoldable pub buffer-left : Outcome (List ℕ) → List ℕ → List ℕ
+buffer-left (granted text) buffer = text ++ drop (length text) buffer
+buffer-left (refused answer) buffer = buffer

@@ -1,0 +1,6 @@
+// The procap text: its reader and its writer.
+pub mod line; // bytes, numbers and lines of the text
+pub mod reader; // from a text to a procap
+pub mod writer; // from a procap to its text
+mod facts; // the lines of facts
+mod spell; // a procap spelled into a buffer that is long enough

@@ -1,0 +1,183 @@
+// From a text to the procap that it says.
+use crate::facts::facts_at;
+use crate::line::line;
+use procap::answer::Answer;
+use procap::bytes::NumberRead;
+use procap::procap::MOST_FACTS;
+use procap::procap::Procap;
+use procap::procap::Request;
+use procap::procap::VERSION;
+use procap::time::LATEST_SECOND;
+use procap::writable::LARGEST_NAME;
+use procap::writable::few_and_distinct;
+ghost use mathlib.Core.Bool.{Bool};
+ghost use mathlib.Core.Path.{_≡_};
+ghost use Rattle.procap.specs.Procaps.{«empty-procap»};
+ghost use Rattle.procap.specs.Outcome.{«answer-of», «procap-handed»};
+ghost use Rattle.text.specs.Reader.{«request-lines», «moment-lines», «procap-with»};
+ghost use Rattle.text.specs.Places.{RequestReads, MomentsReads};
+ghost use Rattle.text.specs.Calls.{«read-to-the-end», reading};
+
+// The answer of reading a text, and the procap that it says.
+pub struct ReadText {
+    pub answer: Answer,
+    pub procap: Procap,
+}
+
+// Whether a request was read, the request, and the place after it.
+struct RequestRead {
+    found: bool,
+    request: Request,
+    next: usize,
+}
+
+// Whether two moments were read, the two, and the place after them.
+struct MomentsRead {
+    found: bool,
+    from: u64,
+    to: u64,
+    next: usize,
+}
+
+// The procap that the text says: 12 and the empty procap for what is not exactly a text.
+pub fn read_text(text: &[u8]) -> ReadText
+    ensures answer { λ r. ⌜ r .answer ≡ «answer-of» (reading (now (text .entry))) ⌝ }
+    ensures procap { λ r. ⌜ r .procap ≡ «procap-handed» (reading (now (text .entry))) ⌝ }
+{
+    let NumberRead::Number(version, after_version) = line(text, 0, b"procap=", VERSION as u64)
+    else {
+        return no_text();
+    };
+    if version == 0 {
+        return no_text();
+    }
+    let asked = request_at(text, after_version);
+    if !asked.found {
+        return no_text();
+    }
+    let moments = moments_at(text, asked.next);
+    if !moments.found {
+        return no_text();
+    }
+    let request = asked.request;
+    procap_with(text, request, moments.from, moments.to, moments.next)
+}
+
+// The procap of a request, two moments and the facts from a place to the end of the text.
+fn procap_with(text: &[u8], request: Request, from: u64, to: u64, at: usize) -> ReadText
+    ensures answer { λ r. ⌜ r .answer ≡ «answer-of» («read-to-the-end» (now (text .entry)) («procap-with» (now (text .entry)) request from to at)) ⌝ }
+    ensures procap { λ r. ⌜ r .procap ≡ «procap-handed» («read-to-the-end» (now (text .entry)) («procap-with» (now (text .entry)) request from to at)) ⌝ }
+{
+    let NumberRead::Number(count, after_count) = line(text, at, b"facts=", MOST_FACTS as u64) else {
+        return no_text();
+    };
+    let listed = facts_at(text, after_count, count as usize);
+    if !listed.found {
+        return no_text();
+    }
+    if listed.next != text.len() {
+        return no_text();
+    }
+    let facts = listed.facts;
+    let procap = Procap {
+        version: VERSION,
+        request: request,
+        from: from,
+        to: to,
+        count: count as usize,
+        facts: facts,
+    };
+    if !few_and_distinct(procap) {
+        return no_text();
+    }
+    ReadText {
+        answer: Answer::Granted,
+        procap: procap,
+    }
+}
+
+// What is handed over for bytes that are no text.
+fn no_text() -> ReadText
+    ensures answer { λ r. ⌜ r .answer ≡ Answer.ProcapMalformed ⌝ }
+    ensures procap { λ r. ⌜ r .procap ≡ «empty-procap» ⌝ }
+{
+    let empty = Procap::empty();
+    ReadText {
+        answer: Answer::ProcapMalformed,
+        procap: empty,
+    }
+}
+
+// The three lines of the request at a place.
+fn request_at(text: &[u8], at: usize) -> RequestRead
+    ensures { λ r. ⌜ RequestReads («request-lines» (now (text .entry)) at) r ⌝ }
+{
+    let NumberRead::Number(who, after_who) = line(text, at, b"who=", LARGEST_NAME) else {
+        return no_request();
+    };
+    let NumberRead::Number(what, after_what) = line(text, after_who, b"what=", LARGEST_NAME) else {
+        return no_request();
+    };
+    let NumberRead::Number(right, next) = line(text, after_what, b"right=", LARGEST_NAME) else {
+        return no_request();
+    };
+    let request = Request {
+        who: who as u16,
+        what: what as u16,
+        right: right as u16,
+    };
+    RequestRead {
+        found: true,
+        request: request,
+        next: next,
+    }
+}
+
+// What is handed back where no request was read.
+fn no_request() -> RequestRead
+    ensures { λ r. ⌜ r .found ≡ Bool.false ⌝ }
+{
+    let request = Request {
+        who: 0,
+        what: 0,
+        right: 0,
+    };
+    RequestRead {
+        found: false,
+        request: request,
+        next: 0,
+    }
+}
+
+// The two lines of moments at a place, from <= to.
+fn moments_at(text: &[u8], at: usize) -> MomentsRead
+    ensures { λ r. ⌜ MomentsReads («moment-lines» (now (text .entry)) at) r ⌝ }
+{
+    let NumberRead::Number(from, after_from) = line(text, at, b"from=", LATEST_SECOND) else {
+        return no_moments();
+    };
+    let NumberRead::Number(to, next) = line(text, after_from, b"to=", LATEST_SECOND) else {
+        return no_moments();
+    };
+    if to < from {
+        return no_moments();
+    }
+    MomentsRead {
+        found: true,
+        from: from,
+        to: to,
+        next: next,
+    }
+}
+
+// What is handed back where no two moments were read.
+fn no_moments() -> MomentsRead
+    ensures { λ r. ⌜ r .found ≡ Bool.false ⌝ }
+{
+    MomentsRead {
+        found: false,
+        from: 0,
+        to: 0,
+        next: 0,
+    }
+}
