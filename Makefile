@@ -1,5 +1,5 @@
 # The commands of the project. `make test` is the one test command: layout of the files, every proof, then the tests that run.
-.PHONY: run test layout kit door test-c
+.PHONY: run test layout kit door test-c test-stack
 SHELL := /bin/bash
 .SHELLFLAGS := -euo pipefail -c
 
@@ -17,6 +17,7 @@ run: door
 test: kit layout
 	@mkdir -p bin
 	@rt ci | tee bin/proofs.log
+	@$(MAKE) --no-print-directory test-stack
 	@$(MAKE) --no-print-directory test-c
 	@tail -n 1 bin/proofs.log
 
@@ -41,6 +42,12 @@ test-c: door
 	else echo "no valgrind on this machine: the reads past a buffer's end that it would see were not looked for"; fi
 	@$(C) -o bin/stack tests/c/stack.c $(DOOR)
 	@bin/stack
+
+# Verify on the deepest proofs that the limits allow, with a stack of 2 MiB and less.
+test-stack: kit
+	@mkdir -p bin
+	@rt check deepest > bin/deepest.log 2>&1 || { cat bin/deepest.log; exit 1; }
+	@tests/stack.sh target/bin/deepest crates/deepest/stdout 2048
 
 # Says what is missing where the Rattle kit is not on the machine.
 kit:

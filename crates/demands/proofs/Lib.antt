@@ -1,3 +1,4 @@
 -- The demands, and the fifteen presses.
 pub mod Demands
+pub mod Office
 pub mod Presses

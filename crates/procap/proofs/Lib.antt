@@ -7,8 +7,10 @@ pub mod InMore
 pub mod Listed
 pub mod Joined
 pub mod Rebuilt
+pub mod Numbered
 pub mod Numbers
 pub mod Readers
+pub mod ReadApart
 pub mod ReadSoFar
 pub mod Handed
 pub mod WithPredicate

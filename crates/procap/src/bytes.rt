@@ -9,6 +9,8 @@ ghost use Prim.Native.Nat.{_+_, _-_, _^_, _≤_};
 ghost use lib.ListN.{length};
 ghost use lib.Dec.{leb};
 ghost use Rattle.procap.specs.Facts.{«no-fact»};
+ghost use Rattle.procap.specs.Times.{latest};
+ghost use Rattle.procap.specs.Writable.{«largest-name»};
 ghost use Rattle.procap.specs.Bytes.{byte, number, «term-by»};
 ghost use Rattle.procap.specs.Reading.{NumberReads, AtMostRead, TermReads};
 
@@ -56,7 +58,7 @@ pub fn byte_at(bytes: &[u8], at: usize) -> NumberRead
 // The number of two bytes at a place.
 pub fn two_bytes_at(bytes: &[u8], at: usize) -> NumberRead
     ensures reads { λ r. ⌜ NumberReads (number (now (bytes .entry)) 2 at) r ⌝ }
-    ensures bound { λ r. ⌜ AtMostRead 65_535 r ⌝ }
+    ensures bound { λ r. ⌜ AtMostRead «largest-name» r ⌝ }
 {
     number_at(bytes, at, 2)
 }
@@ -64,7 +66,7 @@ pub fn two_bytes_at(bytes: &[u8], at: usize) -> NumberRead
 // The number of five bytes at a place.
 pub fn five_bytes_at(bytes: &[u8], at: usize) -> NumberRead
     ensures reads { λ r. ⌜ NumberReads (number (now (bytes .entry)) 5 at) r ⌝ }
-    ensures bound { λ r. ⌜ AtMostRead 1_099_511_627_775 r ⌝ }
+    ensures bound { λ r. ⌜ AtMostRead latest r ⌝ }
 {
     number_at(bytes, at, 5)
 }

@@ -4,7 +4,7 @@ ghost use mathlib.Core.Path.{_≡_};
 ghost use Prim.Native.Nat.{min};
 ghost use Rattle.procap.specs.Tells.{Tells};
 ghost use Rattle.procap.specs.Facts.{«no-fact», «term-at-moment», «fact-at-moment», spelled};
-ghost use Rattle.procap.specs.Deciding.{«kind-of», «value-of»};
+ghost use Rattle.procap.specs.Numbered.{«kind-of», «value-of», «of-numbers»};
 
 // How many terms a fact has at the most.
 pub const MOST_TERMS: usize = 4;
@@ -53,8 +53,21 @@ impl Term {
         true
     }
 
+    // The term that two numbers stand for: its kind, and the number that it holds.
+    pub fn of_numbers(kind: u64, value: u64) -> Term
+        ensures { λ r. ⌜ r ≡ «of-numbers» kind value ⌝ }
+    {
+        match kind {
+            0 => Term::Name((value % 65_536) as u16),
+            1 => Term::When(Time::Moment(value)),
+            2 => Term::When(Time::MinusInfinity),
+            3 => Term::When(Time::PlusInfinity),
+            _ => Term::When(Time::Ctime),
+        }
+    }
+
     // The kind of the term, as a number.
-    fn kind(self) -> u64
+    pub fn kind(self) -> u64
         ensures { λ r. ⌜ r ≡ «kind-of» self ⌝ }
     {
         match self {
@@ -69,7 +82,7 @@ impl Term {
     }
 
     // The number that the term holds, 0 where it holds none.
-    fn value(self) -> u64
+    pub fn value(self) -> u64
         ensures { λ r. ⌜ r ≡ «value-of» self ⌝ }
     {
         match self {

@@ -1,7 +1,6 @@
 // Requests, and the procap that answers one.
 use crate::fact::Fact;
 ghost use mathlib.Core.Path.{_≡_};
-ghost use Rattle.procap.specs.Tells.{Tells};
 ghost use Rattle.procap.specs.Procaps.{«empty-procap»};
 
 // How many facts a procap lists at the most.
@@ -14,24 +13,6 @@ pub struct Request {
     pub who: u16,
     pub what: u16,
     pub right: u16,
-}
-
-impl Request {
-    // Whether the two requests are the same.
-    pub fn same(self, other: Request) -> bool
-        ensures { λ r. ⌜ Tells r (self ≡ other) ⌝ }
-    {
-        if self.who != other.who {
-            return false;
-        }
-        if self.what != other.what {
-            return false;
-        }
-        if self.right != other.right {
-            return false;
-        }
-        true
-    }
 }
 
 // A procap: for its request it opens from `from` to `to` while the first `count` facts hold; the others are zeros.

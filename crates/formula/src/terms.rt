@@ -1,0 +1,100 @@
+// The terms put in for the binders passed, and what stands in a formula where a term may.
+use procap::fact::Term;
+ghost use mathlib.Core.Path.{_≡_};
+ghost use mathlib.Core.List.{_∷_};
+ghost use Prim.Native.Nat.{suc, _<_};
+ghost use Rattle.procap.specs.Numbered.{«of-numbers»};
+ghost use Rattle.bl.specs.Trees.{bound};
+ghost use Rattle.bl.specs.Formulas.{«most-binders»};
+ghost use Rattle.formula.specs.PutIn.{«no-terms», «terms-of», FewTerms, «place-of», «fill-place»};
+
+// How deep a formula may be: every tag on a path is a level.
+pub const MOST_FORMULA_LEVELS: u64 = 16;
+// How many binders may stand around a place.
+pub const MOST_BINDERS: usize = 8;
+// How many numbers their terms take: two each.
+pub const TERMS_NUMBERS: usize = 16;
+
+// The terms put in for the binders passed, the latest last: two numbers each.
+pub struct Terms {
+    pub count: usize,
+    pub numbers: [u64; TERMS_NUMBERS],
+}
+
+// What stands where a term may: a term, or a variable that no term was put in for.
+pub enum Place {
+    Fixed(Term),
+    Bound(u64),
+}
+
+impl Terms {
+    // No terms.
+    pub fn none() -> Terms
+        ensures { λ r. ⌜ r ≡ «no-terms» ⌝ }
+    {
+        Terms {
+            count: 0,
+            numbers: [0u64; TERMS_NUMBERS],
+        }
+    }
+
+    // The terms with one more put in. Where there is no room, they stay as they are.
+    pub fn with(self, term: Term) -> Terms
+        ensures room { λ r. ⌜ (FewTerms self → self .count < «most-binders» → FewTerms r) ⌝ }
+        ensures count { λ r. ⌜ (self .count < «most-binders» → r .count ≡ suc (self .count)) ⌝ }
+        ensures terms { λ r. ⌜ (FewTerms self → self .count < «most-binders» → «terms-of» r ≡ (term ∷ «terms-of» self)) ⌝ }
+    {
+        let count = self.count;
+        if MOST_BINDERS <= count {
+            return self;
+        }
+        let mut numbers = self.numbers;
+        let told = numbers_of(term);
+        numbers[2 * count] = told.kind;
+        numbers[2 * count + 1] = told.value;
+        Terms {
+            count: count + 1,
+            numbers: numbers,
+        }
+    }
+
+    // What stands for a variable under so many binders that no term was put in for.
+    pub fn look_up(self, under: usize, variable: usize) -> Place
+        ensures { λ r. ⌜ (FewTerms self → «place-of» r ≡ «fill-place» under («terms-of» self) (bound variable)) ⌝ }
+    {
+        if variable < under {
+            return Place::Bound(variable as u64);
+        }
+        let back = variable - under;
+        if self.count <= back {
+            return Place::Bound(variable as u64);
+        }
+        let index = self.count - back - 1;
+        if MOST_BINDERS <= index {
+            return Place::Bound(variable as u64);
+        }
+        Place::Fixed(Term::of_numbers(self.numbers[2 * index], self.numbers[2 * index + 1]))
+    }
+}
+
+// A term told by two numbers: its kind, and the number that it holds.
+struct TermNumbers {
+    kind: u64,
+    value: u64,
+}
+
+// The two numbers that tell a term.
+fn numbers_of(term: Term) -> TermNumbers
+    ensures { λ r. ⌜ «of-numbers» (r .kind) (r .value) ≡ term ⌝ }
+{
+    match term {
+        Term::Name(name) => TermNumbers {
+            kind: 0,
+            value: name as u64,
+        },
+        Term::When(_) => TermNumbers {
+            kind: term.kind(),
+            value: term.value(),
+        },
+    }
+}

@@ -1,0 +1,157 @@
+-- Walks from book to book compose like the lines of a `do`, stopped books included.
+use Prim.Native.Nat.{ℕ}
+use mathlib.Core.Path.{_≡_, refl, sym, ap, _∙_}
+use mathlib.Core.List.{List}
+use mathlib.Core.Logic.{_⊎_, inl, inr, ⊎-elim}
+use Rattle.procap.specs.Outcome.{Outcome, granted, refused, go-on}
+use Rattle.procap.specs.declared.answer.Answer.{Answer}
+use Rattle.procap.specs.declared.answer.Answer.the-variants.{StepUnfit}
+use Rattle.bl.specs.Questions.{Walk, done, misfit, ask, _>>=_}
+use Rattle.bl.specs.Readings as bl
+use Rattle.bl.specs.Readings.{Kept, run, answered}
+use Rattle.ledger.specs.declared.Stop.{Stop}
+use Rattle.ledger.specs.declared.Stop.the-variants.{Going, Stopped}
+use Rattle.ledger.specs.declared.Ledger.{Ledger}
+use Rattle.ledger.specs.Books.{Book, book, Sound, Gives, misfitted, stopped-by, kept-of, reading-of, resume, unless-stopped}
+
+-- ── One line of a `do` ──
+
+-- What is gone on with twice is gone on with once.
+go-on-twice : {A B C : Type 0} (o : Outcome A) (f : A → Outcome B) (g : B → Outcome C) → go-on (go-on o f) g ≡ go-on o (λ a. go-on (f a) g)
+unfolding go-on
+go-on-twice (granted a) f g = refl
+go-on-twice (refused answer) f g = refl
+
+-- What is gone on with alike comes to the same.
+go-on-alike : {A B : Type 0} (o : Outcome A) (f g : A → Outcome B) → ((a : A) → f a ≡ g a) → go-on o f ≡ go-on o g
+unfolding go-on
+go-on-alike (granted a) f g e = e a
+go-on-alike (refused answer) f g e = refl
+
+-- A walk and then another is read as the one, and the other from what the one came to.
+run-then : {A B : Type 0} (o : bl.Reading) (w : Walk A) (g : A → Walk B) (s : Kept)
+    → run o (w >>= g) s ≡ go-on (run o w s) (λ r. run o (g (r .0)) (r .1))
+unfolding run _>>=_ go-on
+run-then o (done a) g s = refl
+run-then o (misfit q) g s = refl
+run-then o (ask x q w) g s =
+    go-on-alike (answered o x q s) _ _ (λ s′. run-then o w g s′) ∙ sym (go-on-twice (answered o x q s) (λ s′. run o w s′) _)
+
+-- The same from a stop.
+stop-then : {A B : Type 0} (t : Stop) (o : bl.Reading) (w : Walk A) (g : A → Walk B) (s : Kept)
+    → unless-stopped t (run o (w >>= g) s) ≡ go-on (unless-stopped t (run o w s)) (λ r. run o (g (r .0)) (r .1))
+unfolding unless-stopped go-on
+stop-then Going o w g s = run-then o w g s
+stop-then (Stopped answer) o w g s = refl
+
+-- Where a walk came to a value, the rest is read from there.
+stop-done : {A B : Type 0} (t : Stop) (o : bl.Reading) (a : A) (g : A → Walk B) (s : Kept)
+    → go-on (unless-stopped t (run o (done a) s)) (λ r. run o (g (r .0)) (r .1)) ≡ unless-stopped t (run o (g a) s)
+unfolding unless-stopped run go-on
+stop-done Going o a g s = refl
+stop-done (Stopped answer) o a g s = refl
+
+-- Where the work of w led from the book b to m and the value a, the rest goes on from there.
+resume-then : {A B : Type 0} (state : List ℕ) (b m : Book) (w : Walk A) (a : A) (g : A → Walk B)
+    → Gives state b w m a → resume state b (w >>= g) ≡ resume state m (g a)
+unfolding resume kept-of
+resume-then state b m w a g h =
+    let o = reading-of state (b .ledger .reading) in
+    stop-then (b .ledger .stop) o w g (kept-of b)
+    ∙ ap (λ x. go-on x (λ r. run o (g (r .0)) (r .1))) (sym (h .resumed))
+    ∙ rw (h .same-reading) (stop-done (m .ledger .stop) o a g (kept-of m))
+
+-- A stop that is a stop gives its answer.
+pub stop-refused : {A : Type 0} (t : Stop) (answer : Answer) (o : Outcome A) → t ≡ Stopped answer → unless-stopped t o ≡ refused answer
+unfolding unless-stopped
+stop-refused t answer o e = rw e
+
+-- A stop that is none gives what goes on.
+pub stop-going : {A : Type 0} (t : Stop) (o : Outcome A) → t ≡ Going → unless-stopped t o ≡ o
+unfolding unless-stopped
+stop-going t o e = rw e
+
+-- Two lines of a `do`, one after the other.
+pub then : {A B : Type 0} (state : List ℕ) (b m r : Book) (w : Walk A) (a : A) (g : A → Walk B) (x : B)
+    → Gives state b w m a → Gives state m (g a) r x → Gives state b (w >>= g) r x
+then state b m r w a g x e f = record {
+  same-reading = f .same-reading ∙ e .same-reading;
+  sound = f .sound;
+  resumed = f .resumed ∙ sym (resume-then state b m w a g e);
+}
+
+-- Nothing to do.
+pub idle : {A : Type 0} (state : List ℕ) (b : Book) (a : A) → Sound b → Gives state b (done a) b a
+idle state b a s = record { same-reading = refl; sound = s; resumed = refl }
+
+-- A book whose ledger counts as many facts is as sound.
+pub same-sound : (list : List ℕ) (l r : Ledger) → r .count ≡ l .count → Sound (book l list) → Sound (book r list)
+same-sound list l r e s = record { room = s .room; few = rw e (s .few); in-form = λ i h. s .in-form i (rw e at h) }
+
+-- The answer that stops a ledger is its first.
+pub stopped-now : (l : Ledger) (answer : Answer) → l .stop ≡ Going → stopped-by answer l .stop ≡ Stopped answer
+unfolding stopped-by
+stopped-now l answer e = rw e
+
+pub stopped-before : (l : Ledger) (answer before : Answer) → l .stop ≡ Stopped before → stopped-by answer l .stop ≡ Stopped before
+unfolding stopped-by
+stopped-before l answer before e = rw e
+
+-- A book goes on, or has stopped.
+pub goes-or-stopped : (s : Stop) → (s ≡ Going) ⊎ ((answer : Answer) × (s ≡ Stopped answer))
+goes-or-stopped Going = inl refl
+goes-or-stopped (Stopped answer) = inr (answer, refl)
+
+-- A walk that comes to an answer stops the book with it, unless the book had stopped before.
+pub refuses : {A : Type 0} (state list : List ℕ) (l : Ledger) (answer : Answer) (w : Walk A) (a : A) → Sound (book l list)
+    → run (reading-of state (l .reading)) w (kept-of (book l list)) ≡ refused answer
+    → Gives state (book l list) w (book (stopped-by answer l) list) a
+unfolding resume stopped-by
+refuses state list l answer w a s h = record {
+  same-reading = refl;
+  sound = same-sound list l (stopped-by answer l) refl s;
+  resumed = ⊎-elim now before (goes-or-stopped (l .stop));
+}
+  where
+    now : l .stop ≡ Going → resume state (book (stopped-by answer l) list) (done a) ≡ resume state (book l list) w
+    now e = stop-refused _ answer _ (stopped-now l answer e) ∙ sym (stop-going (l .stop) _ e ∙ h)
+
+    before : (first : Answer) × (l .stop ≡ Stopped first) → resume state (book (stopped-by answer l) list) (done a) ≡ resume state (book l list) w
+    before e = stop-refused _ (e .0) _ (stopped-before l answer (e .0) (e .1)) ∙ sym (stop-refused (l .stop) (e .0) _ (e .1))
+
+-- A step that does not fit.
+pub misfits : {A : Type 0} (state list : List ℕ) (l : Ledger) (q : ℕ) (a : A) → Sound (book l list)
+    → Gives state (book l list) (misfit q) (book (misfitted l q) list) a
+unfolding run
+misfits state list l q a s = refuses state list l (StepUnfit q) (misfit q) a s refl
+
+-- What comes to nothing comes to it with any value.
+pub misfits-any : {A B : Type 0} (state : List ℕ) (b r : Book) (q : ℕ) (a : A) (x : B) → Gives state b (misfit q) r a → Gives state b (misfit q) r x
+unfolding _>>=_
+misfits-any state b r q a x h = then state b r r (misfit q) a (λ _. done x) x h (idle state r x (h .sound))
+
+-- A book that has stopped stays as it is, whatever the walk.
+pub stays : {A : Type 0} (state : List ℕ) (b : Book) (answer : Answer) (w : Walk A) (a : A) → b .ledger .stop ≡ Stopped answer → Sound b → Gives state b w b a
+unfolding resume
+stays state b answer w a e s = record {
+  same-reading = refl;
+  sound = s;
+  resumed = stop-refused (b .ledger .stop) answer _ e ∙ sym (stop-refused (b .ledger .stop) answer _ e);
+}
+
+-- What has stopped after one line is what the whole comes to.
+pub halted : {A B : Type 0} (state : List ℕ) (b r : Book) (answer : Answer) (w : Walk A) (a : A) (g : A → Walk B) (x : B)
+    → Gives state b w r a → r .ledger .stop ≡ Stopped answer → Gives state b (w >>= g) r x
+halted state b r answer w a g x h e = then state b r r w a g x h (stays state r answer (g a) x e (h .sound))
+
+-- What does not go on has stopped.
+pub not-going : (s : Stop) → (s ≡ Going → ⊥) → (answer : Answer) × (s ≡ Stopped answer)
+not-going Going n = absurd (n refl)
+not-going (Stopped answer) n = (answer, refl)
+
+-- After a misfit a ledger has stopped.
+pub misfitted-stopped : (l : Ledger) (q : ℕ) → (answer : Answer) × (misfitted l q .stop ≡ Stopped answer)
+misfitted-stopped l q = ⊎-elim
+    (λ e. (StepUnfit q, stopped-now l (StepUnfit q) e))
+    (λ e. (e .0, stopped-before l (StepUnfit q) (e .0) (e .1)))
+    (goes-or-stopped (l .stop))

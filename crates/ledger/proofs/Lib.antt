@@ -1,0 +1,5 @@
+-- Laws on going on from a ledger.
+pub mod Giving
+pub mod Asking
+pub mod Stored
+pub mod Listing

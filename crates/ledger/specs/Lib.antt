@@ -1,0 +1,3 @@
+-- What a ledger keeps, and what it is to go on from one.
+pub mod Putting
+pub mod Books

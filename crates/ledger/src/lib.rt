@@ -1,0 +1,342 @@
+// The ledger of a walk: what stopped it, how it is read, and what verify keeps; and the questions that a walk asks.
+use procap::answer::Answer;
+use procap::fact::Argument;
+use procap::fact::Fact;
+use procap::fact::MOST_TERMS;
+use procap::fact::Term;
+use procap::procap::MOST_FACTS;
+use procap::procap::Procap;
+use procap::procap::Request;
+use procap::procap::VERSION;
+use procap::time::Decision;
+use procap::time::LATEST_SECOND;
+use procap::time::Time;
+use procap::time::at_most;
+use procap::time::decide;
+use state::stands_in;
+ghost use mathlib.Core.Path.{_≡_};
+ghost use mathlib.Core.List.{List};
+ghost use Prim.Native.Nat.{ℕ, _+_, _*_, _≤_, _<_, min, max};
+ghost use lib.ListN.{length, getD};
+ghost use Rattle.procap.specs.Lists.{In};
+ghost use Rattle.procap.specs.Tells.{Tells};
+ghost use Rattle.procap.specs.Times.{earliest, latest, decided};
+ghost use Rattle.procap.specs.Facts.{spelled, «fact-of», «argument-of», «no-argument», «most-terms»};
+ghost use Rattle.procap.specs.Procaps.{«most-facts», «procap-of»};
+ghost use Rattle.bl.specs.Questions.{«ask-order», «ask-fact»};
+ghost use Rattle.ledger.specs.Books.{book, Sound, Gives, Leads, «list-numbers», «fact-numbers», «argument-in», «facts-in», «fact-in», «stopped-by», misfitted};
+ghost use Rattle.ledger.specs.Putting.{KeptBefore};
+
+// How many numbers a listed fact takes: its predicate, its count, and two for each term.
+pub const FACT_NUMBERS: usize = 10;
+// How many numbers the list of facts takes.
+pub const LIST_NUMBERS: usize = 160;
+
+// How a walk is read: at the office with the clock open, or at a press at its moment.
+pub enum Reading {
+    Office,
+    Press(u64),
+}
+
+// Whether a walk goes on, or the answer that stopped it.
+pub enum Stop {
+    Going,
+    Stopped(Answer),
+}
+
+// What a walk has come to: whether it goes on, how it is read, the moments that are left and how many facts are listed.
+pub struct Ledger {
+    pub stop: Stop,
+    pub reading: Reading,
+    pub from: u64,
+    pub to: u64,
+    pub count: usize,
+}
+
+impl Ledger {
+    // The ledger at the start of a walk.
+    pub fn begin(reading: Reading) -> Ledger
+        ensures { λ r. ⌜ r ≡ record { stop = Stop.Going; reading = reading; from = earliest; to = latest; count = 0 } ⌝ }
+    {
+        Ledger {
+            stop: Stop::Going,
+            reading: reading,
+            from: 0,
+            to: LATEST_SECOND,
+            count: 0,
+        }
+    }
+
+    // Whether the walk goes on.
+    pub fn goes_on(self) -> bool
+        ensures { λ r. ⌜ Tells r (self .stop ≡ Stop.Going) ⌝ }
+    {
+        let stop = self.stop;
+        match stop {
+            Stop::Going => true,
+            Stop::Stopped(_) => false,
+        }
+    }
+
+    // The ledger, stopped by this answer unless it was before.
+    pub fn stopped(self, answer: Answer) -> Ledger
+        ensures { λ r. ⌜ r ≡ «stopped-by» answer self ⌝ }
+    {
+        let stop = self.stop;
+        let reading = self.reading;
+        match stop {
+            Stop::Going => Ledger {
+                stop: Stop::Stopped(answer),
+                reading: reading,
+                from: self.from,
+                to: self.to,
+                count: self.count,
+            },
+            Stop::Stopped(_) => self,
+        }
+    }
+
+    // The step at this offset does not fit.
+    pub fn misfit(self, offset: usize) -> Ledger
+        ensures { λ r. ⌜ r ≡ misfitted self offset ⌝ }
+    {
+        self.stopped(Answer::StepUnfit(offset))
+    }
+
+    // The ledger with what the office's decision about an order leaves of its moments.
+    fn narrowed(self, offset: usize, decision: Decision) -> Ledger
+        ensures { λ r. ⌜ ((state list : List ℕ) (left right : Time) → Sound (book self list) → self .reading ≡ Reading.Office → decision ≡ decided left right → Gives state (book self list) («ask-order» offset left right) (book r list) tt) ⌝ }
+    {
+        let stop = self.stop;
+        let reading = self.reading;
+        match decision {
+            Decision::Holds => self,
+            Decision::Fails => self.stopped(Answer::OrderFalse(offset)),
+            Decision::RaisesFrom(second) => Ledger {
+                stop: stop,
+                reading: reading,
+                from: larger(self.from, second),
+                to: self.to,
+                count: self.count,
+            },
+            Decision::LowersTo(second) => Ledger {
+                stop: stop,
+                reading: reading,
+                from: self.from,
+                to: smaller(self.to, second),
+                count: self.count,
+            },
+        }
+    }
+}
+
+// The larger of two numbers.
+fn larger(one: u64, other: u64) -> u64
+    ensures { λ r. ⌜ r ≡ max one other ⌝ }
+{
+    if one < other { other } else { one }
+}
+
+// The smaller of two numbers.
+fn smaller(one: u64, other: u64) -> u64
+    ensures { λ r. ⌜ r ≡ min one other ⌝ }
+{
+    if one < other { one } else { other }
+}
+
+// Is left <= right?
+pub fn ask_order(ledger: Ledger, offset: usize, left: Time, right: Time) -> Ledger
+    ensures { λ r. ⌜ Leads ledger («ask-order» offset left right) r ⌝ }
+{
+    let stop = ledger.stop;
+    let reading = ledger.reading;
+    match stop {
+        Stop::Stopped(_) => ledger,
+        Stop::Going => match reading {
+            Reading::Office => ledger.narrowed(offset, decide(left, right)),
+            Reading::Press(moment) => {
+                if at_most(moment, left, right) {
+                    ledger
+                } else {
+                    ledger.stopped(Answer::OrderFalse(offset))
+                }
+            }
+        },
+    }
+}
+
+// Does the fact hold?
+pub fn ask_fact(
+    state: &[u8],
+    facts: &mut [u64],
+    ledger: Ledger,
+    offset: usize,
+    fact: Fact,
+) -> Ledger
+    ensures { λ r. ⌜ (Sound (book ledger (now (facts .entry))) → fact ≡ «fact-of» (spelled fact) → fact .count ≤ «most-terms» → Gives (now (state .entry)) (book ledger (now (facts .entry))) («ask-fact» offset (spelled fact)) (book r (now (facts .exit))) tt) ⌝ }
+{
+    let stop = ledger.stop;
+    let reading = ledger.reading;
+    match stop {
+        Stop::Stopped(_) => ledger,
+        Stop::Going => match reading {
+            Reading::Office => list_fact(facts, ledger, offset, fact),
+            Reading::Press(moment) => {
+                if stands_in(state, fact.at_moment(moment)) {
+                    ledger
+                } else {
+                    ledger.stopped(Answer::FactMissing(offset))
+                }
+            }
+        },
+    }
+}
+
+// The fact goes to the end of the office's list, unless it stands there or the list is full.
+fn list_fact(facts: &mut [u64], ledger: Ledger, offset: usize, fact: Fact) -> Ledger
+    ensures { λ r. ⌜ ((state : List ℕ) → Sound (book ledger (now (facts .entry))) → ledger .reading ≡ Reading.Office → fact ≡ «fact-of» (spelled fact) → Gives state (book ledger (now (facts .entry))) («ask-fact» offset (spelled fact)) (book r (now (facts .exit))) tt) ⌝ }
+{
+    let count = ledger.count;
+    // No sound book counts more.
+    if MOST_FACTS < count {
+        return ledger.stopped(Answer::FactsFull(offset));
+    }
+    if is_listed(facts, count, fact) {
+        return ledger;
+    }
+    if !has_room(facts, count) {
+        return ledger.stopped(Answer::FactsFull(offset));
+    }
+    put_fact(facts, count, fact);
+    let stop = ledger.stop;
+    let reading = ledger.reading;
+    Ledger {
+        stop: stop,
+        reading: reading,
+        from: ledger.from,
+        to: ledger.to,
+        count: count + 1,
+    }
+}
+
+// Whether the list has room for one fact more after so many.
+fn has_room(facts: &[u64], count: usize) -> bool
+    ensures { λ r. ⌜ Tells r ((length (now (facts .entry)) ≡ «list-numbers») × (count < «most-facts»)) ⌝ }
+{
+    if facts.len() != LIST_NUMBERS {
+        return false;
+    }
+    count < MOST_FACTS
+}
+
+// Whether the fact stands among the first of the list.
+fn is_listed(facts: &[u64], count: usize, fact: Fact) -> bool
+    requires { ⌜ count ≤ «most-facts» ⌝ }
+    ensures { λ r. ⌜ Tells r (In (spelled fact) («facts-in» (now (facts .entry)) count)) ⌝ }
+{
+    let mut i: usize = 0;
+    while i < count {
+        let other = fact_in(facts, i);
+        if fact.same(other) {
+            return true;
+        }
+        i += 1;
+    }
+    false
+}
+
+// The fact at an index of the list.
+fn fact_in(facts: &[u64], index: usize) -> Fact
+    requires { ⌜ index < «most-facts» ⌝ }
+    ensures { λ r. ⌜ r ≡ «fact-in» (now (facts .entry)) index ⌝ }
+{
+    let start = index * FACT_NUMBERS;
+    let first = argument_in(facts, start + 2);
+    let second = argument_in(facts, start + 4);
+    let third = argument_in(facts, start + 6);
+    let fourth = argument_in(facts, start + 8);
+    Fact {
+        predicate: (number_in(facts, start) % 65_536) as u16,
+        count: number_in(facts, start + 1) as usize,
+        arguments: [first, second, third, fourth],
+    }
+}
+
+// The term that two numbers of the list stand for.
+fn argument_in(facts: &[u64], at: usize) -> Argument
+    requires { ⌜ at < «list-numbers» ⌝ }
+    ensures { λ r. ⌜ r ≡ «argument-in» (now (facts .entry)) at ⌝ }
+{
+    Argument {
+        term: Term::of_numbers(number_in(facts, at), number_in(facts, at + 1)),
+    }
+}
+
+// A number of the list, 0 past its end.
+fn number_in(numbers: &[u64], at: usize) -> u64
+    ensures { λ r. ⌜ r ≡ getD (now (numbers .entry)) at 0 ⌝ }
+{
+    if at < numbers.len() { numbers[at] } else { 0 }
+}
+
+// Puts the fact at an index of the list.
+fn put_fact(facts: &mut [u64], index: usize, fact: Fact)
+    requires room { ⌜ length (now facts) ≡ «list-numbers» ⌝ }
+    requires few { ⌜ index < «most-facts» ⌝ }
+    ensures put { λ _. ⌜ «fact-in» (now (facts .exit)) index ≡ fact ⌝ }
+    ensures kept { λ _. ⌜ KeptBefore (index * «fact-numbers») (now (facts .entry)) (now (facts .exit)) ⌝ }
+{
+    let start = index * FACT_NUMBERS;
+    facts[start] = fact.predicate as u64;
+    facts[start + 1] = fact.count as u64;
+    put_terms(facts, start + 2, fact);
+}
+
+// Puts the terms of a fact at a place of the list, its zeros too.
+fn put_terms(facts: &mut [u64], at: usize, fact: Fact)
+    requires { ⌜ at + 8 ≤ length (now facts) ⌝ }
+    ensures put { λ _. ⌜ ((k : ℕ) → k < «most-terms» → «argument-in» (now (facts .exit)) (at + 2 * k) ≡ getD (fact .arguments) k «no-argument») ⌝ }
+    ensures kept { λ _. ⌜ KeptBefore at (now (facts .entry)) (now (facts .exit)) ⌝ }
+{
+    let mut i: usize = 0;
+    while i < MOST_TERMS {
+        let argument = fact.arguments[i];
+        let term = argument.term;
+        put_term(facts, at + 2 * i, term);
+        i += 1;
+    }
+}
+
+// Puts the two numbers of a term at a place of the list.
+fn put_term(facts: &mut [u64], at: usize, term: Term)
+    requires { ⌜ at + 1 < length (now facts) ⌝ }
+    ensures put { λ _. ⌜ «argument-in» (now (facts .exit)) at ≡ «argument-of» term ⌝ }
+    ensures kept { λ _. ⌜ KeptBefore at (now (facts .entry)) (now (facts .exit)) ⌝ }
+{
+    facts[at] = term.kind();
+    facts[at + 1] = term.value();
+}
+
+// The procap for a request of what the ledger and the list keep.
+pub fn procap_of(request: Request, ledger: Ledger, facts: &[u64]) -> Procap
+    ensures { λ r. ⌜ (Sound (book ledger (now (facts .entry))) → r ≡ «procap-of» request (ledger .from) (ledger .to) («facts-in» (now (facts .entry)) (ledger .count))) ⌝ }
+{
+    let count = ledger.count;
+    let none = Fact::none();
+    let mut listed = [none; MOST_FACTS];
+    let mut i: usize = 0;
+    while i < MOST_FACTS {
+        if i < count {
+            listed[i] = fact_in(facts, i);
+        }
+        i += 1;
+    }
+    Procap {
+        version: VERSION,
+        request: request,
+        from: ledger.from,
+        to: ledger.to,
+        count: count,
+        facts: listed,
+    }
+}

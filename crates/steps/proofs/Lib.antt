@@ -1,0 +1,6 @@
+-- Laws on steps in bytes.
+pub mod StepsRead
+pub mod StepTags
+pub mod StepEnding
+pub mod StepsCounted
+pub mod StepsPast

@@ -1,0 +1,19 @@
+-- Inside of the proof the byte is read; past its end stands the default.
+use mathlib.Core.Path.{sym}
+use native.Mathlib.Omega.{arith}
+use borrow.Author.Needs.{needs}
+use lib.ListN.{List·getD-eq-default}
+use Rattle.steps.proofs.byte_or_zero.Statement.{statement}
+use Rattle.steps.proofs.byte_or_zero.Tie as tie
+
+shared-slice-read-result : tie.Need-shared-slice-read-result
+shared-slice-read-result c = search needs
+
+returns : tie.Need-returns
+returns c = search needs
+
+returns-2 : tie.Need-returns-2
+returns-2 c = sym (List·getD-eq-default (c .before .args .proof .now) 0 (omega arith))
+
+pub byte-or-zero-spec : {M : Type 1} → statement M
+byte-or-zero-spec = tie.close (tie.spec shared-slice-read-result returns returns-2)

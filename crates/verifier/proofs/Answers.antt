@@ -1,0 +1,208 @@
+-- What verify and the direct check answer, test by test: what is malformed stops before the walk, and the walk's own stop is the answer.
+use Prim.Native.Nat.{ℕ, _≤_, _<_}
+use native.Mathlib.Omega.{arith}
+use native.Mathlib.Decide.{decLe}
+use mathlib.Core.Path.{_≡_, refl, sym, ap, _∙_}
+use mathlib.Core.List.{List}
+use mathlib.Core.Option.{Option, some, none}
+use lib.ListN.{length}
+use Rattle.procap.specs.Times.{latest}
+use Rattle.procap.specs.Facts.{Spelled}
+use Rattle.procap.specs.Procaps.{empty-procap, procap-of}
+use Rattle.procap.specs.States.{stated}
+use Rattle.procap.specs.Desk.{read-press}
+use Rattle.procap.specs.Outcome.{Outcome, granted, refused, go-on, or-else, answer-of, procap-handed}
+use Rattle.procap.specs.declared.answer.Answer.{Answer}
+use Rattle.procap.specs.declared.answer.Answer.the-variants.{Granted, ProofMalformed, NoMomentLeft, StateMalformed, MomentAboveLatest}
+use Rattle.procap.specs.declared.procap.Request.{Request}
+use Rattle.procap.specs.declared.procap.Procap.{Procap}
+use Rattle.procap.proofs.Granted.{goes-on, is-so, is-not-so, reads-press}
+use Rattle.state.specs.Standing.{WellFormed}
+use Rattle.bl.specs.declared.Certificate.{Certificate}
+use Rattle.bl.specs.Trees.{Check}
+use Rattle.bl.specs.Certificates.{Statement, statements}
+use Rattle.bl.specs.Questions.{done}
+use Rattle.bl.specs.Steps.{proof-in}
+use Rattle.bl.specs.Walk.{walk}
+use Rattle.bl.specs.Readings.{start, office, press, run}
+use Rattle.bl.specs.Calls.{read-case, issue, verified, directly}
+use Rattle.bl.proofs.Called.{case-read}
+use Rattle.verifier.specs.declared.certificates.Certificates.{Certificates}
+use Rattle.ledger.specs.declared.Reading.{Reading}
+use Rattle.ledger.specs.declared.Reading.the-variants.{Office, Press}
+use Rattle.ledger.specs.declared.Stop.{Stop}
+use Rattle.ledger.specs.declared.Stop.the-variants.{Going, Stopped}
+use Rattle.ledger.specs.declared.Ledger.{Ledger}
+use Rattle.verifier.specs.declared.verify.Verified.{Verified}
+use Rattle.ledger.specs.Books.{Book, book, list-numbers, Sound, facts-in, kept-of, facts-said, reading-of, resume}
+use Rattle.ledger.proofs.Giving.{stop-refused, stop-going}
+use Rattle.verifier.specs.Verifying.{records-of, RowsAre, Walked, Stops, CaseReads, verified-case, checked-case, HandsOver}
+use Rattle.verifier.proofs.CertificateLaws.{statements-count}
+
+-- ── Outcomes that are handed over ──
+
+-- A refusal.
+pub hands-refusal : (o : Outcome Procap) (answer : Answer) (r : Verified) → o ≡ refused answer → r ≡ record { answer = answer; procap = empty-procap } → HandsOver o r
+unfolding answer-of procap-handed
+hands-refusal o answer r e f = rw e (record { answer = ap (λ x. x .answer) f; procap = ap (λ x. x .procap) f })
+
+-- A grant.
+pub hands-grant : (o : Outcome Procap) (p : Procap) (r : Verified) → o ≡ granted p → r .answer ≡ Granted → r .procap ≡ p → HandsOver o r
+unfolding answer-of procap-handed
+hands-grant o p r e f g = rw e (record { answer = f; procap = g })
+
+-- What goes on from a refusal is that refusal.
+refused-on : {A B : Type 0} (o : Outcome A) (f : A → Outcome B) (answer : Answer) → o ≡ refused answer → go-on o f ≡ refused answer
+unfolding go-on
+refused-on o f answer e = rw e refl
+
+-- What a stop says of its outcome.
+pub stopped-with : {A : Type 0} (o : Outcome A) (s : Stop) (answer : Answer) → s ≡ Stopped answer → Stops o s → o ≡ refused answer
+stopped-with o s answer e h = rw e at h
+
+pub went-with : {A : Type 0} (o : Outcome A) (s : Stop) → s ≡ Going → Stops o s → (a : A) × (o ≡ granted a)
+went-with o s e h = rw e at h
+
+-- ── The end ──
+
+module _ (r : Request) (l : Ledger) (list : List ℕ) (v : Verified) where
+  pub none-left : l .to < l .from → v ≡ record { answer = NoMomentLeft; procap = empty-procap } → HandsOver (issue r (kept-of (book l list))) v
+  unfolding issue kept-of
+  none-left e f = hands-refusal _ NoMomentLeft v (refused-on _ _ NoMomentLeft (is-not-so NoMomentLeft (decLe (l .from) (l .to)) (λ h. omega arith))) f
+
+  pub some-left : l .from ≤ l .to → v .answer ≡ Granted → v .procap ≡ procap-of r (l .from) (l .to) (facts-in list (l .count))
+      → HandsOver (issue r (kept-of (book l list))) v
+  unfolding issue kept-of
+  some-left h e f = hands-grant _ _ v (goes-on _ _ tt (is-so NoMomentLeft (decLe (l .from) (l .to)) h)) e f
+
+-- ── What is malformed ──
+
+-- A proof that does not read, and one that does.
+pub no-proof : (c : ℕ) (proof : List ℕ) → ((N : Check) × (proof-in c proof ≡ some N) → ⊥) → or-else ProofMalformed (proof-in c proof) ≡ refused ProofMalformed
+unfolding or-else
+no-proof c proof n = by (proof-in c proof) refl
+  where
+    by : (o : Option Check) → proof-in c proof ≡ o → or-else ProofMalformed o ≡ refused ProofMalformed
+    by none e = refl
+    by (some N) e = absurd (n (N, e))
+
+pub a-proof : (c : ℕ) (proof : List ℕ) (N : Check) → proof-in c proof ≡ some N → or-else ProofMalformed (proof-in c proof) ≡ granted N
+unfolding or-else
+a-proof c proof N e = rw e refl
+
+module _ (records : List Certificate) (buffer proof : List ℕ) where
+  pub certificate-stops : (answer : Answer) → statements buffer records ≡ refused answer → read-case records buffer proof ≡ refused answer
+  unfolding read-case
+  certificate-stops answer e = refused-on _ _ answer e
+
+  -- Where the certificates are well formed, the proof decides.
+  pub proof-decides : (cs : List Statement) (c : ℕ) (s : Stop) → statements buffer records ≡ granted cs → length records ≡ c
+      → Stops (or-else ProofMalformed (proof-in c proof)) s → Stops (read-case records buffer proof) s
+  unfolding read-case
+  proof-decides cs c Going e l (N, h) = ((cs, N), goes-on _ _ cs e ∙ goes-on _ _ N (rw (← l) at h))
+  proof-decides cs c (Stopped answer) e l h = goes-on _ _ cs e ∙ refused-on _ _ answer (rw (← l) at h)
+
+-- ── The calls ──
+
+module _ (r : Request) (records : List Certificate) (buffer proof : List ℕ) where
+  -- A case that reads, in the words of the calls.
+  pub reads-so : (x : List Statement × Check) → read-case records buffer proof ≡ granted x → CaseReads records buffer proof (x .0) (x .1)
+  reads-so x e = case-read r records buffer proof (x .0) (x .1) e (λ e₁ e₂. record { certificates-read = e₁; proof-reads = e₂ })
+
+  module _ (v : Verified) where
+    abbrev Answered : Type 0
+    Answered = (v .answer ≡ answer-of (verified r records buffer proof)) × (v .procap ≡ procap-handed (verified r records buffer proof))
+
+    both : HandsOver (verified r records buffer proof) v → Answered
+    both h = (h .answer, h .procap)
+
+    pub verify-stops : (answer : Answer) → read-case records buffer proof ≡ refused answer → v ≡ record { answer = answer; procap = empty-procap } → Answered
+    unfolding verified
+    verify-stops answer e f = both (hands-refusal _ answer v (refused-on _ _ answer e) f)
+
+    pub verify-goes-on : (x : List Statement × Check) → read-case records buffer proof ≡ granted x
+        → ((cs : List Statement) (N : Check) → CaseReads records buffer proof cs N → HandsOver (verified-case r cs N) v) → Answered
+    unfolding verified verified-case
+    verify-goes-on x e k = both (rw (goes-on (read-case records buffer proof) (λ y. verified-case r (y .0) (y .1)) x e) (k (x .0) (x .1) (reads-so x e)))
+
+  module _ (m : ℕ) (state : List ℕ) (a : Answer) where
+    pub direct-stops : read-case records buffer proof ≡ refused a → a ≡ answer-of (directly r records buffer proof m state)
+    unfolding directly checked-case answer-of
+    direct-stops e = sym (ap answer-of (refused-on (read-case records buffer proof) (λ y. checked-case r (y .0) (y .1) m state) a e))
+
+    pub direct-goes-on : (x : List Statement × Check) → read-case records buffer proof ≡ granted x
+        → ((cs : List Statement) (N : Check) → CaseReads records buffer proof cs N → a ≡ answer-of (checked-case r cs N m state))
+        → a ≡ answer-of (directly r records buffer proof m state)
+    unfolding directly checked-case
+    direct-goes-on x e k = k (x .0) (x .1) (reads-so x e) ∙ sym (ap answer-of (goes-on (read-case records buffer proof) (λ y. checked-case r (y .0) (y .1) m state) x e))
+
+-- ── The walk's end ──
+
+-- A book that has stopped is refused with its answer, one that goes on is granted what it keeps.
+resume-stopped : (state : List ℕ) (b : Book) (answer : Answer) → b .ledger .stop ≡ Stopped answer → resume state b (done (tt {0})) ≡ refused answer
+unfolding resume
+resume-stopped state b answer e = stop-refused _ answer _ e
+
+resume-going : (state : List ℕ) (b : Book) → b .ledger .stop ≡ Going → resume state b (done (tt {0})) ≡ granted (tt, kept-of b)
+unfolding resume run
+resume-going state b e = stop-going _ _ e
+
+module _ (r : Request) (records : Certificates) (buffer proof state rows : List ℕ) (reading : Reading) (list : List ℕ) (l : Ledger) (list′ : List ℕ)
+    (room : length list ≡ list-numbers) (rows-are : RowsAre records rows) (walked : Walked r buffer proof state rows reading list l list′)
+    (cs : List Statement) (N : Check) (reads : CaseReads (records-of records) buffer proof cs N) where
+  came : Sound (book l list′) × (resume state (book l list′) (done (tt {0})) ≡ run (reading-of state reading) (walk r cs N) start)
+  came = walked cs N room (rows-are buffer cs (reads .certificates-read)) (rw (statements-count buffer (records-of records) cs (reads .certificates-read)) (reads .proof-reads))
+
+  walk-stopped : (answer : Answer) → l .stop ≡ Stopped answer → run (reading-of state reading) (walk r cs N) start ≡ refused answer
+  walk-stopped answer e = sym (came .1) ∙ resume-stopped state (book l list′) answer e
+
+  walk-done : l .stop ≡ Going → run (reading-of state reading) (walk r cs N) start ≡ granted (tt, kept-of (book l list′))
+  walk-done e = sym (came .1) ∙ resume-going state (book l list′) e
+
+  module _ (at-office : reading ≡ Office) (v : Verified) where
+    office-run : run (reading-of state reading) (walk r cs N) start ≡ run office (walk r cs N) start
+    unfolding reading-of
+    office-run = rw at-office refl
+
+    pub verify-stopped : (answer : Answer) → l .stop ≡ Stopped answer → v ≡ record { answer = answer; procap = empty-procap } → HandsOver (verified-case r cs N) v
+    unfolding verified-case
+    verify-stopped answer e f = hands-refusal _ answer v (refused-on _ _ answer (sym office-run ∙ walk-stopped answer e)) f
+
+    pub verify-issued : l .stop ≡ Going → (Sound (book l list′) → HandsOver (issue r (kept-of (book l list′))) v) → HandsOver (verified-case r cs N) v
+    unfolding verified-case
+    verify-issued e k =
+        rw (goes-on (run office (walk r cs N) start) (λ w. issue r (w .1)) (tt, kept-of (book l list′)) (sym office-run ∙ walk-done e)) (k (came .0))
+
+  module _ (m : ℕ) (at-press : reading ≡ Press m) (in-range : m ≤ latest) (σ : List Spelled) (says : stated state ≡ some σ) where
+    press-run : run (reading-of state reading) (walk r cs N) start ≡ run (press m σ) (walk r cs N) start
+    unfolding reading-of facts-said
+    press-run = rw (at-press, says) refl
+
+    press-reads : read-press m state ≡ granted σ
+    press-reads = reads-press m state σ in-range says
+
+    pub check-stopped : (a : Answer) → l .stop ≡ Stopped a → a ≡ answer-of (checked-case r cs N m state)
+    unfolding checked-case answer-of
+    check-stopped a e =
+        sym (ap answer-of (goes-on (read-press m state) (λ σ′. go-on (run (press m σ′) (walk r cs N) start) (λ w. granted (w .0))) σ press-reads
+        ∙ refused-on (run (press m σ) (walk r cs N) start) (λ w. granted (w .0)) a (sym press-run ∙ walk-stopped a e)))
+
+    pub check-accepted : l .stop ≡ Going → Granted ≡ answer-of (checked-case r cs N m state)
+    unfolding checked-case answer-of
+    check-accepted e =
+        sym (ap answer-of (goes-on (read-press m state) (λ σ′. go-on (run (press m σ′) (walk r cs N) start) (λ w. granted (w .0))) σ press-reads
+        ∙ goes-on (run (press m σ) (walk r cs N) start) (λ w. granted (w .0)) (tt, kept-of (book l list′)) (sym press-run ∙ walk-done e)))
+
+module _ (r : Request) (cs : List Statement) (N : Check) (m : ℕ) (state : List ℕ) where
+  pub moment-above : latest < m → MomentAboveLatest ≡ answer-of (checked-case r cs N m state)
+  unfolding checked-case read-press go-on answer-of
+  moment-above h = rw (is-not-so MomentAboveLatest (decLe m latest) (λ k. omega arith)) refl
+
+  pub state-says-nothing : m ≤ latest → (WellFormed state → ⊥) → StateMalformed ≡ answer-of (checked-case r cs N m state)
+  unfolding checked-case read-press go-on or-else answer-of
+  state-says-nothing h n = rw (is-so MomentAboveLatest (decLe m latest) h) (by (stated state) refl)
+    where
+      by : (o : Option (List Spelled)) → stated state ≡ o
+          → StateMalformed ≡ answer-of (go-on (or-else StateMalformed o) (λ σ. go-on (run (press m σ) (walk r cs N) start) (λ w. granted (w .0))))
+      by none e = refl
+      by (some σ) e = absurd (n (σ, e))

@@ -1,0 +1,282 @@
+-- Laws of certificate records: what a well formed one says, which is the first malformed one of a list, and what the rows of all of them certify.
+use Prim.Native.Nat.{ℕ, zero, suc, _+_, _-_, _≤_, _<_}
+use mathlib.Core.Bool.{Bool, true, false, not, _&&_, false≢true}
+use mathlib.Core.Path.{_≡_, refl, sym, ap, _∙_}
+use mathlib.Core.List.{List, [], _∷_}
+use mathlib.Core.Option.{Option, some, none, Option·none-ne-some}
+use native.Mathlib.Nat.{add-zero, zero-add, add-suc, suc-add}
+use native.Mathlib.Omega.{arith}
+use borrow.Author.Tests.{leb-true, le-leb, lt-leb, not-true, not-false}
+use borrow.Author.Count.{below-more}
+use lib.ListN.{length, getD, take, drop, length-take, length-append, length-replicate, List·getD-append}
+use lib.Seq.{getD-take}
+use lib.Dec.{leb}
+use Rattle.procap.specs.Lists.{nth, pad}
+use Rattle.procap.specs.Tells.{Tells}
+use Rattle.procap.specs.Outcome.{Outcome, granted, refused, go-on}
+use Rattle.procap.specs.declared.answer.Answer.the-variants.{CertificateMalformed}
+use Rattle.procap.proofs.Telling.{tells-by, picked}
+use Rattle.procap.proofs.Granted.{same-grant, no-grant, went-on}
+use Rattle.bl.specs.declared.Certificate.{Certificate}
+use Rattle.bl.specs.Trees.{Formula}
+use Rattle.bl.specs.Formulas.{most-formula-levels, formula-in}
+use Rattle.bl.specs.Certificates.{Statement, most-certificates, most-part-bytes, fixed-time, part-of, formula-of, statement-by, statement-of, and-then, statements-from, statements}
+use Rattle.verifier.specs.declared.certificates.Certificates.{Certificates}
+use Rattle.verifier.specs.declared.rows.Row.{Row}
+use Rattle.formula.specs.PutIn.{terms-numbers, terms-of, stack}
+use Rattle.verifier.specs.RowsOf.{row-in, most-rows, all-numbers, Certifies}
+use Rattle.verifier.specs.Verifying.{no-record, records-of, row-of, WellFormedRecord, RowsAre}
+use Rattle.formula.proofs.Filling.{fill-nothing}
+use Rattle.formula.proofs.Shifted.{formula-in-shifted}
+
+-- ── One record ──
+
+-- A conjunction that is true is so on both sides.
+both-true : (s t : Bool) → (s && t) ≡ true → (s ≡ true) × (t ≡ true)
+both-true true t e = (refl, e)
+both-true false t e = absurd (false≢true e)
+
+-- The formula of a part was found in it, and the statement of a record has its formula.
+formula-found : {C : Type 0} (o : Option (List ℕ)) (A : Formula) → formula-of o ≡ some A → ((part : List ℕ) → o ≡ some part → formula-in part ≡ some A → C) → C
+unfolding formula-of
+formula-found none A e k = absurd (Option·none-ne-some A e)
+formula-found (some part) A e k = k part refl e
+
+-- The statement of a record with this formula.
+abbrev stating : Certificate → Formula → Statement
+stating c A = record { by = c .principal; says = A; from = c .from; to = c .to }
+
+stating-found : {C : Type 0} (c : Certificate) (o : Option Formula) (s : Statement) → statement-by c o ≡ some s
+    → ((A : Formula) → o ≡ some A → stating c A ≡ s → C) → C
+unfolding statement-by
+stating-found c none s e k = absurd (Option·none-ne-some s e)
+stating-found c (some A) s e k = k A refl (cc)
+
+-- What makes a record well formed, with the formula that its part holds.
+pub record Stands (buffer : List ℕ) (c : Certificate) (A : Formula) : Type 0 where
+  pub from : fixed-time (c .from) ≡ true
+  pub to : fixed-time (c .to) ≡ true
+  pub inside : c .start + c .length ≤ length buffer
+  pub short : c .length ≤ most-part-bytes
+  pub reads : formula-in (take (c .length) (drop (c .start) buffer)) ≡ some A
+
+module _ (buffer : List ℕ) (c : Certificate) where
+  -- A record that states something stands, and states its formula.
+  stands-where : {C : Type 0} (s : Statement) → statement-of buffer c ≡ some s → ((A : Formula) → Stands buffer c A → stating c A ≡ s → C) → C
+  unfolding statement-of part-of
+  stands-where s e k =
+      picked (fixed-time (c .from) && fixed-time (c .to)) (statement-by c (formula-of (part-of buffer c))) none (some s) (Option·none-ne-some s) e λ times e₁.
+      stating-found c (formula-of (part-of buffer c)) s e₁ λ A e₂ says.
+      formula-found (part-of buffer c) A e₂ λ part e₃ e₄.
+      picked (leb (c .start + c .length) (length buffer) && leb (c .length) most-part-bytes) (some (take (c .length) (drop (c .start) buffer))) none (some part)
+      (Option·none-ne-some part) e₃ λ places e₅.
+      let ends = both-true _ _ times in
+      let bounds = both-true (leb (c .start + c .length) (length buffer)) _ places in
+      k A
+      (record {
+        from = ends .0;
+        to = ends .1;
+        inside = leb-true _ _ (bounds .0);
+        short = leb-true _ _ (bounds .1);
+        reads = cc;
+      })
+      says
+
+  pub stands : WellFormedRecord buffer c → (A : Formula) × Stands buffer c A
+  stands (s, e) = stands-where s e λ A h says. (A, h)
+
+  -- A record that stands states its formula.
+  states : (A : Formula) → Stands buffer c A → WellFormedRecord buffer c
+  unfolding statement-of part-of formula-of statement-by
+  states A h = (stating c A, rw (h .from, h .to, le-leb _ _ (h .inside), le-leb _ _ (h .short), h .reads))
+
+  -- Where all else is as it should be, it is well formed if its part holds a formula.
+  pub well-formed-by : (b : Bool) → fixed-time (c .from) ≡ true → fixed-time (c .to) ≡ true → c .start + c .length ≤ length buffer → c .length ≤ most-part-bytes
+      → Tells b ((A : Formula) × (formula-in (take (c .start + c .length - c .start) (drop (c .start) buffer)) ≡ some A)) → Tells b (WellFormedRecord buffer c)
+  well-formed-by b from to inside short found =
+      let size : c .start + c .length - c .start ≡ c .length = omega arith in
+      tells-by b
+      (λ (A, e). states A (record { from = from; to = to; inside = inside; short = short; reads = e }))
+      (λ w. let (A, h) = stands w in (A, h .reads))
+      (rw size at found)
+
+-- A flag that was tested, and the definition that it follows.
+module _ {b t : Bool} (e : b ≡ t) where
+  pub refuted : not b ≡ true → t ≡ true → ⊥
+  refuted n h = false≢true (sym (not-true b n) ∙ e ∙ h)
+
+  pub agreed : not b ≡ false → t ≡ true
+  agreed n = sym e ∙ not-false b n
+
+-- ── Records in a row ──
+
+-- One statement more: it and the others were granted, or the record or one of the others is malformed.
+one-more : {C : Type 0} (i : ℕ) (o : Option Statement) (rest : Outcome (List Statement)) (ss : List Statement) → and-then i o rest ≡ granted ss
+    → ((s : Statement) (others : List Statement) → o ≡ some s → rest ≡ granted others → ss ≡ s ∷ others → C) → C
+unfolding and-then
+one-more i none rest ss e k = no-grant e
+one-more i (some s) rest ss e k = went-on rest (λ others. granted (s ∷ others)) ss e λ others e₁ e₂. k s others refl e₁ (sym (same-grant e₂))
+
+module _ (buffer : List ℕ) where
+  -- Where all are well formed, all is granted.
+  all-granted : (i : ℕ) (cs : List Certificate) → ((k : ℕ) → k < length cs → WellFormedRecord buffer (getD cs k no-record))
+      → (ss : List Statement) × (statements-from buffer i cs ≡ granted ss)
+  unfolding statements-from and-then go-on
+  all-granted i [] h = ([], refl)
+  all-granted i (c ∷ cs) h =
+      let (s, e) = h 0 (omega arith) in
+      let (ss, f) = all-granted (suc i) cs (λ k l. h (suc k) (omega arith)) in
+      (s ∷ ss, rw (e, f) refl)
+
+  -- The first malformed one refuses.
+  first-refuses : (i n : ℕ) (cs : List Certificate) → n < length cs → ((k : ℕ) → k < n → WellFormedRecord buffer (getD cs k no-record))
+      → (WellFormedRecord buffer (getD cs n no-record) → ⊥) → statements-from buffer i cs ≡ refused (CertificateMalformed (i + n))
+  unfolding statements-from and-then go-on
+  first-refuses i n [] l h bad = absurd (omega arith)
+  first-refuses i zero (c ∷ cs) l h bad = rw add-zero (malformed (statement-of buffer c) bad)
+    where
+      malformed : (o : Option Statement) → ((s : Statement) × (o ≡ some s) → ⊥)
+          → and-then i o (statements-from buffer (suc i) cs) ≡ refused (CertificateMalformed i)
+      malformed none n = refl
+      malformed (some s) n = absurd (n (s, refl))
+  first-refuses i (suc n) (c ∷ cs) l h bad =
+      let (s, e) = h 0 (omega arith) in
+      rw (e, first-refuses (suc i) n cs (omega arith) (λ k l. h (suc k) (omega arith)) bad, add-suc, suc-add) refl
+
+  -- Where all is granted, there is a statement for each record.
+  record Each (cs : List Certificate) (ss : List Statement) : Type 0 where
+    as-many : length ss ≡ length cs
+    stated : (k : ℕ) (s : Statement) → nth ss k ≡ some s → (k < length cs) × (statement-of buffer (getD cs k no-record) ≡ some s)
+
+  each-granted : (i : ℕ) (cs : List Certificate) (ss : List Statement) → statements-from buffer i cs ≡ granted ss → Each cs ss
+  unfolding statements-from nth
+  each-granted i [] ss e = rw (← same-grant e) (record { as-many = refl; stated = λ k s h. absurd (Option·none-ne-some s h) })
+  each-granted i (c ∷ cs) ss e =
+      one-more i (statement-of buffer c) (statements-from buffer (suc i) cs) ss e λ s others e₁ e₂ f.
+      let rest = each-granted (suc i) cs others e₂ in
+      rw f
+      (record {
+        as-many = ap suc (rest .as-many);
+        stated = λ k. elim k [ zero ↦ λ t h. (omega arith, e₁ ∙ h) | suc k ↦ λ t h. (let r = rest .stated k t h in (omega arith, r .1)) ];
+      })
+
+-- ── The records handed over ──
+
+-- There are as many as the count says.
+pub records-count : (cs : Certificates) → length (records-of cs) ≡ cs .count
+unfolding records-of pad
+records-count cs = simp (length-take, length-append, length-replicate) (omega arith)
+
+-- Below the count and inside of the array stand the records of the array.
+record-at : (cs : Certificates) (k : ℕ) → k < cs .count → k < length (cs .records)
+    → getD (records-of cs) k no-record ≡ getD (cs .records) k no-record
+unfolding records-of pad
+record-at cs k l m = getD-take (cs .count) _ k no-record l ∙ List·getD-append (cs .records) _ no-record k m
+
+module _ (buffer : List ℕ) (cs : Certificates) where
+  -- Too many are refused.
+  pub too-many : most-certificates < cs .count → statements buffer (records-of cs) ≡ refused (CertificateMalformed 0)
+  unfolding statements
+  too-many many = rw (records-count cs, lt-leb (cs .count) most-certificates many)
+
+  -- Few are read in a row.
+  few-read : cs .count ≤ most-certificates → statements buffer (records-of cs) ≡ statements-from buffer 0 (records-of cs)
+  unfolding statements
+  few-read few = rw (records-count cs, le-leb (cs .count) most-certificates few)
+
+  module _ (room : length (cs .records) ≡ most-certificates) where
+    -- Records of the array that are well formed are so among those handed over.
+    handed-over : (n : ℕ) → n ≤ cs .count → n ≤ most-certificates → ((k : ℕ) → k < n → WellFormedRecord buffer (getD (cs .records) k no-record))
+        → (k : ℕ) → k < n → WellFormedRecord buffer (getD (records-of cs) k no-record)
+    handed-over n l m h k b = rw (record-at cs k (omega arith) (omega arith)) (h k b)
+
+    module _ (few : cs .count ≤ most-certificates) where
+      pub none-malformed : ((k : ℕ) → k < cs .count → WellFormedRecord buffer (getD (cs .records) k no-record))
+          → (ss : List Statement) × (statements buffer (records-of cs) ≡ granted ss)
+      none-malformed h =
+          let (ss, e) = all-granted buffer 0 (records-of cs) (λ k l. handed-over (cs .count) (omega arith) few h k (omega (arith, records-count cs))) in
+          (ss, few-read few ∙ e)
+
+      pub malformed-at : (n : ℕ) → n < cs .count → ((k : ℕ) → k < n → WellFormedRecord buffer (getD (cs .records) k no-record))
+          → (WellFormedRecord buffer (getD (cs .records) n no-record) → ⊥) → statements buffer (records-of cs) ≡ refused (CertificateMalformed n)
+      malformed-at n l h bad =
+          few-read few
+          ∙ first-refuses buffer 0 n (records-of cs) (omega (arith, records-count cs)) (handed-over n (omega arith) (omega arith) h)
+          (λ w. bad (rw (record-at cs n l (omega arith)) at w))
+          ∙ ap (λ k. refused (CertificateMalformed k)) (zero-add n)
+
+-- ── The rows of the records ──
+
+-- The row of a record that stands certifies what it states.
+row-certifies : (buffer : List ℕ) (c : Certificate) (s : Statement) → statement-of buffer c ≡ some s → Certifies buffer (row-of c) s
+unfolding terms-of stack
+row-certifies buffer c s e =
+    stands-where buffer c s e λ A h says.
+    rw (← says)
+    (record {
+      whose = refl;
+      on = record {
+        means = record {
+          level = most-formula-levels;
+          low = omega arith;
+          sorts = [];
+          as-many = refl;
+          few = record { few = omega arith; room = refl };
+          tree = A;
+          end = c .start + c .length;
+          reads = formula-in-shifted buffer (c .start) (c .length) (h .inside) A (h .reads);
+          filled = fill-nothing 0 A;
+        };
+        from = refl;
+        to = refl;
+      };
+    })
+
+-- What is granted has few records, and is read in a row.
+granted-few : {C : Type 0} (buffer : List ℕ) (cs : List Certificate) (ss : List Statement) → statements buffer cs ≡ granted ss
+    → (length cs ≤ most-certificates → statements-from buffer 0 cs ≡ granted ss → C) → C
+unfolding statements
+granted-few buffer cs ss e k =
+    picked (leb (length cs) most-certificates) (statements-from buffer 0 cs) (refused (CertificateMalformed 0)) (granted ss) no-grant e λ l f.
+    k (leb-true _ _ l) f
+
+-- There are as many statements as records.
+pub statements-count : (buffer : List ℕ) (cs : List Certificate) (ss : List Statement) → statements buffer cs ≡ granted ss → length ss ≡ length cs
+statements-count buffer cs ss e = granted-few buffer cs ss e λ few e₁. each-granted buffer 0 cs ss e₁ .as-many
+
+-- The rows below an index are those of the records.
+pub record RowsPut (cs : Certificates) (rows : List ℕ) (i : ℕ) : Type 0 where
+  pub room : length rows ≡ all-numbers
+  pub below : (k : ℕ) → k < i → k < cs .count → row-in rows k ≡ row-of (getD (cs .records) k no-record)
+
+module _ {cs : Certificates} {rows : List ℕ} where
+  pub no-rows-put : length rows ≡ all-numbers → RowsPut cs rows 0
+  no-rows-put e = record { room = e; below = λ k l. absurd (omega arith) }
+
+  -- One row more, or none where no record is left.
+  module _ {i : ℕ} (h : RowsPut cs rows i) where
+    pub one-row-put : {after : List ℕ} {row : Row} → length after ≡ length rows → row ≡ row-of (getD (cs .records) i no-record)
+        → (length (row .judgement .formula .terms .numbers) ≡ terms-numbers → row-in after i ≡ row)
+        → ((k : ℕ) → (k ≡ i → ⊥) → row-in after k ≡ row-in rows k) → RowsPut cs after (i + 1)
+    one-row-put kept e there others = record {
+      room = kept ∙ h .room;
+      below = below-more _ i (λ k b m. others k (omega arith) ∙ h .below k b m) (λ m. there (ap (λ r. length (r .judgement .formula .terms .numbers)) e) ∙ e);
+    }
+
+    pub no-row-put : cs .count ≤ i → RowsPut cs rows (i + 1)
+    no-row-put end = record { room = h .room; below = below-more _ i (h .below) (λ m. absurd (omega arith)) }
+
+-- All rows are what the records state.
+pub rows-certified : (cs : Certificates) (rows : List ℕ) → length (cs .records) ≡ most-rows → {i : ℕ} → most-rows ≤ i → RowsPut cs rows i
+    → RowsAre cs rows
+rows-certified cs rows room end h buffer ss e =
+    granted-few buffer (records-of cs) ss e λ few e₁.
+    let count = records-count cs in
+    let all = each-granted buffer 0 (records-of cs) ss e₁ in
+    record {
+      few = omega (arith, all .as-many);
+      each = λ k s there.
+          let (inside, states) = all .stated k s there in
+          let row = h .below k (omega arith) (omega arith) ∙ ap row-of (sym (record-at cs k (omega arith) (omega arith))) in
+          rw row (row-certifies buffer (getD (records-of cs) k no-record) s states);
+    }

@@ -1,0 +1,124 @@
+// The certificate records: whether each is well formed, and their rows.
+use crate::rows::ALL_NUMBERS;
+use crate::rows::MOST_ROWS;
+use crate::rows::Row;
+use crate::rows::Whose;
+use crate::rows::put_row;
+use bl::Certificate;
+use formula::ends::holds_formula;
+use formula::parts::FormulaAt;
+use formula::parts::Judgement;
+use formula::terms::Terms;
+use ledger::Stop;
+use procap::answer::Answer;
+use procap::time::LATEST_SECOND;
+use procap::time::Time;
+ghost use mathlib.Core.Path.{_≡_};
+ghost use Rattle.procap.specs.Tells.{Tells};
+ghost use Rattle.bl.specs.Certificates.{statements, «fixed-time»};
+ghost use Rattle.verifier.specs.Verifying.{«records-of», «row-of», WellFormedRecord, RowsAre, Stops};
+
+// How many bytes a part may have.
+pub const MOST_PART_BYTES: usize = 256;
+
+// Certificate records by value: the first `count` of them.
+pub struct Certificates {
+    pub count: usize,
+    pub records: [Certificate; MOST_ROWS],
+}
+
+// Whether to go on: the first malformed record stops.
+pub(crate) fn first_malformed(certificates: Certificates, buffer: &[u8]) -> Stop
+    ensures { λ r. ⌜ Stops (statements (now (buffer .entry)) («records-of» certificates)) r ⌝ }
+{
+    let count = certificates.count;
+    if MOST_ROWS < count {
+        return Stop::Stopped(Answer::CertificateMalformed(0));
+    }
+    let mut i: usize = 0;
+    while i < count {
+        let record = certificates.records[i];
+        if !well_formed(record, buffer) {
+            return Stop::Stopped(Answer::CertificateMalformed(i));
+        }
+        i += 1;
+    }
+    Stop::Going
+}
+
+// Whether a record is well formed.
+fn well_formed(certificate: Certificate, buffer: &[u8]) -> bool
+    ensures { λ r. ⌜ Tells r (WellFormedRecord (now (buffer .entry)) certificate) ⌝ }
+{
+    let from = certificate.from;
+    let to = certificate.to;
+    if !may_stand(from) {
+        return false;
+    }
+    if !may_stand(to) {
+        return false;
+    }
+    let start = certificate.start;
+    let length = certificate.length;
+    if MOST_PART_BYTES < length {
+        return false;
+    }
+    if buffer.len() < start {
+        return false;
+    }
+    if buffer.len() - start < length {
+        return false;
+    }
+    holds_formula(&buffer[start..start + length])
+}
+
+// Whether a time may stand in a record: no ctime, no moment above the latest.
+fn may_stand(time: Time) -> bool
+    ensures { λ r. ⌜ r ≡ «fixed-time» time ⌝ }
+{
+    match time {
+        Time::Moment(second) => second <= LATEST_SECOND,
+        Time::MinusInfinity => true,
+        Time::PlusInfinity => true,
+        Time::Ctime => false,
+    }
+}
+
+// The rows of the records.
+pub(crate) fn rows_of(certificates: Certificates) -> [u64; ALL_NUMBERS]
+    ensures { λ r. ⌜ RowsAre certificates r ⌝ }
+{
+    let count = certificates.count;
+    let mut rows = [0u64; ALL_NUMBERS];
+    let mut i: usize = 0;
+    while i < MOST_ROWS {
+        if i < count {
+            let record = certificates.records[i];
+            put_row(&mut rows, i, row_of(record));
+        }
+        i += 1;
+    }
+    rows
+}
+
+// The row of one record: a claim of its principal.
+fn row_of(certificate: Certificate) -> Row
+    ensures { λ r. ⌜ r ≡ «row-of» certificate ⌝ }
+{
+    let from = certificate.from;
+    let to = certificate.to;
+    let terms = Terms::none();
+    let formula = FormulaAt {
+        at: certificate.start,
+        terms: terms,
+    };
+    let judgement = Judgement {
+        formula: formula,
+        from: from,
+        to: to,
+    };
+    Row {
+        whose: Whose::Claim(certificate.principal as u64),
+        judgement: judgement,
+    }
+}

@@ -1,0 +1,256 @@
+// Verify, and the direct check.
+use crate::certificates::Certificates;
+use crate::certificates::first_malformed;
+use crate::certificates::rows_of;
+use crate::judge::Scope;
+use crate::judge::View;
+use crate::walk::check;
+use formula::parts::FormulaAt;
+use formula::parts::Judgement;
+use formula::terms::Terms;
+use ledger::LIST_NUMBERS;
+use ledger::Ledger;
+use ledger::Reading;
+use ledger::Stop;
+use ledger::procap_of;
+use procap::answer::Answer;
+use procap::procap::Procap;
+use procap::procap::Request;
+use procap::time::LATEST_SECOND;
+use procap::time::Time;
+use steps::MOST_PROOF_LEVELS;
+ghost use mathlib.Core.Path.{_≡_};
+ghost use mathlib.Core.List.{List};
+ghost use Rattle.procap.specs.Procaps.{«empty-procap»};
+ghost use Rattle.procap.specs.Outcome.{«answer-of», «procap-handed», «or-else»};
+ghost use Rattle.bl.specs.Trees.{Check};
+ghost use Rattle.bl.specs.Certificates.{Statement};
+ghost use Rattle.bl.specs.Steps.{«proof-in»};
+ghost use Rattle.bl.specs.Rules.{goal};
+ghost use Rattle.bl.specs.Calls.{verified, directly, «read-case», issue};
+ghost use Rattle.ledger.specs.Books.{book, Sound, «kept-of»};
+ghost use Rattle.formula.specs.PutIn.{«no-terms»};
+ghost use Rattle.formula.specs.Meaning.{Means};
+ghost use Rattle.verifier.specs.Verifying.{«records-of», Walked, Stops, CaseReads, HandsOver, «verified-case», «checked-case»};
+
+// How many bytes the goal of a request takes.
+pub const GOAL_BYTES: usize = 17;
+
+// What verify answers, and the procap that it hands over.
+pub struct Verified {
+    pub answer: Answer,
+    pub procap: Procap,
+}
+
+// Whether the proof shows the request from the certificates, and the procap for it.
+pub fn verify(request: Request, certificates: Certificates, buffer: &[u8], proof: &[u8]) -> Verified
+    ensures answer { λ r. ⌜ r .answer ≡ «answer-of» (verified request («records-of» certificates) (now (buffer .entry)) (now (proof .entry))) ⌝ }
+    ensures procap { λ r. ⌜ r .procap ≡ «procap-handed» (verified request («records-of» certificates) (now (buffer .entry)) (now (proof .entry))) ⌝ }
+{
+    match malformed(certificates, buffer, proof) {
+        Stop::Stopped(answer) => refused(answer),
+        Stop::Going => verify_case(request, certificates, buffer, proof),
+    }
+}
+
+// What verify answers to certificates and a proof that are well formed.
+fn verify_case(
+    request: Request,
+    certificates: Certificates,
+    buffer: &[u8],
+    proof: &[u8],
+) -> Verified
+    ensures { λ r. ⌜ ((cs : List Statement) (N : Check) → CaseReads («records-of» certificates) (now (buffer .entry)) (now (proof .entry)) cs N → HandsOver («verified-case» request cs N) r) ⌝ }
+{
+    let mut facts = [0u64; LIST_NUMBERS];
+    let rows = rows_of(certificates);
+    let ledger = walked(
+        request,
+        buffer,
+        proof,
+        b"",
+        &rows,
+        &mut facts,
+        Reading::Office,
+    );
+    let stop = ledger.stop;
+    match stop {
+        Stop::Stopped(answer) => refused(answer),
+        Stop::Going => issued(request, ledger, &facts),
+    }
+}
+
+// The procap of what is kept, unless no moment is left.
+fn issued(request: Request, ledger: Ledger, facts: &[u64]) -> Verified
+    ensures { λ r. ⌜ (Sound (book ledger (now (facts .entry))) → HandsOver (issue request («kept-of» (book ledger (now (facts .entry))))) r) ⌝ }
+{
+    if ledger.to < ledger.from {
+        return refused(Answer::NoMomentLeft);
+    }
+    Verified {
+        answer: Answer::Granted,
+        procap: procap_of(request, ledger, facts),
+    }
+}
+
+// A refusal hands over the empty procap.
+fn refused(answer: Answer) -> Verified
+    ensures { λ r. ⌜ r ≡ record { answer = answer; procap = «empty-procap» } ⌝ }
+{
+    Verified {
+        answer: answer,
+        procap: Procap::empty(),
+    }
+}
+
+// Whether the proof, checked at a moment in a state, is accepted there.
+pub fn direct(
+    request: Request,
+    certificates: Certificates,
+    buffer: &[u8],
+    proof: &[u8],
+    moment: u64,
+    state: &[u8],
+) -> Answer
+    ensures { λ r. ⌜ r ≡ «answer-of» (directly request («records-of» certificates) (now (buffer .entry)) (now (proof .entry)) moment (now (state .entry))) ⌝ }
+{
+    match malformed(certificates, buffer, proof) {
+        Stop::Stopped(answer) => answer,
+        Stop::Going => check_case(request, certificates, buffer, proof, moment, state),
+    }
+}
+
+// What the direct check answers to certificates and a proof that are well formed.
+fn check_case(
+    request: Request,
+    certificates: Certificates,
+    buffer: &[u8],
+    proof: &[u8],
+    moment: u64,
+    state: &[u8],
+) -> Answer
+    ensures { λ r. ⌜ ((cs : List Statement) (N : Check) → CaseReads («records-of» certificates) (now (buffer .entry)) (now (proof .entry)) cs N → r ≡ «answer-of» («checked-case» request cs N moment (now (state .entry)))) ⌝ }
+{
+    if LATEST_SECOND < moment {
+        return Answer::MomentAboveLatest;
+    }
+    if !state::well_formed(state) {
+        return Answer::StateMalformed;
+    }
+    let mut facts = [0u64; LIST_NUMBERS];
+    let rows = rows_of(certificates);
+    let ledger = walked(
+        request,
+        buffer,
+        proof,
+        state,
+        &rows,
+        &mut facts,
+        Reading::Press(moment),
+    );
+    let stop = ledger.stop;
+    match stop {
+        Stop::Stopped(answer) => answer,
+        Stop::Going => Answer::Granted,
+    }
+}
+
+// Whether to go on: what is malformed stops, the first certificate before the proof.
+fn malformed(certificates: Certificates, buffer: &[u8], proof: &[u8]) -> Stop
+    ensures { λ r. ⌜ Stops («read-case» («records-of» certificates) (now (buffer .entry)) (now (proof .entry))) r ⌝ }
+{
+    match first_malformed(certificates, buffer) {
+        Stop::Stopped(answer) => Stop::Stopped(answer),
+        Stop::Going => proof_malformed(proof, certificates.count),
+    }
+}
+
+// Whether to go on: a malformed proof stops.
+fn proof_malformed(proof: &[u8], certificates: usize) -> Stop
+    ensures { λ r. ⌜ Stops («or-else» Answer.ProofMalformed («proof-in» certificates (now (proof .entry)))) r ⌝ }
+{
+    if steps::well_formed(proof, certificates) {
+        Stop::Going
+    } else {
+        Stop::Stopped(Answer::ProofMalformed)
+    }
+}
+
+// The ledger at the end of the walk for a request.
+fn walked(
+    request: Request,
+    buffer: &[u8],
+    proof: &[u8],
+    state: &[u8],
+    certificates: &[u64],
+    facts: &mut [u64],
+    reading: Reading,
+) -> Ledger
+    ensures { λ r. ⌜ Walked request (now (buffer .entry)) (now (proof .entry)) (now (state .entry)) (now (certificates .entry)) reading (now (facts .entry)) r (now (facts .exit)) ⌝ }
+{
+    let bytes = goal_of(request);
+    let goal = goal_on_ctime();
+    let scope = Scope {
+        count: 0,
+        shut: 0,
+        view: View::NoView,
+    };
+    let none = [0u64; 1];
+    let ledger = Ledger::begin(reading);
+    let checked = check(
+        buffer,
+        proof,
+        state,
+        certificates,
+        facts,
+        &none,
+        &bytes,
+        scope,
+        goal,
+        0,
+        ledger,
+        MOST_PROOF_LEVELS,
+    );
+    checked.ledger
+}
+
+// The formula that fills the goal's bytes, on [ctime,ctime].
+fn goal_on_ctime() -> Judgement
+    ensures { λ r. ⌜ r ≡ record { formula = record { at = 0; terms = «no-terms» }; from = Time.Ctime; to = Time.Ctime } ⌝ }
+{
+    let terms = Terms::none();
+    let formula = FormulaAt {
+        at: 0,
+        terms: terms,
+    };
+    Judgement {
+        formula: formula,
+        from: Time::Ctime,
+        to: Time::Ctime,
+    }
+}
+
+// The goal of a request as a formula in bytes: 1 says 100(who, what, right).
+fn goal_of(request: Request) -> [u8; GOAL_BYTES]
+    ensures { λ r. ⌜ Means r 0 (record { at = 0; terms = «no-terms» }) (goal request) ⌝ }
+{
+    [
+        0x15,
+        0x00,
+        0x00,
+        0x01,
+        0x17,
+        0x00,
+        0x64,
+        0x03,
+        0x00,
+        (request.who / 256) as u8,
+        (request.who % 256) as u8,
+        0x00,
+        (request.what / 256) as u8,
+        (request.what % 256) as u8,
+        0x00,
+        (request.right / 256) as u8,
+        (request.right % 256) as u8,
+    ]
+}
