@@ -107,20 +107,20 @@ impl Ledger {
     fn narrowed(self, offset: usize, decision: Decision) -> Ledger
         ensures { λ r. ⌜ ((state list : List ℕ) (left right : Time) → Sound (book self list) → self .reading ≡ Reading.Office → decision ≡ decided left right → Gives state (book self list) («ask-order» offset left right) (book r list) tt) ⌝ }
     {
-        let stop = self.stop;
+        let before = self.stop;
         let reading = self.reading;
         match decision {
             Decision::Holds => self,
             Decision::Fails => self.stopped(Answer::OrderFalse(offset)),
             Decision::RaisesFrom(second) => Ledger {
-                stop: stop,
+                stop: before,
                 reading: reading,
                 from: larger(self.from, second),
                 to: self.to,
                 count: self.count,
             },
             Decision::LowersTo(second) => Ledger {
-                stop: stop,
+                stop: before,
                 reading: reading,
                 from: self.from,
                 to: smaller(self.to, second),

@@ -1,6 +1,6 @@
 // The office's calls: verify, and the direct check.
 pub mod certificates; // the certificate records
-pub mod judge; // what one step makes of a goal, or of what was inferred
-pub mod rows; // assumptions and certificates as rows of numbers
+mod judge; // what one step makes of a goal, or of what was inferred
+mod rows; // assumptions and certificates as rows of numbers
 pub mod verify; // the calls
-pub mod walk; // the walk over a proof
+mod walk; // the walk over a proof
