@@ -50,7 +50,7 @@ pub struct PlaceRead {
 }
 
 // The tag that a byte is.
-pub fn formula_tag(byte: u8) -> FormulaTag
+pub(crate) fn formula_tag(byte: u8) -> FormulaTag
     ensures { λ r. ⌜ r ≡ «formula-tag» byte ⌝ }
 {
     match byte {
@@ -69,7 +69,7 @@ pub fn formula_tag(byte: u8) -> FormulaTag
 }
 
 // The tag of the formula at a place; past the end there is none.
-pub fn tag_at(bytes: &[u8], at: usize) -> FormulaTag
+pub(crate) fn tag_at(bytes: &[u8], at: usize) -> FormulaTag
     ensures { λ r. ⌜ r ≡ «tag-of» (now (bytes .entry)) at ⌝ }
 {
     if at < bytes.len() {
@@ -80,7 +80,7 @@ pub fn tag_at(bytes: &[u8], at: usize) -> FormulaTag
 }
 
 // Whether two tags are the same.
-pub fn same_tag(one: FormulaTag, other: FormulaTag) -> bool
+pub(crate) fn same_tag(one: FormulaTag, other: FormulaTag) -> bool
     ensures { λ r. ⌜ Tells r (one ≡ other) ⌝ }
 {
     tag_byte(one) == tag_byte(other)
@@ -183,7 +183,7 @@ pub struct Head {
 }
 
 // The predicate and the count of an atom or a fact, from the place after its tag.
-pub fn head_at(bytes: &[u8], at: usize) -> Head
+pub(crate) fn head_at(bytes: &[u8], at: usize) -> Head
     ensures { λ r. ⌜ HeadReads (now (bytes .entry)) at r ⌝ }
 {
     let NumberRead::Number(predicate, after_predicate) = two_bytes_at(bytes, at) else {
@@ -256,7 +256,7 @@ fn fact_with(bytes: &[u8], head: Head, terms: Terms) -> FactRead
 }
 
 // Where what stands at a place ends.
-pub fn past_place(bytes: &[u8], at: usize) -> usize
+pub(crate) fn past_place(bytes: &[u8], at: usize) -> usize
     ensures { λ r. ⌜ PlaceEnds (now (bytes .entry)) at r ⌝ }
 {
     let read = place_at(bytes, at, Terms::none(), 0);

@@ -59,7 +59,7 @@ impl Terms {
     }
 
     // What stands for a variable under so many binders that no term was put in for.
-    pub fn look_up(self, under: usize, variable: usize) -> Place
+    pub(crate) fn look_up(self, under: usize, variable: usize) -> Place
         ensures { λ r. ⌜ (FewTerms self → «place-of» r ≡ «fill-place» under («terms-of» self) (bound variable)) ⌝ }
     {
         if variable < under {

@@ -107,7 +107,3 @@ misfitted l q = stopped-by (StepUnfit q) l
 -- The walk w leads from the one ledger to the other, whatever is listed.
 abbrev pub Leads : Ledger → Test → Ledger → Type 0
 Leads l w r = (state list : List ℕ) → Sound (book l list) → Gives state (book l list) w (book r list) tt
-
--- The walk w leads from the one ledger and its list to the other ledger and its own.
-abbrev pub LeadsListing : List ℕ → Ledger → List ℕ → Test → Ledger → List ℕ → Type 0
-LeadsListing state l list w r list′ = Sound (book l list) → Gives state (book l list) w (book r list′) tt
