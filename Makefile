@@ -1,22 +1,35 @@
-# The commands of the project. `make test` is the one test command: layout of the files, every proof, then the tests that run.
-.PHONY: run test layout kit door test-c test-stack
+# The commands of the project. `make` builds the program bin/check; `make test` is the one test command.
+.PHONY: program run press test layout kit door test-check test-c test-stack
 SHELL := /bin/bash
 .SHELLFLAGS := -euo pipefail -c
 
 DOOR := target/staticlib/libdoor.a
 C := $(CC) -std=c11 -Wall -Wextra -Wpedantic -Werror -O2
 
-# The main job on an example: Start is pressed at the desk with case P's procap, in a state where its fact holds.
-run: door
+# The program `check`: every crate below it is proved, and then it is compiled and put at bin/check.
+program: kit
 	@mkdir -p bin
-	@$(C) -o bin/press examples/press.c $(DOOR)
+	@echo "proving and building bin/check: from nothing this takes about eight minutes" >&2
+	@rt check check_case > bin/check.log 2>&1 || { cat bin/check.log >&2; exit 1; }
+	@cp target/bin/check_case bin/check
+
+# The main job on an example: the proof of case P is checked, and its procap is printed.
+run: program
+	@bin/check < examples/p.case
+
+# A press at the desk: Start is pressed with case P's procap, in a state where its fact holds.
+press: bin/press
 	@echo "who 2 presses Start for what 7 by right 9 at moment 1500:"
 	@bin/press examples/p.procap 2 7 9 1500 examples/loaded.state
 
-# Everything that a landing must pass. The last line printed is the count that decides.
+bin/press: door examples/press.c include/procap.h
+	@$(C) -o bin/press examples/press.c $(DOOR)
+
+# Everything that a landing must pass: the layout of the files, every proof, then the tests that run. The last line is the count that decides.
 test: kit layout
 	@mkdir -p bin
 	@rt ci | tee bin/proofs.log
+	@$(MAKE) --no-print-directory test-check
 	@$(MAKE) --no-print-directory test-stack
 	@$(MAKE) --no-print-directory test-c
 	@tail -n 1 bin/proofs.log
@@ -29,6 +42,10 @@ layout: kit
 door: kit
 	@mkdir -p bin
 	@rt staticlib door > bin/door.log 2>&1 || { cat bin/door.log; exit 1; }
+
+# The program on every example and at the edges of its input and output, and what it prints shown at the door.
+test-check: program bin/press
+	@tests/check.sh bin/check bin/press
 
 # The door as the desk firmware calls it: presses, damaged inputs, memory and stack.
 test-c: door

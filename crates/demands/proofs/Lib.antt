@@ -1,4 +1,6 @@
--- The demands, and the fifteen presses.
+-- The demands, the laws behind them, and the fifteen presses.
+pub mod Telling
+pub mod Opening
+pub mod Printed
 pub mod Demands
-pub mod Office
 pub mod Presses

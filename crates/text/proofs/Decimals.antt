@@ -9,7 +9,7 @@ use lib.ListN.{length, length-append}
 use Rattle.procap.specs.Times.{latest}
 use Rattle.procap.specs.Procaps.{most-facts, version-one}
 use Rattle.procap.specs.Writable.{largest-name}
-use Rattle.text.specs.Numbers.{digit-zero, digits-of, decimal}
+use Rattle.text.specs.Numbers.{digit-zero, most-digits, digits-of, decimal}
 use Rattle.text.proofs.Numerals.{spelled-low, spelled-high}
 
 -- The tenth of a number has a digit less.
@@ -86,3 +86,21 @@ count-few n l = decimal-few 1 n (omega arith)
 
 pub version-few : (n : ℕ) → n ≤ version-one → length (decimal n) ≤ 1
 version-few n l = decimal-few 0 n (omega arith)
+
+-- No more digits than there is room for, whatever the number.
+digits-within : (k n : ℕ) → length (digits-of k n) ≤ k
+unfolding digits-of
+digits-within zero n = omega arith
+digits-within (suc k) n =
+    elim (decLt n 10) [
+      | yes p ↦ rw (spelled-low k n p) (omega arith)
+      | no q ↦ rw (spelled-high k n (omega arith)) (simp length-append (omega (arith, digits-within k (n / 10))))
+    ]
+
+-- The lengths of the numbers of a refusal.
+pub answer-few : (n : ℕ) → n ≤ 14 → length (decimal n) ≤ 2
+answer-few n l = decimal-few 1 n (omega arith)
+
+pub place-few : (n : ℕ) → length (decimal n) ≤ most-digits
+unfolding decimal
+place-few n = digits-within most-digits n

@@ -6,7 +6,7 @@ use native.Mathlib.Nat.{add-zero, zero-add, add-assoc}
 use native.Mathlib.Numerals.{add-one}
 use native.Mathlib.Omega.{arith}
 use lib.ListN.{length, take, drop, set, getD, length-append, take-append-drop}
-use lib.Seq.{length-take-le, take-suc, take-at, drop-append-add, drop-drop, drop-cons, set-at, append-snoc}
+use lib.Seq.{length-take-le, take-suc, take-at, drop-append-add, drop-drop, drop-cons, set-at, append-snoc, take-append-seam}
 use Rattle.text.specs.Buffers.{put-at}
 
 -- Nothing put changes nothing.
@@ -21,6 +21,13 @@ put-nothing at buffer =
 pub put-front : (bytes buffer : List ℕ) → put-at 0 bytes buffer ≡ bytes ++ drop (length bytes) buffer
 unfolding put-at
 put-front bytes buffer = rw zero-add
+
+-- What is taken from the front of a buffer, as much as was put there, is what was put.
+pub front-taken : (bytes before after : List ℕ) (n : ℕ) → n ≡ length bytes → after ≡ put-at 0 bytes before → take n after ≡ bytes
+front-taken bytes before after n e put =
+    ap (λ k. take k after) e
+    ∙ ap (take (length bytes)) (put ∙ put-front bytes before)
+    ∙ take-append-seam bytes (drop (length bytes) before)
 
 module _ (at : ℕ) (buffer : List ℕ) (inside : at ≤ length buffer) where
   -- All up to the end of what was put.

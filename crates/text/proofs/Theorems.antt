@@ -3,20 +3,20 @@ use Prim.Native.Nat.{ℕ, _≤_}
 use mathlib.Core.Path.{_≡_, sym, ap, _∙_}
 use mathlib.Core.List.{List}
 use mathlib.Core.Option.{some}
-use native.Mathlib.Decide.{decLe}
 use lib.ListN.{length}
 use Rattle.procap.specs.Writable.{Writable}
 use Rattle.procap.specs.Bytes.{whole}
 use Rattle.procap.specs.Outcome.{granted, or-else}
 use Rattle.procap.specs.Deciding.{writable?}
-use Rattle.procap.specs.declared.answer.Answer.the-variants.{ProcapMalformed, BufferShort}
+use Rattle.procap.specs.declared.answer.Answer.the-variants.{ProcapMalformed}
 use Rattle.procap.specs.declared.procap.Procap.{Procap}
-use Rattle.procap.proofs.Granted.{same-grant, went-on, goes-on, was-there, was-so, is-so}
+use Rattle.procap.proofs.Granted.{went-on, was-there, was-so}
 use Rattle.text.specs.Text.{text-of}
 use Rattle.text.specs.Reader.{procap-lines, text-in}
 use Rattle.text.specs.Calls.{reading, writing}
 use Rattle.text.proofs.Readers.{takes-all, whole-read, whole-found}
 use Rattle.text.proofs.WholeTexts.{procap-read, procap-found}
+use Rattle.text.proofs.Written.{fitted, is-written}
 
 -- What is written reads back the same.
 pub written-reads-back : (p : Procap) → Writable p → text-in (text-of p) ≡ some p
@@ -36,16 +36,12 @@ one-text-each a b p h k = sym (what-reads-is-written a p h .1) ∙ what-reads-is
 pub written-is-read : (p : Procap) (room : ℕ) (text : List ℕ) → writing p room ≡ granted text → reading text ≡ granted p
 unfolding writing reading or-else
 written-is-read p room text e =
-    went-on _ _ _ e λ u e₁ e₂.
-    went-on _ _ _ e₂ λ v e₃ e₄.
-    rw (← same-grant e₄, written-reads-back p (was-so ProcapMalformed (writable? p) u e₁))
+    went-on _ _ _ e λ u can fit.
+    rw (← fitted (text-of p) room text fit, written-reads-back p (was-so ProcapMalformed (writable? p) u can))
 
 -- What the reader takes, the writer gives back, into a buffer that is long enough.
 pub read-is-written : (text : List ℕ) (p : Procap) → reading text ≡ granted p → (room : ℕ) → length text ≤ room → writing p room ≡ granted text
-unfolding writing reading
+unfolding reading
 read-is-written text p e room l =
     let (h, same) = what-reads-is-written text p (was-there ProcapMalformed (text-in text) p e) in
-    let fits : length (text-of p) ≤ room = rw same l in
-    goes-on _ _ tt (is-so ProcapMalformed (writable? p) h)
-    ∙ goes-on _ _ tt (is-so BufferShort (decLe (length (text-of p)) room) fits)
-    ∙ ap granted same
+    is-written p room h (rw same l) ∙ ap granted same

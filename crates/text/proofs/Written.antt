@@ -1,6 +1,7 @@
 -- What writing comes to: 12 for a value that cannot be written, then 13 for a buffer that is too short, else the text.
 use Prim.Native.Nat.{ℕ, _≤_, _<_}
-use mathlib.Core.Path.{_≡_, refl}
+use mathlib.Core.Path.{_≡_, refl, _∙_}
+use mathlib.Core.List.{List}
 use native.Mathlib.Decide.{decLe}
 use native.Mathlib.Omega.{arith}
 use lib.ListN.{length}
@@ -9,9 +10,25 @@ use Rattle.procap.specs.Writable.{Writable}
 use Rattle.procap.specs.Deciding.{writable?}
 use Rattle.procap.specs.declared.answer.Answer.the-variants.{ProcapMalformed, BufferShort}
 use Rattle.procap.specs.declared.procap.Procap.{Procap}
-use Rattle.procap.proofs.Granted.{is-so, is-not-so}
+use Rattle.procap.proofs.Granted.{same-grant, went-on, goes-on, is-so, is-not-so}
 use Rattle.text.specs.Text.{text-of}
-use Rattle.text.specs.Calls.{writing}
+use Rattle.text.specs.Calls.{fitting, writing}
+
+module _ (text : List ℕ) (room : ℕ) where
+  -- [Numbers 13] A text is refused where it is longer than the room.
+  pub too-long : room < length text → fitting text room ≡ refused BufferShort
+  unfolding fitting go-on
+  too-long l = rw (is-not-so BufferShort (decLe (length text) room) (λ h. omega arith)) refl
+
+  -- Where it is not, it is what is given.
+  pub fits : length text ≤ room → fitting text room ≡ granted text
+  unfolding fitting
+  fits l = goes-on _ _ tt (is-so BufferShort (decLe (length text) room) l)
+
+  -- No other text is given.
+  pub fitted : (given : List ℕ) → fitting text room ≡ granted given → text ≡ given
+  unfolding fitting
+  fitted given e = went-on _ _ _ e λ _ _ same. same-grant same
 
 module _ (p : Procap) (room : ℕ) where
   -- [Numbers 12] A value that cannot be written is refused, however long the buffer is.
@@ -19,14 +36,15 @@ module _ (p : Procap) (room : ℕ) where
   unfolding writing go-on
   cannot-be-written n = rw (is-not-so ProcapMalformed (writable? p) n) refl
 
+  -- Of one that can be written, it is up to the room.
+  pub can-be-written : Writable p → writing p room ≡ fitting (text-of p) room
+  unfolding writing
+  can-be-written w = goes-on _ _ tt (is-so ProcapMalformed (writable? p) w)
+
   -- [Numbers 13] One that can be written is refused where its text does not fit.
   pub does-not-fit : Writable p → room < length (text-of p) → writing p room ≡ refused BufferShort
-  unfolding writing go-on
-  does-not-fit w l =
-      rw (is-so ProcapMalformed (writable? p) w, is-not-so BufferShort (decLe (length (text-of p)) room) (λ h. omega arith)) refl
+  does-not-fit w l = can-be-written w ∙ too-long (text-of p) room l
 
   -- Where it fits, the text is written.
   pub is-written : Writable p → length (text-of p) ≤ room → writing p room ≡ granted (text-of p)
-  unfolding writing go-on
-  is-written w l =
-      rw (is-so ProcapMalformed (writable? p) w, is-so BufferShort (decLe (length (text-of p)) room) l) refl
+  is-written w l = can-be-written w ∙ fits (text-of p) room l

@@ -20,12 +20,13 @@ read-to-the-end bytes o = or-else ProcapMalformed (to-the-end bytes o)
 unfoldable pub reading : List ℕ → Outcome Procap
 reading bytes = or-else ProcapMalformed (text-in bytes)
 
--- [Numbers 12 and 13] The text to be written, into a buffer with so much room: 12 comes before 13.
+-- [Numbers 13] A text that is to be written, into a buffer with so much room.
+unfoldable pub fitting : List ℕ → ℕ → Outcome (List ℕ)
+fitting text room = go-on (require BufferShort (decLe (length text) room)) λ _. granted text
+
+-- [Numbers 12 and 13] The procap's text, into a buffer with so much room: 12 comes before 13.
 unfoldable pub writing : Procap → ℕ → Outcome (List ℕ)
-writing p room =
-    go-on (require ProcapMalformed (writable? p)) λ _.
-    go-on (require BufferShort (decLe (length (text-of p)) room)) λ _.
-    granted (text-of p)
+writing p room = go-on (require ProcapMalformed (writable? p)) λ _. fitting (text-of p) room
 
 -- [Numbers] The length that the writer gives: the text's, and 0 when it refuses.
 unfoldable pub length-given : Outcome (List ℕ) → ℕ

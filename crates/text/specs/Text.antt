@@ -1,8 +1,10 @@
--- [Text] How a procap is spelled.
+-- [Text] How a procap is spelled, and how a refusal is.
 use Prim.Native.Nat.{ℕ}
 use mathlib.Core.List.{List, [], _∷_, _++_}
 use Rattle.procap.specs.Facts.{Spelled}
 use Rattle.procap.specs.Procaps.{listed}
+use Rattle.procap.specs.Answers.{number-of, place-of}
+use Rattle.procap.specs.declared.answer.Answer.{Answer}
 use Rattle.procap.specs.declared.time.Time.the-variants.{Moment, MinusInfinity, PlusInfinity, Ctime}
 use Rattle.procap.specs.declared.fact.Term.{Term}
 use Rattle.procap.specs.declared.fact.Term.the-variants.{Name, When}
@@ -47,3 +49,7 @@ text-of p =
     ++ line (bytes-of "to=") (p .to)
     ++ line (bytes-of "facts=") (p .count)
     ++ facts-text (listed p)
+
+-- [Program] What is printed for a refusal: its number and its place, on two lines.
+unfoldable pub refusal-text : Answer → List ℕ
+refusal-text answer = line (bytes-of "refused=") (number-of answer) ++ line (bytes-of "place=") (place-of answer)

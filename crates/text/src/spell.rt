@@ -1,4 +1,5 @@
-// A procap spelled into a buffer that has room for its text.
+// A procap, or a refusal, spelled into a buffer that has room for its text.
+use procap::answer::Answer;
 use procap::fact::Fact;
 use procap::fact::Term;
 use procap::procap::Procap;
@@ -11,7 +12,7 @@ ghost use Rattle.procap.specs.Facts.{spelled, «most-terms»};
 ghost use Rattle.procap.specs.Procaps.{listed};
 ghost use Rattle.procap.specs.Writable.{Writable};
 ghost use Rattle.text.specs.Numbers.{decimal};
-ghost use Rattle.text.specs.Text.{line, «term-text», «terms-text», «fact-text», «facts-text», «text-of»};
+ghost use Rattle.text.specs.Text.{line, «term-text», «terms-text», «fact-text», «facts-text», «text-of», «refusal-text»};
 ghost use Rattle.text.specs.Buffers.{«put-at»};
 
 // Puts the text of the procap at the front of the buffer, and gives its length.
@@ -30,6 +31,16 @@ pub(crate) fn spell(out: &mut [u8], procap: Procap) -> usize
     at = put_line(out, at, b"to=", procap.to);
     at = put_line(out, at, b"facts=", procap.count as u64);
     put_facts(out, at, procap)
+}
+
+// Puts the two lines of a refusal at the front of the buffer, and gives their length.
+pub(crate) fn spell_refusal(out: &mut [u8], answer: Answer) -> usize
+    requires room { ⌜ length («refusal-text» answer) ≤ length (now out) ⌝ }
+    ensures length { λ r. ⌜ r ≡ length («refusal-text» answer) ⌝ }
+    ensures buffer { λ _. ⌜ now (out .exit) ≡ «put-at» 0 («refusal-text» answer) (now (out .entry)) ⌝ }
+{
+    let at = put_line(out, 0, b"refused=", answer.number());
+    put_line(out, at, b"place=", answer.place() as u64)
 }
 
 // Puts the lines of the procap's facts at a place, and gives the place after them.

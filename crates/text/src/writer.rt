@@ -1,5 +1,6 @@
-// From a procap to its text in a lent buffer.
+// From a procap to its text, and from a refusal to its two lines, in a lent buffer.
 use crate::spell::spell;
+use crate::spell::spell_refusal;
 use procap::answer::Answer;
 use procap::procap::Procap;
 use procap::writable::can_be_written;
@@ -8,10 +9,13 @@ ghost use mathlib.Core.List.{_++_};
 ghost use Prim.Native.Nat.{_≤_};
 ghost use lib.ListN.{length, take, drop};
 ghost use Rattle.procap.specs.Outcome.{«answer-of»};
-ghost use Rattle.text.specs.Calls.{writing, «length-given», «buffer-left»};
+ghost use Rattle.text.specs.Text.{«refusal-text»};
+ghost use Rattle.text.specs.Calls.{fitting, writing, «length-given», «buffer-left»};
 
 // How long a text is at the most.
-const MOST_TEXT: usize = 1_223;
+pub const MOST_TEXT: usize = 1_223;
+// How long the two lines of a refusal are at the most, whatever its place.
+const MOST_REFUSAL: usize = 38;
 
 // The answer of writing a text, and the text's length.
 pub struct WrittenText {
@@ -30,13 +34,34 @@ pub fn write_text(procap: Procap, out: &mut [u8]) -> WrittenText
     }
     let mut text = [0u8; MOST_TEXT];
     let length = spell(&mut text, procap);
-    if out.len() < length {
+    hand_over(out, &text, length)
+}
+
+// Writes the two lines of a refusal at the front of the buffer: 13 for a buffer that is shorter than they are.
+pub fn write_refusal(answer: Answer, out: &mut [u8]) -> WrittenText
+    ensures answer { λ r. ⌜ r .answer ≡ «answer-of» (fitting («refusal-text» answer) (length (now (out .entry)))) ⌝ }
+    ensures length { λ r. ⌜ r .length ≡ «length-given» (fitting («refusal-text» answer) (length (now (out .entry)))) ⌝ }
+    ensures buffer { λ _. ⌜ now (out .exit) ≡ «buffer-left» (fitting («refusal-text» answer) (length (now (out .entry)))) (now (out .entry)) ⌝ }
+{
+    let mut text = [0u8; MOST_REFUSAL];
+    let length = spell_refusal(&mut text, answer);
+    hand_over(out, &text, length)
+}
+
+// Copies the first so many bytes of a text to the front of the buffer: 13 where they do not fit.
+fn hand_over(out: &mut [u8], text: &[u8], count: usize) -> WrittenText
+    requires { ⌜ count ≤ length (now text) ⌝ }
+    ensures answer { λ r. ⌜ r .answer ≡ «answer-of» (fitting (take count (now (text .entry))) (length (now (out .entry)))) ⌝ }
+    ensures length { λ r. ⌜ r .length ≡ «length-given» (fitting (take count (now (text .entry))) (length (now (out .entry)))) ⌝ }
+    ensures buffer { λ _. ⌜ now (out .exit) ≡ «buffer-left» (fitting (take count (now (text .entry))) (length (now (out .entry)))) (now (out .entry)) ⌝ }
+{
+    if out.len() < count {
         return refused(Answer::BufferShort);
     }
-    copy(out, &text, length);
+    copy(out, text, count);
     WrittenText {
         answer: Answer::Granted,
-        length: length,
+        length: count,
     }
 }
 

@@ -1,6 +1,5 @@
 // The certificate records: whether each is well formed, and their rows.
 use crate::rows::ALL_NUMBERS;
-use crate::rows::MOST_ROWS;
 use crate::rows::Row;
 use crate::rows::Whose;
 use crate::rows::put_row;
@@ -18,13 +17,15 @@ ghost use Rattle.procap.specs.Tells.{Tells};
 ghost use Rattle.bl.specs.Certificates.{statements, «fixed-time»};
 ghost use Rattle.verifier.specs.Verifying.{«records-of», «row-of», WellFormedRecord, RowsAre, Stops};
 
+// How many records are taken.
+pub const MOST_CERTIFICATES: usize = 32;
 // How many bytes a part may have.
 pub const MOST_PART_BYTES: usize = 256;
 
 // Certificate records by value: the first `count` of them.
 pub struct Certificates {
     pub count: usize,
-    pub records: [Certificate; MOST_ROWS],
+    pub records: [Certificate; MOST_CERTIFICATES],
 }
 
 // Whether to go on: the first malformed record stops.
@@ -32,7 +33,7 @@ pub(crate) fn first_malformed(certificates: Certificates, buffer: &[u8]) -> Stop
     ensures { λ r. ⌜ Stops (statements (now (buffer .entry)) («records-of» certificates)) r ⌝ }
 {
     let count = certificates.count;
-    if MOST_ROWS < count {
+    if MOST_CERTIFICATES < count {
         return Stop::Stopped(Answer::CertificateMalformed(0));
     }
     let mut i: usize = 0;
@@ -91,7 +92,7 @@ pub(crate) fn rows_of(certificates: Certificates) -> [u64; ALL_NUMBERS]
     let count = certificates.count;
     let mut rows = [0u64; ALL_NUMBERS];
     let mut i: usize = 0;
-    while i < MOST_ROWS {
+    while i < MOST_CERTIFICATES {
         if i < count {
             let record = certificates.records[i];
             put_row(&mut rows, i, row_of(record));

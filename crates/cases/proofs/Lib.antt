@@ -1,0 +1,25 @@
+-- Laws, from a hex digit to a whole case.
+pub mod InARow
+pub mod Forms
+pub mod HexDigits
+pub mod Pairs
+pub mod HexLines
+pub mod HexBytes
+pub mod Times
+pub mod Headings
+pub mod Requests
+pub mod RequestsInForm
+pub mod GroupLaws
+pub mod Records
+pub mod GroupsSoFar
+pub mod WholeCases
+pub mod TwoParts
+pub mod CasesInForm
+pub mod Refusals
+pub mod Printables
+pub mod CasesAnswered
+pub mod CasesFound
+pub mod OutcomesWritten
+pub mod Fitting
+pub mod AlwaysPrinted
+pub mod Samples

@@ -1,0 +1,28 @@
+-- [Numbers 14] Lines one after another, counted: a reader of lines goes from a line's number and the place where it begins to a
+-- value and the number and the place of the line after it, or to the line that breaks the form.
+use Prim.Native.Nat.{ℕ, suc}
+use mathlib.Core.Option.{Option, some, none}
+use Rattle.procap.specs.Outcome.{Outcome, granted, refused, go-on}
+use Rattle.procap.specs.Bytes.{Reader}
+use Rattle.procap.specs.declared.answer.Answer.the-variants.{InputMalformed}
+
+infixl 10 _>>=_
+abbrev pub Lines : Type 0 → Type 0
+Lines A = ℕ → ℕ → Outcome (A × ℕ × ℕ)
+
+-- Some lines, and then others.
+abbrev pub _>>=_ : {A B : Type 0} → Lines A → (A → Lines B) → Lines B
+_>>=_ r f = λ line at. go-on (r line at) λ x. f (x .0) (x .1) (x .2)
+
+-- A value that takes no lines.
+abbrev pub give : {A : Type 0} → A → Lines A
+give a = λ line at. granted (a, line, at)
+
+-- [Numbers 14] The line with this number: what was read there and the next line, or 14 with its number.
+unfoldable pub at-line : {A : Type 0} → ℕ → Option (A × ℕ) → Outcome (A × ℕ × ℕ)
+at-line line none = refused (InputMalformed line)
+at-line line (some r) = granted (r .0, suc line, r .1)
+
+-- One line. A line that is missing breaks the form too: nothing can be read there.
+abbrev pub one-line : {A : Type 0} → Reader A → Lines A
+one-line r = λ line at. at-line line (r at)

@@ -1,0 +1,77 @@
+// The whole way from a case to what is printed.
+use crate::case::case_at;
+use crate::lines::Form;
+use procap::answer::Answer;
+use procap::procap::Request;
+use text::writer::WrittenText;
+use text::writer::write_refusal;
+use text::writer::write_text;
+use verifier::certificates::Certificates;
+use verifier::verify::Verified;
+use verifier::verify::verify;
+ghost use mathlib.Core.Path.{_≡_};
+ghost use Prim.Native.Nat.{_-_, _≤_};
+ghost use lib.ListN.{length, take, drop};
+ghost use Rattle.procap.specs.Outcome.{Outcome, «answer-of»};
+ghost use Rattle.procap.specs.declared.procap.Procap.{Procap};
+ghost use Rattle.bl.specs.Calls.{verified};
+ghost use Rattle.text.specs.Calls.{«length-given», «buffer-left»};
+ghost use Rattle.verifier.specs.Verifying.{«records-of», HandsOver};
+ghost use Rattle.cases.specs.Calls.{«printed-of», answering};
+ghost use Rattle.cases.specs.Printing.{Printable, Writes};
+
+// How many bytes a case may have.
+pub const MOST_INPUT: usize = 65_536;
+// How many bytes can be spelled in hex by so many.
+const MOST_BYTES: usize = 32_768;
+
+// Puts what is printed for a case at the front of the buffer, the procap's text or the refusal's two lines: 13 for a buffer that is shorter.
+pub fn answer_case(input: &[u8], out: &mut [u8]) -> WrittenText
+    ensures answer { λ r. ⌜ r .answer ≡ «answer-of» (answering (now (input .entry)) (length (now (out .entry)))) ⌝ }
+    ensures length { λ r. ⌜ r .length ≡ «length-given» (answering (now (input .entry)) (length (now (out .entry)))) ⌝ }
+    ensures buffer { λ _. ⌜ now (out .exit) ≡ «buffer-left» (answering (now (input .entry)) (length (now (out .entry)))) (now (out .entry)) ⌝ }
+{
+    if MOST_INPUT < input.len() {
+        return write_refusal(Answer::InputMalformed(0), out);
+    }
+    let mut bytes = [0u8; MOST_BYTES];
+    let case = case_at(input, &mut bytes);
+    let form = case.form;
+    if let Form::BrokenAt(line) = form {
+        return write_refusal(Answer::InputMalformed(line), out);
+    }
+    let request = case.request;
+    let certificates = case.certificates;
+    let split = case.split;
+    let end = case.end;
+    let verified = verify_parts(request, certificates, &bytes, split, end);
+    write_verified(verified, out)
+}
+
+// What verify answers for the formulas and the proof that stand in the buffer, one after the other.
+fn verify_parts(
+    request: Request,
+    certificates: Certificates,
+    bytes: &[u8],
+    split: usize,
+    end: usize,
+) -> Verified
+    requires order { ⌜ split ≤ end ⌝ }
+    requires inside { ⌜ end ≤ length (now bytes) ⌝ }
+    ensures { λ r. ⌜ HandsOver (verified request («records-of» certificates) (take split (now (bytes .entry))) (take (end - split) (drop split (now (bytes .entry))))) r ⌝ }
+{
+    verify(request, certificates, &bytes[..split], &bytes[split..end])
+}
+
+// Puts what is printed for what verify answers at the front of the buffer.
+fn write_verified(verified: Verified, out: &mut [u8]) -> WrittenText
+    ensures { λ r. ⌜ ((o : Outcome Procap) → HandsOver o verified → Printable o → Writes («printed-of» o) (now (out .entry)) r (now (out .exit))) ⌝ }
+{
+    let answer = verified.answer;
+    let procap = verified.procap;
+    if answer.number() == 0 {
+        write_text(procap, out)
+    } else {
+        write_refusal(answer, out)
+    }
+}

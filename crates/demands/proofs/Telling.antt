@@ -1,0 +1,190 @@
+-- An answer tells what was decided: no refusal has the answer of a grant, so what answers 0 has granted just what it hands over, and
+-- what does not has refused.
+use Prim.Native.Nat.{ℕ, _<_}
+use mathlib.Core.Path.{_≡_, refl, sym, ap, _∙_}
+use mathlib.Core.List.{List}
+use mathlib.Core.Logic.{_↔_}
+use native.Mathlib.Decide.{decLe}
+use native.Mathlib.Omega.{arith}
+use lib.ListN.{length, take, drop}
+use lib.Seq.{take-append-seam}
+use Rattle.procap.specs.Times.{latest}
+use Rattle.procap.specs.Procaps.{empty-procap}
+use Rattle.procap.specs.Writable.{Writable}
+use Rattle.procap.specs.Answers.{number-of}
+use Rattle.procap.specs.Outcome.{Outcome, granted, refused, answer-of, procap-handed}
+use Rattle.procap.specs.States.{stated}
+use Rattle.procap.specs.Desk.{read-press}
+use Rattle.procap.specs.Deciding.{writable?}
+use Rattle.procap.specs.declared.answer.Answer.{Answer}
+use Rattle.procap.specs.declared.answer.Answer.the-variants.{Granted, StateMalformed, MomentAboveLatest, ProcapMalformed, BufferShort}
+use Rattle.procap.specs.declared.procap.Request.{Request}
+use Rattle.procap.specs.declared.procap.Procap.{Procap}
+use Rattle.procap.proofs.Granted.{goes-on}
+use Rattle.procap.proofs.Refused.{IfRefused, go-on-refused, require-refused, or-else-refused}
+use Rattle.bl.specs.declared.Certificate.{Certificate}
+use Rattle.bl.specs.Calls.{verified, directly}
+use Rattle.bl.specs.Accepting.{AcceptedSomewhere}
+use Rattle.bl.proofs.CallRefusals.{case-refused, run-refused}
+use Rattle.text.specs.Text.{text-of}
+use Rattle.text.specs.Reader.{text-in}
+use Rattle.text.specs.Calls.{reading, fitting, writing, length-given, buffer-left}
+use Rattle.text.specs.declared.reader.ReadText.{ReadText}
+use Rattle.text.specs.declared.writer.WrittenText.{WrittenText}
+use Rattle.text.proofs.Written.{is-written}
+use Rattle.text.proofs.Theorems.{written-is-read}
+use Rattle.door.specs.Door.{opening, opening-text, packed}
+use Rattle.door.proofs.Answering.{zero-exactly-when-open}
+use Rattle.verifier.specs.declared.certificates.Certificates.{Certificates}
+use Rattle.verifier.specs.declared.verify.Verified.{Verified}
+use Rattle.verifier.specs.Verifying.{records-of}
+use Rattle.cases.proofs.Refusals.{Refuses, verified-refuses}
+use Rattle.demands.specs.Gives.{VerifyGives, DirectGives, OpenGives, DoorGives, ReadGives, WriteGives, AnsweredSomewhere}
+
+-- ── Outcomes ──
+
+-- What answers 0 is a grant, and a grant answers 0.
+granted-answer : {A : Type 0} (o : Outcome A) → IfRefused Refuses o → answer-of o ≡ Granted → (a : A) × (o ≡ granted a)
+unfolding answer-of
+granted-answer (granted a) h e = (a, refl)
+granted-answer (refused answer) h e = let z : number-of answer ≡ 0 = ap number-of e in absurd (omega arith)
+
+pub answer-granted : {A : Type 0} (o : Outcome A) (a : A) → o ≡ granted a → answer-of o ≡ Granted
+unfolding answer-of
+answer-granted o a e = ap answer-of e
+
+-- A grant hands over its procap, and a refusal the empty one.
+pub handed-of-grant : (o : Outcome Procap) (p : Procap) → o ≡ granted p → procap-handed o ≡ p
+unfolding procap-handed
+handed-of-grant o p e = ap procap-handed e
+
+pub handed-of-refusal : (o : Outcome Procap) → (answer-of o ≡ Granted → ⊥) → procap-handed o ≡ empty-procap
+unfolding answer-of procap-handed
+handed-of-refusal (granted p) n = absurd (n refl)
+handed-of-refusal (refused answer) n = refl
+
+-- A grant leaves its text at the front of the buffer, and a refusal leaves the buffer as it was and tells no length.
+pub in-front : (o : Outcome (List ℕ)) (text before : List ℕ) (w : WrittenText) (after : List ℕ) → w .length ≡ length-given o
+    → after ≡ buffer-left o before → o ≡ granted text → take (w .length) after ≡ text
+unfolding length-given buffer-left
+in-front o text before w after told left e = rw (told, left, e) (take-append-seam text (drop (length text) before))
+
+pub left-of-refusal : (o : Outcome (List ℕ)) (buffer : List ℕ) → (answer-of o ≡ Granted → ⊥)
+    → (buffer-left o buffer ≡ buffer) × (length-given o ≡ 0)
+unfolding answer-of length-given buffer-left
+left-of-refusal (granted text) buffer n = absurd (n refl)
+left-of-refusal (refused answer) buffer n = (refl, refl)
+
+-- So an answer tells whether something was granted, and with a procap it tells which.
+answer-tells : (o : Outcome (Unit {0})) → IfRefused Refuses o → (answer : Answer) → answer ≡ answer-of o
+    → (answer ≡ Granted) ↔ (o ≡ granted tt)
+answer-tells o h answer told = (λ e. granted-answer o h (sym told ∙ e) .1, λ e. told ∙ answer-granted o tt e)
+
+procap-tells : (o : Outcome Procap) → IfRefused Refuses o → (answer : Answer) (p : Procap) → answer ≡ answer-of o → p ≡ procap-handed o
+    → (answer ≡ Granted) ↔ (o ≡ granted p)
+procap-tells o h answer p told handed = (
+  λ e. let (q, grant) = granted-answer o h (sym told ∙ e) in rw (handed ∙ handed-of-grant o q grant) grant,
+  λ e. told ∙ answer-granted o p e,
+)
+
+-- ── The office ──
+
+-- No refusal of a press or of the direct check has the answer 0.
+press-refuses : (m : ℕ) (state : List ℕ) → IfRefused Refuses (read-press m state)
+unfolding read-press
+press-refuses m state =
+    go-on-refused Refuses _ _ (require-refused Refuses MomentAboveLatest (decLe m latest) (omega arith))
+    (λ _ _. or-else-refused Refuses StateMalformed (stated state) (omega arith))
+
+module _ (r : Request) (records : List Certificate) (buffer proof : List ℕ) where
+  directly-refuses : (m : ℕ) (state : List ℕ) → IfRefused Refuses (directly r records buffer proof m state)
+  unfolding directly
+  directly-refuses m state =
+      go-on-refused Refuses _ _ (case-refused Refuses (λ i. omega arith) (omega arith) records buffer proof) λ x _.
+      go-on-refused Refuses _ _ (press-refuses m state) λ σ _.
+      go-on-refused Refuses _ _ (run-refused Refuses (λ q. omega arith) (λ q. omega arith) (λ q. omega arith) (λ q. omega arith) _ _ _) λ w _.
+      tt
+
+module _ (r : Request) (certificates : Certificates) (buffer proof : List ℕ) where
+  -- The direct check answers 0 exactly when it accepts.
+  pub accepts-exactly : (m : ℕ) (state : List ℕ) (answer : Answer) → DirectGives r certificates buffer proof m state answer
+      → (answer ≡ Granted) ↔ (directly r (records-of certificates) buffer proof m state ≡ granted tt)
+  accepts-exactly m state answer gives = answer-tells _ (directly-refuses r (records-of certificates) buffer proof m state) answer gives
+
+  -- Verify answers 0 exactly when it issues the procap that it hands over.
+  pub issues-exactly : (v : Verified) → VerifyGives r certificates buffer proof v
+      → (v .answer ≡ Granted) ↔ (verified r (records-of certificates) buffer proof ≡ granted (v .procap))
+  issues-exactly v gives =
+      procap-tells _ (verified-refuses r (records-of certificates) buffer proof) (v .answer) (v .procap) (gives .answer) (gives .procap)
+
+  -- A press that is accepted is one at which the direct check answers 0.
+  pub somewhere-exactly : AcceptedSomewhere r (records-of certificates) buffer proof ↔ AnsweredSomewhere r certificates buffer proof
+  somewhere-exactly = (
+    λ s. record {
+      moment = s .moment;
+      moment-in-range = s .moment-in-range;
+      state = s .state;
+      state-is-bytes = s .state-is-bytes;
+      facts = s .facts;
+      state-reads = s .state-reads;
+      accepted = sym (answer-granted _ tt (s .accepted));
+    },
+    λ s. record {
+      moment = s .moment;
+      moment-in-range = s .moment-in-range;
+      state = s .state;
+      state-is-bytes = s .state-is-bytes;
+      facts = s .facts;
+      state-reads = s .state-reads;
+      accepted = accepts-exactly (s .moment) (s .state) Granted (s .accepted) .0 refl;
+    },
+  )
+
+-- ── Texts ──
+
+-- No refusal of the reader or of the writer has the answer 0.
+reading-refuses : (text : List ℕ) → IfRefused Refuses (reading text)
+unfolding reading
+reading-refuses text = or-else-refused Refuses ProcapMalformed (text-in text) (omega arith)
+
+writing-refuses : (p : Procap) (room : ℕ) → IfRefused Refuses (writing p room)
+unfolding writing fitting
+writing-refuses p room =
+    go-on-refused Refuses _ _ (require-refused Refuses ProcapMalformed (writable? p) (omega arith)) λ _ _.
+    go-on-refused Refuses _ _ (require-refused Refuses BufferShort (decLe (length (text-of p)) room) (omega arith)) λ _ _.
+    tt
+
+-- The reader answers 0 exactly when the text says the procap that it hands over.
+pub reads-exactly : (text : List ℕ) (v : ReadText) → ReadGives text v → (v .answer ≡ Granted) ↔ (reading text ≡ granted (v .procap))
+reads-exactly text v gives = procap-tells _ (reading-refuses text) (v .answer) (v .procap) (gives .answer) (gives .procap)
+
+module _ (p : Procap) (before : List ℕ) (w : WrittenText) (after : List ℕ) (gives : WriteGives p before w after) where
+  -- What the writer gives stands at the front of the buffer, as long as it tells.
+  pub stands-in-front : (text : List ℕ) → writing p (length before) ≡ granted text → take (w .length) after ≡ text
+  stands-in-front text e = in-front _ text before w after (gives .length-told) (gives .buffer) e
+
+  -- The writer answers 0 exactly when it gives what stands there.
+  pub writes-exactly : (w .answer ≡ Granted) ↔ (writing p (length before) ≡ granted (take (w .length) after))
+  writes-exactly = (
+    λ e.
+        let (text, grant) = granted-answer _ (writing-refuses p (length before)) (sym (gives .answer) ∙ e) in
+        rw (stands-in-front text grant) grant,
+    λ e. gives .answer ∙ answer-granted _ _ e,
+  )
+
+-- ── The door ──
+
+-- To a procap that can be written the door answers 0 exactly when it opens: what it answers to the procap's text, it answers to the procap.
+pub opens-exactly : (p : Procap) → Writable p → (r : Request) (m : ℕ) (state : List ℕ) (answer : Answer) → OpenGives p r m state answer
+    → (answer ≡ Granted) ↔ (opening p r m state ≡ granted tt)
+unfolding opening-text
+opens-exactly p w r m state answer gives =
+    let says = written-is-read p _ (text-of p) (is-written p (length (text-of p)) w (omega arith)) in
+    let same = goes-on (reading (text-of p)) (λ q. opening q r m state) p says in
+    let zero = rw same at (zero-exactly-when-open (text-of p) r m state) in
+    (λ e. zero .0 (ap packed (sym gives ∙ e)), λ e. gives ∙ answer-granted _ tt e)
+
+-- The firmware sees 0 exactly when the door opens to the text.
+pub lets-in-exactly : (text : List ℕ) (r : Request) (m : ℕ) (state : List ℕ) (number : ℕ) → DoorGives text r m state number
+    → (number ≡ 0) ↔ (opening-text text r m state ≡ granted tt)
+lets-in-exactly text r m state number gives = rw gives (zero-exactly-when-open text r m state)

@@ -1,0 +1,68 @@
+-- What the public calls give back, each in the words of its contract, and a press at which the direct check answers 0.
+use Prim.Native.Nat.{ℕ, _≤_}
+use mathlib.Core.Path.{_≡_}
+use mathlib.Core.List.{List}
+use mathlib.Core.Option.{some}
+use lib.ListN.{length}
+use Rattle.procap.specs.Times.{latest}
+use Rattle.procap.specs.Facts.{Spelled}
+use Rattle.procap.specs.Outcome.{answer-of, procap-handed}
+use Rattle.procap.specs.States.{stated}
+use Rattle.procap.specs.declared.answer.Answer.{Answer}
+use Rattle.procap.specs.declared.answer.Answer.the-variants.{Granted}
+use Rattle.procap.specs.declared.procap.Request.{Request}
+use Rattle.procap.specs.declared.procap.Procap.{Procap}
+use Rattle.bl.specs.Calls.{verified, directly}
+use Rattle.bl.specs.Accepting.{AreBytes}
+use Rattle.text.specs.Calls.{reading, writing, length-given, buffer-left}
+use Rattle.text.specs.declared.reader.ReadText.{ReadText}
+use Rattle.text.specs.declared.writer.WrittenText.{WrittenText}
+use Rattle.door.specs.Door.{opening, opening-text, packed}
+use Rattle.verifier.specs.declared.certificates.Certificates.{Certificates}
+use Rattle.verifier.specs.declared.verify.Verified.{Verified}
+use Rattle.verifier.specs.Verifying.{records-of}
+use Rattle.cases.specs.Calls.{answering}
+
+-- `verify` gives an answer and a procap.
+pub record VerifyGives (r : Request) (certificates : Certificates) (buffer proof : List ℕ) (v : Verified) : Type 0 where
+  pub answer : v .answer ≡ answer-of (verified r (records-of certificates) buffer proof)
+  pub procap : v .procap ≡ procap-handed (verified r (records-of certificates) buffer proof)
+
+-- `direct` gives an answer, at a moment in a state.
+abbrev pub DirectGives : Request → Certificates → List ℕ → List ℕ → ℕ → List ℕ → Answer → Type 0
+DirectGives r certificates buffer proof m state answer = answer ≡ answer-of (directly r (records-of certificates) buffer proof m state)
+
+-- `open`, the door on a value, gives an answer.
+abbrev pub OpenGives : Procap → Request → ℕ → List ℕ → Answer → Type 0
+OpenGives p r m state answer = answer ≡ answer-of (opening p r m state)
+
+-- `procap_door`, the door on a text, gives a number.
+abbrev pub DoorGives : List ℕ → Request → ℕ → List ℕ → ℕ → Type 0
+DoorGives text r m state number = number ≡ packed (answer-of (opening-text text r m state))
+
+-- `read_text` gives an answer and a procap.
+pub record ReadGives (text : List ℕ) (v : ReadText) : Type 0 where
+  pub answer : v .answer ≡ answer-of (reading text)
+  pub procap : v .procap ≡ procap-handed (reading text)
+
+-- `write_text` gives an answer and a length, and leaves the buffer `before` as `after`.
+pub record WriteGives (p : Procap) (before : List ℕ) (w : WrittenText) (after : List ℕ) : Type 0 where
+  pub answer : w .answer ≡ answer-of (writing p (length before))
+  pub length-told : w .length ≡ length-given (writing p (length before))
+  pub buffer : after ≡ buffer-left (writing p (length before)) before
+
+-- `answer_case`, the work of the program, gives an answer and a length, and leaves the buffer `before` as `after`.
+pub record PrintGives (input before : List ℕ) (w : WrittenText) (after : List ℕ) : Type 0 where
+  pub answer : w .answer ≡ answer-of (answering input (length before))
+  pub length-told : w .length ≡ length-given (answering input (length before))
+  pub buffer : after ≡ buffer-left (answering input (length before)) before
+
+-- A moment in range and a well-formed state, in bytes, at which `direct` answers 0.
+pub record AnsweredSomewhere (r : Request) (certificates : Certificates) (buffer proof : List ℕ) : Type 0 where
+  pub moment : ℕ
+  pub moment-in-range : moment ≤ latest
+  pub state : List ℕ
+  pub state-is-bytes : AreBytes state
+  pub facts : List Spelled
+  pub state-reads : stated state ≡ some facts
+  pub accepted : DirectGives r certificates buffer proof moment state Granted

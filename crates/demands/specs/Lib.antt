@@ -1,0 +1,2 @@
+-- What the public calls give back.
+pub mod Gives
