@@ -53,11 +53,11 @@ pub(crate) fn case_at(input: &[u8], bytes: &mut [u8]) -> CaseRead
         return no_case(4);
     };
     let request = asked.request;
-    certified(input, after_count, request, count as usize, bytes)
+    case_with(input, after_count, request, count as usize, bytes)
 }
 
 // The case of a request from its first group on, with so many groups.
-fn certified(input: &[u8], at: usize, request: Request, count: usize, bytes: &mut [u8]) -> CaseRead
+fn case_with(input: &[u8], at: usize, request: Request, count: usize, bytes: &mut [u8]) -> CaseRead
     requires room { ⌜ length (now input) ≤ 2 * length (now bytes) ⌝ }
     requires few { ⌜ count ≤ «most-certificates» ⌝ }
     ensures { λ r. ⌜ CaseReads («case-with» (now (input .entry)) request count «first-group-line» at) r (now (bytes .exit)) ⌝ }

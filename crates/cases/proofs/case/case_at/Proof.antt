@@ -76,8 +76,8 @@ returns-2 c =
     broken-handed _ _ (c .no-case2 .ensures)
     (no-certs _ _ _ _ _ _ (request-read (c .before .before .before .before .before)) (count-missing (c .before)))
 
-certified-requires : tie.Need-certified-requires
-certified-requires c κs =
+case-with-requires : tie.Need-case-with-requires
+case-with-requires c κs =
     let counted = c .before .before .before in
     (omega arith, bound-told _ (counted .count .given .1) (counted .before .before .line .ensures .1))
 
@@ -88,7 +88,7 @@ returns-3 : tie.Need-returns-3
 returns-3 c =
     let counted = c .before .before .before .before .before in
     let told = counted .before .before .before .before .before in
-    rw (case-says _ _ _ _ _ _ (request-read told) _ _ (count-read counted)) (c .before .before .certified .ensures)
+    rw (case-says _ _ _ _ _ _ (request-read told) _ _ (count-read counted)) (c .before .before .case-with .ensures)
 
 pub case-at-spec : {M : Type 1} → statement M
 case-at-spec =
@@ -105,6 +105,6 @@ case-at-spec =
     enum-told-2
     no-case-requires-2
     returns-2
-    certified-requires
+    case-with-requires
     same-length
     returns-3)

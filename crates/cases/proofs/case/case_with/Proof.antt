@@ -13,8 +13,8 @@ use Rattle.cases.proofs.Forms.{kept-told, broken-told, broken-handed}
 use Rattle.cases.proofs.HexLines.{hex-missing, hex-found}
 use Rattle.cases.proofs.TwoParts.{front-found, back-found, ends-inside, ends-in-order}
 use Rattle.cases.proofs.WholeCases.{groups-broken, no-proof, something-more, case-here}
-use Rattle.cases.proofs.case.certified.Statement.{statement}
-use Rattle.cases.proofs.case.certified.Tie as tie
+use Rattle.cases.proofs.case.case_with.Statement.{statement}
+use Rattle.cases.proofs.case.case_with.Tie as tie
 
 -- The groups stand, and their formulas are in the buffer.
 groups-found : (c : tie.After-enum-told)
@@ -129,8 +129,8 @@ returns-4 c =
       its-proof = back-found _ _ _ _ _ _ _ (behind .end) (proof .3) (behind .put) (proof .4);
     }
 
-pub certified-spec : {M : Type 1} → statement M
-certified-spec =
+pub case-with-spec : {M : Type 1} → statement M
+case-with-spec =
     tie.close
     (tie.spec
     groups-at-requires
