@@ -60,11 +60,9 @@ test-c: door
 	@$(C) -o bin/stack tests/c/stack.c $(DOOR)
 	@bin/stack
 
-# Verify on the deepest proofs that the limits allow, and the program on one of them, with a stack of 2 MiB and less.
+# The program on the deepest proofs that the limits allow, with a stack of 2 MiB and less.
 test-stack: program
-	@rt check deepest > bin/deepest.log 2>&1 || { cat bin/deepest.log; exit 1; }
-	@tests/stack.sh target/bin/deepest crates/deepest/stdout 2048
-	@tests/stack.sh bin/check examples/thirty_assumptions.procap 2048 examples/thirty_assumptions.case
+	@tests/stack.sh bin/check 2048 examples/thirty_assumptions examples/thirty_implications examples/sixteen_facts
 
 # Says what is missing where the Rattle kit is not on the machine.
 kit:

@@ -1,19 +1,24 @@
 #!/bin/bash
-# Runs a program with less and less stack, and prints the least that it runs with, in steps of 16 KiB. Fails above the limit.
-# usage: stack.sh PROGRAM EXPECTED LIMIT_IN_KIB [INPUT]
+# Runs the program `check` on cases with less and less stack, and prints the least that each comes out with, in steps of 16 KiB.
+# Fails where that is above the limit.
+# usage: stack.sh CHECK LIMIT_IN_KIB NAME.., with NAME.case and NAME.procap for each
 set -euo pipefail
-program=$1 expected=$2 limit=$3 input=${4:-/dev/null}
+check=$1 limit=$2
+shift 2
 
-runs_with() {
-    (ulimit -s "$1" && "$program" < "$input") 2>/dev/null | cmp -s - "$expected"
+# Whether a case comes out with so much stack.
+comes_out_with() { # NAME KIB
+    (ulimit -s "$2" && "$check" < "$1.case") 2> /dev/null | cmp -s - "$1.procap"
 }
 
-if ! runs_with "$limit"; then
-    echo "$program does not run with a stack of $limit KiB" >&2
-    exit 1
-fi
-least=$limit
-while [ "$least" -gt 16 ] && runs_with $((least - 16)); do
-    least=$((least - 16))
+for name; do
+    if ! comes_out_with "$name" "$limit"; then
+        echo "$name.case does not come out with a stack of $limit KiB" >&2
+        exit 1
+    fi
+    least=$limit
+    while [ "$least" -gt 16 ] && comes_out_with "$name" $((least - 16)); do
+        least=$((least - 16))
+    done
+    echo "$name.case: a stack of $least KiB is enough (limit: $limit KiB)"
 done
-echo "$(basename "$program"): a stack of $least KiB is enough (limit: $limit KiB)"
