@@ -44,24 +44,24 @@ module _ (input : List ℕ) where
   -- ── What it comes to ──
 
   -- No case is refused with what refuses it.
-  pub no-case-checked : (answer : Answer) → case-in input ≡ refused answer → checked input ≡ refused answer
+  no-case-checked : (answer : Answer) → case-in input ≡ refused answer → checked input ≡ refused answer
   unfolding checked go-on
   no-case-checked answer e = rw e refl
 
   -- A case comes to what verify comes to for it.
-  pub case-checked : (c : Case) → case-in input ≡ granted c → checked input ≡ verified-of c
+  case-checked : (c : Case) → case-in input ≡ granted c → checked input ≡ verified-of c
   unfolding checked
   case-checked c e = goes-on (case-in input) verified-of c e
 
   -- ── What is printed ──
 
   -- What is printed is the text of what it comes to.
-  pub printed-by : (o : Outcome Procap) → checked input ≡ o → printed input ≡ printed-of o
+  printed-by : (o : Outcome Procap) → checked input ≡ o → printed input ≡ printed-of o
   unfolding printed
   printed-by o e = ap printed-of e
 
   -- And so it is where a room is given.
-  pub answered-by : (room : ℕ) (o : Outcome Procap) → checked input ≡ o → answering input room ≡ fitting (printed-of o) room
+  answered-by : (room : ℕ) (o : Outcome Procap) → checked input ≡ o → answering input room ≡ fitting (printed-of o) room
   unfolding answering
   answered-by room o e = ap (λ text. fitting text room) (printed-by o e)
 

@@ -9,7 +9,7 @@ use Rattle.text.proofs.Written.{too-long, fits}
 use Rattle.cases.specs.Calls.{printed, answering}
 
 -- The length that is given is within the room.
-pub given-within : (text : List ℕ) (room : ℕ) → length-given (fitting text room) ≤ room
+given-within : (text : List ℕ) (room : ℕ) → length-given (fitting text room) ≤ room
 unfolding length-given
 given-within text room =
     elim (decLe (length text) room) [

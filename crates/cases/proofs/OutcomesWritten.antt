@@ -18,7 +18,7 @@ use Rattle.cases.specs.Calls.{printed-of}
 use Rattle.cases.specs.Printing.{Printable, Writes}
 
 -- What a writer answers, how much it says to have written, and what it leaves in the buffer.
-abbrev pub Written : Outcome (List ℕ) → List ℕ → WrittenText → List ℕ → Type 0
+abbrev Written : Outcome (List ℕ) → List ℕ → WrittenText → List ℕ → Type 0
 Written o before r after = (r .answer ≡ answer-of o) × ((r .length ≡ length-given o) × (after ≡ buffer-left o before))
 
 -- A text that was written is written.

@@ -20,7 +20,7 @@ buffer-more [] g = append-nil (g .says)
 buffer-more (f ∷ gs) g = ap (λ bs. f .says ++ bs) (buffer-more gs g) ∙ sym (append-assoc (f .says) (buffer-of gs) (g .says))
 
 -- So does its record, and its formula begins where theirs end.
-pub records-more : (start : ℕ) (gs : List Group) (g : Group)
+records-more : (start : ℕ) (gs : List Group) (g : Group)
     → records-from start (gs ++ (g ∷ [])) ≡ records-from start gs ++ (record-at (start + length (buffer-of gs)) g ∷ [])
 unfolding buffer-of records-from
 records-more start [] g = ap (λ k. record-at k g ∷ []) (sym (add-zero start))
@@ -33,7 +33,7 @@ records-more start (f ∷ gs) g =
     place = simp length-append (omega arith)
 
 -- There are as many records as groups.
-pub as-many-records : (start : ℕ) (gs : List Group) → length (records-from start gs) ≡ length gs
+as-many-records : (start : ℕ) (gs : List Group) → length (records-from start gs) ≡ length gs
 unfolding records-from
 as-many-records start [] = refl
 as-many-records start (g ∷ gs) = ap suc (as-many-records (start + length (g .says)) gs)

@@ -18,6 +18,7 @@ use Rattle.procap.specs.declared.answer.Answer.{Answer}
 use Rattle.procap.specs.declared.answer.Answer.the-variants.{Granted, ProcapMalformed}
 use Rattle.procap.specs.declared.procap.Request.{Request}
 use Rattle.procap.specs.declared.procap.Procap.{Procap}
+use Rattle.procap.proofs.AnswerNumbers.{numbers-are-small}
 use Rattle.bl.specs.Calls.{directly}
 use Rattle.bl.specs.Accepting.{AreBytes, Derivable}
 use Rattle.bl.proofs.Theorems.{direct-accepts-exactly-derivations, issued-exactly-where-some-press-is-accepted, issued-can-be-written}
@@ -26,7 +27,6 @@ use Rattle.text.specs.declared.reader.ReadText.{ReadText}
 use Rattle.text.specs.declared.writer.WrittenText.{WrittenText}
 use Rattle.text.proofs.Theorems.{written-is-read, read-is-written}
 use Rattle.door.proofs.Refusals.{unwritable}
-use Rattle.door.proofs.Answering.{numbers-are-small}
 use Rattle.verifier.specs.declared.certificates.Certificates.{Certificates}
 use Rattle.verifier.specs.declared.verify.Verified.{Verified}
 use Rattle.verifier.specs.Verifying.{records-of}

@@ -15,7 +15,7 @@ use Rattle.procap.specs.States.{stated}
 use Rattle.procap.specs.Desk.{read-press}
 use Rattle.procap.specs.Deciding.{writable?, request?, holds-at?}
 use Rattle.procap.specs.declared.answer.Answer.{Answer}
-use Rattle.procap.specs.declared.answer.Answer.the-variants.{Granted, CertificateMalformed, ProofMalformed, StepUnfit, OrderFalse, NoMomentLeft, FactsFull, StateMalformed, RequestDiffers, MomentOutside, FactMissing, MomentAboveLatest, ProcapMalformed, BufferShort, InputMalformed}
+use Rattle.procap.specs.declared.answer.Answer.the-variants.{StateMalformed, RequestDiffers, MomentOutside, FactMissing, MomentAboveLatest, ProcapMalformed}
 use Rattle.procap.specs.declared.procap.Request.{Request}
 use Rattle.procap.specs.declared.procap.Procap.{Procap}
 use Rattle.procap.proofs.Granted.{was-so}
@@ -75,24 +75,6 @@ small-place (refused answer) h = h .1
 
 pub places-are-small : (p : Procap) (r : Request) (m : ℕ) (state : List ℕ) → place-of (answer-of (opening p r m state)) < most-facts
 places-are-small p r m state = small-place _ (opening-refuses p r m state)
-
--- No answer has a number above 14.
-pub numbers-are-small : (answer : Answer) → number-of answer ≤ 14
-numbers-are-small Granted = omega arith
-numbers-are-small (CertificateMalformed i) = omega arith
-numbers-are-small ProofMalformed = omega arith
-numbers-are-small (StepUnfit i) = omega arith
-numbers-are-small (OrderFalse i) = omega arith
-numbers-are-small NoMomentLeft = omega arith
-numbers-are-small (FactsFull i) = omega arith
-numbers-are-small StateMalformed = omega arith
-numbers-are-small RequestDiffers = omega arith
-numbers-are-small MomentOutside = omega arith
-numbers-are-small (FactMissing i) = omega arith
-numbers-are-small MomentAboveLatest = omega arith
-numbers-are-small ProcapMalformed = omega arith
-numbers-are-small BufferShort = omega arith
-numbers-are-small (InputMalformed i) = omega arith
 
 -- What is handed to C is 0 exactly when the door opens.
 pub zero-exactly-when-open : (text : List ℕ) (r : Request) (m : ℕ) (state : List ℕ)

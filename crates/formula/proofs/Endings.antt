@@ -42,28 +42,28 @@ place-told sorts o e h = subst (PlaceEnds sorts o) e h
 
 module _ {A B : Type 0} (o : Option (A × ℕ)) where
   -- After what is not there there is nothing; else it goes on from what was read.
-  pub none-after : (f : A → Reader B) → o ≡ none → then o f ≡ none
+  none-after : (f : A → Reader B) → o ≡ none → then o f ≡ none
   unfolding then
   none-after f e = rw e
 
-  pub goes-on : (f : A → Reader B) (a : A) (e : ℕ) (r : End) → o ≡ some (a, e) → Ends (f a e) r → Ends (then o f) r
+  goes-on : (f : A → Reader B) (a : A) (e : ℕ) (r : End) → o ≡ some (a, e) → Ends (f a e) r → Ends (then o f) r
   unfolding then
   goes-on f a e r q h = rw q h
 
   -- A value made of what was read ends there too.
-  pub made-of : (f : A → B) (r : End) → Ends o r → Ends (then o (λ a at. some (f a, at))) r
+  made-of : (f : A → B) (r : End) → Ends o r → Ends (then o (λ a at. some (f a, at))) r
   unfolding then
   made-of f (At e) h = rw (h .1) (f (h .0), refl)
   made-of f Nowhere h = rw h refl
 
 -- One reader and another, and a value made of both.
-pub both-ended : {A B C : Type 0} (o : Option (A × ℕ)) (g : Reader B) (f : A → B → C) (b r : End) → Ends o b → EndsAfter g b r
+both-ended : {A B C : Type 0} (o : Option (A × ℕ)) (g : Reader B) (f : A → B → C) (b r : End) → Ends o b → EndsAfter g b r
     → Ends (then o (λ a at. then (g at) (λ x at. some (f a x, at)))) r
 both-ended o g f (At e) r h k = goes-on o _ (h .0) e r (h .1) (made-of (g e) (f (h .0)) r k)
 both-ended o g f Nowhere r h k = rw k (none-after o _ h)
 
 -- To go on from two values one after the other is to go on from both.
-pub paired : {A B C : Type 0} (o : Option (A × ℕ)) (p : Reader B) (g : A → B → Reader C) (r : End)
+paired : {A B C : Type 0} (o : Option (A × ℕ)) (p : Reader B) (g : A → B → Reader C) (r : End)
     → Ends (then {A = A × B} (then o (λ a at. then (p at) (λ b at. some ((a, b), at)))) (λ both. g (both .0) (both .1))) r
     → Ends (then o (λ a at. then (p at) (g a))) r
 unfolding then

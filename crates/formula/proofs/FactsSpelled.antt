@@ -39,7 +39,7 @@ unfoldable pub seen : {xs : List Place} → Option ((ts : List Term) × (xs ≡ 
 seen none = none
 seen (some t) = some (t .0, 0)
 
-abbrev pub terms-in : List Place → Option (List Term × ℕ)
+abbrev terms-in : List Place → Option (List Term × ℕ)
 terms-in xs = seen (as-terms xs)
 
 -- No places are no terms; a term goes before the others; after a variable there are none.
@@ -79,7 +79,7 @@ spells-terms p xs f h = by (as-terms xs) refl h
 -- ── Places read one after another ──
 
 -- The places with the terms put in for their variables.
-abbrev pub filled : Terms → List Place → List Place
+abbrev filled : Terms → List Place → List Place
 filled terms xs = map (fill-place 0 (terms-of terms)) xs
 
 first-filled : (terms : Terms) (xs : List Place) (y : Place) (ys : List Place) (x : Place) → xs ≡ (y ∷ ys) → x ≡ fill-place 0 (terms-of terms) y

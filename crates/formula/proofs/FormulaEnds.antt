@@ -17,15 +17,15 @@ use Rattle.formula.proofs.PartsRead.{EndsAt, after-end}
 
 module _ (bytes : List ℕ) where
   -- The formula of at most so many levels at a place ends at r.
-  abbrev pub FormulaEnds : ℕ → ℕ → ℕ → Type 0
+  abbrev FormulaEnds : ℕ → ℕ → ℕ → Type 0
   FormulaEnds at left r = (n : ℕ) (sorts : List Sort) (A : Formula) (e : ℕ) → n ≤ left → formula bytes n sorts at ≡ some (A, e) → r ≡ e
 
   -- What stands where a term may ends at r.
-  abbrev pub PlaceEnds : ℕ → ℕ → Type 0
+  abbrev PlaceEnds : ℕ → ℕ → Type 0
   PlaceEnds at r = (sorts : List Sort) → EndsAt (argument bytes sorts at) r
 
   -- A predicate and so many places end at r.
-  abbrev pub HeadEnds : ℕ → ℕ → Type 0
+  abbrev HeadEnds : ℕ → ℕ → Type 0
   HeadEnds at r = (sorts : List Sort) (p : ℕ) (xs : List Place) (e : ℕ) → predicate-and bytes (argument bytes sorts) at ≡ some ((p, xs), e) → r ≡ e
 
   -- A place of a sort ends where it does of any.

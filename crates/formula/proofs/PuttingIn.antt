@@ -19,7 +19,7 @@ use Rattle.formula.proofs.Stacks.{nth-stack, nth-stack-none, stack-more
 -- ── One term more ──
 
 -- The numbers of a term stored at an index.
-abbrev pub stored : List ℕ → ℕ → ℕ → ℕ → List ℕ
+abbrev stored : List ℕ → ℕ → ℕ → ℕ → List ℕ
 stored numbers i kind value = with-two numbers (2 * i) kind value
 
 module _ (numbers : List ℕ) (n kind value : ℕ) where
@@ -36,7 +36,7 @@ module _ (numbers : List ℕ) (n kind value : ℕ) where
 
 module _ (t : Terms) (kind value : ℕ) where
   -- The terms with one more stored after them.
-  abbrev pub put-after : Terms
+  abbrev put-after : Terms
   put-after = record { count = t .count + 1; numbers = stored (t .numbers) (t .count) kind value }
 
   pub put-few : FewTerms t → t .count < most-binders → FewTerms put-after

@@ -205,7 +205,7 @@ module _ (buffer : List ℕ) (start size : ℕ) (fits : start + size ≤ length 
       formula-by-shifts (formula part n) (formula buffer n) (formula-shifts n) sorts (formula-tag b)
 
   -- A formula read in the part is read at its place in the buffer.
-  pub formula-shifted : (n : ℕ) (sorts : List Sort) (at : ℕ) (A : Formula) (e : ℕ) → formula (take size (drop start buffer)) n sorts at ≡ some (A, e)
+  formula-shifted : (n : ℕ) (sorts : List Sort) (at : ℕ) (A : Formula) (e : ℕ) → formula (take size (drop start buffer)) n sorts at ≡ some (A, e)
       → formula buffer n sorts (start + at) ≡ some (A, start + e)
   formula-shifted n sorts at A e q = found-later (formula-shifts n sorts) at A e q
 

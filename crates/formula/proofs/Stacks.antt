@@ -31,7 +31,7 @@ module _ {A : Type 0} (f : ℕ → A) where
 
 module _ {A : Type 0} (f g : ℕ → A) where
   -- Two rows that agree below n are the same there.
-  pub stack-same : (n : ℕ) → ((i : ℕ) → i < n → f i ≡ g i) → stack f n ≡ stack g n
+  stack-same : (n : ℕ) → ((i : ℕ) → i < n → f i ≡ g i) → stack f n ≡ stack g n
   unfolding stack
   stack-same zero h = refl
   stack-same (suc n) h = ap₂ _∷_ (h n (omega arith)) (stack-same n (λ i l. h i (omega arith)))

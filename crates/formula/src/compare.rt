@@ -1,7 +1,6 @@
 // Whether two formulas are the same: left to right as their bytes stand, times by asking both orders.
 use crate::parts::FormulaAt;
 use crate::parts::head_at;
-use crate::parts::past;
 use crate::parts::place_at;
 use crate::parts::same_tag;
 use crate::parts::tag_at;
@@ -10,6 +9,7 @@ use crate::terms::Place;
 use bl::FormulaTag;
 use ledger::Ledger;
 use ledger::ask_order;
+use procap::bytes::past;
 use procap::fact::Term;
 ghost use mathlib.Core.Path.{_≡_};
 ghost use Prim.Native.Nat.{ℕ, _+_, _<_};

@@ -6,6 +6,7 @@ use procap::bytes::FactRead;
 use procap::bytes::NumberRead;
 use procap::bytes::TermRead;
 use procap::bytes::byte_at;
+use procap::bytes::past;
 use procap::bytes::term_by;
 use procap::bytes::two_bytes_at;
 use procap::fact::Argument;
@@ -17,8 +18,7 @@ use procap::time::Time;
 ghost use mathlib.Core.Path.{_≡_};
 ghost use mathlib.Core.List.{List, map};
 ghost use mathlib.Core.Option.{some};
-ghost use Prim.Native.Nat.{ℕ, _+_, _≤_, _<_};
-ghost use lib.ListN.{length};
+ghost use Prim.Native.Nat.{ℕ, _≤_};
 ghost use Rattle.procap.specs.Tells.{Tells};
 ghost use Rattle.procap.specs.Facts.{«most-terms»};
 ghost use Rattle.procap.specs.Bytes.{byte, many, «term-by», «predicate-and»};
@@ -27,7 +27,7 @@ ghost use Rattle.bl.specs.Trees as tree;
 ghost use Rattle.bl.specs.Tags.{«formula-tag»};
 ghost use Rattle.bl.specs.Formulas.{argument, formula};
 ghost use Rattle.formula.specs.TagBytes.{«tag-byte»};
-ghost use Rattle.formula.specs.PutIn.{«terms-of», FewTerms, «place-of», «fill-place»};
+ghost use Rattle.formula.specs.PutIn.{«no-terms», «terms-of», FewTerms, «place-of», «fill-place»};
 ghost use Rattle.formula.specs.Meaning.{«tag-of», Means, SpellsPlaces, PlaceReads, PlaceEnds, HeadReads, FormulaEnds};
 
 // A formula as it stands in bytes: where it begins, and the terms put in for the binders passed.
@@ -41,6 +41,24 @@ pub struct Judgement {
     pub formula: FormulaAt,
     pub from: Time,
     pub to: Time,
+}
+
+impl Judgement {
+    // The formula at the front of its bytes with no terms put in, on [ctime,ctime].
+    pub fn front_on_ctime() -> Judgement
+        ensures { λ r. ⌜ r ≡ record { formula = record { at = 0; terms = «no-terms» }; from = Time.Ctime; to = Time.Ctime } ⌝ }
+    {
+        let terms = Terms::none();
+        let formula = FormulaAt {
+            at: 0,
+            terms: terms,
+        };
+        Judgement {
+            formula: formula,
+            from: Time::Ctime,
+            to: Time::Ctime,
+        }
+    }
 }
 
 // What stands where a term may, and the place after it.
@@ -110,13 +128,6 @@ pub fn is_a(bytes: &[u8], at: usize, wanted: FormulaTag) -> bool
     ensures { λ r. ⌜ Tells r («tag-of» (now (bytes .entry)) at ≡ wanted) ⌝ }
 {
     same_tag(tag_at(bytes, at), wanted)
-}
-
-// The place after a byte; past the end it stays.
-pub fn past(bytes: &[u8], at: usize) -> usize
-    ensures { λ r. ⌜ (at < length (now (bytes .entry)) → r ≡ at + 1) ⌝ }
-{
-    if at < bytes.len() { at + 1 } else { at }
 }
 
 // What stands at a place where a term may, with the terms put in.

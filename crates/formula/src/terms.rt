@@ -3,7 +3,6 @@ use procap::fact::Term;
 ghost use mathlib.Core.Path.{_≡_};
 ghost use mathlib.Core.List.{_∷_};
 ghost use Prim.Native.Nat.{suc, _<_};
-ghost use Rattle.procap.specs.Numbered.{«of-numbers»};
 ghost use Rattle.bl.specs.Trees.{bound};
 ghost use Rattle.bl.specs.Formulas.{«most-binders»};
 ghost use Rattle.formula.specs.PutIn.{«no-terms», «terms-of», FewTerms, «place-of», «fill-place»};
@@ -49,9 +48,8 @@ impl Terms {
             return self;
         }
         let mut numbers = self.numbers;
-        let told = numbers_of(term);
-        numbers[2 * count] = told.kind;
-        numbers[2 * count + 1] = told.value;
+        numbers[2 * count] = term.kind();
+        numbers[2 * count + 1] = term.value();
         Terms {
             count: count + 1,
             numbers: numbers,
@@ -74,27 +72,5 @@ impl Terms {
             return Place::Bound(variable as u64);
         }
         Place::Fixed(Term::of_numbers(self.numbers[2 * index], self.numbers[2 * index + 1]))
-    }
-}
-
-// A term told by two numbers: its kind, and the number that it holds.
-struct TermNumbers {
-    kind: u64,
-    value: u64,
-}
-
-// The two numbers that tell a term.
-fn numbers_of(term: Term) -> TermNumbers
-    ensures { λ r. ⌜ «of-numbers» (r .kind) (r .value) ≡ term ⌝ }
-{
-    match term {
-        Term::Name(name) => TermNumbers {
-            kind: 0,
-            value: name as u64,
-        },
-        Term::When(_) => TermNumbers {
-            kind: term.kind(),
-            value: term.value(),
-        },
     }
 }

@@ -89,11 +89,11 @@ pub same-sound : (list : List ℕ) (l r : Ledger) → r .count ≡ l .count → 
 same-sound list l r e s = record { room = s .room; few = rw e (s .few); in-form = λ i h. s .in-form i (rw e at h) }
 
 -- The answer that stops a ledger is its first.
-pub stopped-now : (l : Ledger) (answer : Answer) → l .stop ≡ Going → stopped-by answer l .stop ≡ Stopped answer
+stopped-now : (l : Ledger) (answer : Answer) → l .stop ≡ Going → stopped-by answer l .stop ≡ Stopped answer
 unfolding stopped-by
 stopped-now l answer e = rw e
 
-pub stopped-before : (l : Ledger) (answer before : Answer) → l .stop ≡ Stopped before → stopped-by answer l .stop ≡ Stopped before
+stopped-before : (l : Ledger) (answer before : Answer) → l .stop ≡ Stopped before → stopped-by answer l .stop ≡ Stopped before
 unfolding stopped-by
 stopped-before l answer before e = rw e
 

@@ -86,7 +86,7 @@ module _ {place : ℕ} {l m : List ℕ} (kept : KeptBefore place l m) where
   facts-kept (suc n) h = ap₂ (λ fs f. fs ++ (spelled f ∷ [])) (facts-kept n (omega arith)) (fact-kept n (omega arith))
 
 -- The list with the kind of a term at a place, and with its number after it.
-abbrev pub with-term : List ℕ → ℕ → Term → List ℕ
+abbrev with-term : List ℕ → ℕ → Term → List ℕ
 with-term l at t = with-two l at (kind-of t) (value-of t)
 
 -- A term so put stands at its place, and what stands before it is left.

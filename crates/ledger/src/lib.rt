@@ -272,8 +272,8 @@ fn argument_in(facts: &[u64], at: usize) -> Argument
     }
 }
 
-// A number of the list, 0 past its end.
-fn number_in(numbers: &[u64], at: usize) -> u64
+// A number of a list, 0 past its end.
+pub fn number_in(numbers: &[u64], at: usize) -> u64
     ensures { λ r. ⌜ r ≡ getD (now (numbers .entry)) at 0 ⌝ }
 {
     if at < numbers.len() { numbers[at] } else { 0 }

@@ -8,7 +8,7 @@ use Rattle.procap.specs.declared.time.Time.the-variants.{Moment, MinusIn
 use Rattle.procap.specs.declared.fact.Term.{Term}
 use Rattle.procap.specs.declared.fact.Term.the-variants.{Name, When}
 
-pub name-numbered : (n : ℕ) → n < 65536 → of-numbers 0 n ≡ Name n
+name-numbered : (n : ℕ) → n < 65536 → of-numbers 0 n ≡ Name n
 unfolding of-numbers
 name-numbered n l = ap Name (mod-eq-of-lt l)
 

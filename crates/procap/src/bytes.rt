@@ -5,7 +5,7 @@ use crate::tag::TermTag;
 use crate::time::Time;
 ghost use mathlib.Core.Bool.{Bool};
 ghost use mathlib.Core.Path.{_≡_};
-ghost use Prim.Native.Nat.{_+_, _-_, _^_, _≤_};
+ghost use Prim.Native.Nat.{_+_, _-_, _^_, _≤_, _<_};
 ghost use lib.ListN.{length};
 ghost use lib.Dec.{leb};
 ghost use Rattle.procap.specs.Facts.{«no-fact»};
@@ -45,6 +45,14 @@ impl FactRead {
             next: 0,
         }
     }
+}
+
+// The place after a byte; past the end it stays.
+pub fn past(bytes: &[u8], at: usize) -> usize
+    ensures there { λ r. ⌜ (at < length (now (bytes .entry)) → r ≡ at + 1) ⌝ }
+    ensures stays { λ r. ⌜ (length (now (bytes .entry)) ≤ at → r ≡ at) ⌝ }
+{
+    if at < bytes.len() { at + 1 } else { at }
 }
 
 // The number of one byte at a place.

@@ -2,6 +2,7 @@
 use bl::CheckTag;
 use bl::InferTag;
 use procap::bytes::TermRead;
+use procap::bytes::past;
 use procap::bytes::term_by;
 use procap::fact::Term;
 use procap::tag::TermTag;
@@ -9,7 +10,7 @@ use procap::time::Time;
 ghost use mathlib.Core.Path.{_≡_};
 ghost use mathlib.Core.Option.{some};
 ghost use Prim.Native.Nat.{ℕ, _+_, _≤_, _<_};
-ghost use lib.ListN.{length, getD};
+ghost use lib.ListN.{getD};
 ghost use Rattle.procap.specs.Tells.{Tells};
 ghost use Rattle.procap.specs.Bytes.{term};
 ghost use Rattle.procap.specs.Reading.{TermReads};
@@ -84,13 +85,6 @@ pub fn check_tag_at(proof: &[u8], at: usize) -> CheckTag
     }
 }
 
-// The place after a byte; past the end it stays.
-pub fn after(proof: &[u8], at: usize) -> usize
-    ensures { λ r. ⌜ (at < length (now (proof .entry)) → r ≡ at + 1) ⌝ }
-{
-    if at < proof.len() { at + 1 } else { at }
-}
-
 // The term at a place of the proof and the place after it, or none.
 fn term_read(proof: &[u8], at: usize) -> TermRead
     ensures { λ r. ⌜ TermReads (term (now (proof .entry)) at) r ⌝ }
@@ -142,7 +136,7 @@ pub fn past_step(proof: &[u8], at: usize, left: u64) -> usize
     if left == 0 {
         return at;
     }
-    let begin = after(proof, at);
+    let begin = past(proof, at);
     match check_tag_at(proof, at) {
         CheckTag::PairTag => past_two(proof, begin, left - 1),
         CheckTag::TopStepTag => begin,
@@ -168,10 +162,10 @@ fn past_two(proof: &[u8], at: usize, left: u64) -> usize
 fn past_inferring(proof: &[u8], at: usize, left: u64) -> usize
     ensures { λ r. ⌜ InferringPast (now (proof .entry)) left at r ⌝ }
 {
-    let begin = after(proof, at);
+    let begin = past(proof, at);
     match infer_tag_at(proof, at) {
-        InferTag::LocalTag => after(proof, begin),
-        InferTag::CertificateTag => after(proof, begin),
+        InferTag::LocalTag => past(proof, begin),
+        InferTag::CertificateTag => past(proof, begin),
         InferTag::FirstTag => past_step(proof, begin, left),
         InferTag::SecondTag => past_step(proof, begin, left),
         InferTag::ApplyTag => past_application(proof, begin, left),
@@ -207,7 +201,7 @@ fn infer_end(proof: &[u8], certificates: usize, assumptions: usize, at: usize, l
         return StepEnd::Nowhere;
     }
     let tag = infer_tag_at(proof, at);
-    let begin = after(proof, at);
+    let begin = past(proof, at);
     infer_end_by(proof, certificates, assumptions, tag, begin, left - 1)
 }
 
@@ -275,7 +269,7 @@ fn check_end(proof: &[u8], certificates: usize, assumptions: usize, at: usize, l
     if left == 0 {
         return StepEnd::Nowhere;
     }
-    let begin = after(proof, at);
+    let begin = past(proof, at);
     match check_tag_at(proof, at) {
         CheckTag::PairTag => pair_end(proof, certificates, assumptions, begin, left - 1),
         CheckTag::TopStepTag => StepEnd::At(begin, 0),

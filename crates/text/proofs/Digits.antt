@@ -54,18 +54,18 @@ module _ (text : List ℕ) (at : ℕ) where
 -- ── Values ──
 
 -- More digits only make it larger.
-pub value-grows : (n : ℕ) (ds : List ℕ) → n ≤ value n ds
+value-grows : (n : ℕ) (ds : List ℕ) → n ≤ value n ds
 unfolding value
 value-grows n [] = omega arith
 value-grows n (d ∷ ds) = omega (arith, value-grows (n * 10 + (d - digit-zero)) ds)
 
 -- What a digit adds.
-pub value-more : (n d : ℕ) (ds : List ℕ) → value n ((digit-zero + d) ∷ ds) ≡ value (n * 10 + d) ds
+value-more : (n d : ℕ) (ds : List ℕ) → value n ((digit-zero + d) ∷ ds) ≡ value (n * 10 + d) ds
 unfolding value
 value-more n d ds = ap (λ (k : ℕ). value k ds) (omega arith)
 
 -- The value from the first digit on.
-pub value-first : (d : ℕ) (ds : List ℕ) → value 0 ((digit-zero + d) ∷ ds) ≡ value d ds
+value-first : (d : ℕ) (ds : List ℕ) → value 0 ((digit-zero + d) ∷ ds) ≡ value d ds
 value-first d ds = value-more 0 d ds ∙ ap (λ (k : ℕ). value k ds) (omega arith)
 
 -- ── The one spelling ──

@@ -9,13 +9,13 @@ use Rattle.procap.specs.Procaps.{listed}
 use Rattle.procap.specs.Writable.{TermInForm, ArgumentInForm, FactInForm, Writable}
 use Rattle.procap.specs.Answers.{number-of, place-of}
 use Rattle.procap.specs.declared.answer.Answer.{Answer}
-use Rattle.procap.specs.declared.answer.Answer.the-variants.{Granted, CertificateMalformed, ProofMalformed, StepUnfit, OrderFalse, NoMomentLeft, FactsFull, StateMalformed, RequestDiffers, MomentOutside, FactMissing, MomentAboveLatest, ProcapMalformed, BufferShort, InputMalformed}
 use Rattle.procap.specs.declared.time.Time.the-variants.{Moment, MinusInfinity, PlusInfinity, Ctime}
 use Rattle.procap.specs.declared.fact.Term.{Term}
 use Rattle.procap.specs.declared.fact.Term.the-variants.{Name, When}
 use Rattle.procap.specs.declared.fact.Fact.{Fact}
 use Rattle.procap.specs.declared.procap.Procap.{Procap}
 use Rattle.procap.proofs.Joined.{joined-length}
+use Rattle.procap.proofs.AnswerNumbers.{numbers-are-small}
 use Rattle.text.specs.Text.{line, term-text, fact-text, text-of, refusal-text}
 use Rattle.text.specs.Buffers.{most-text}
 use Rattle.text.proofs.Decimals.{name-few, moment-few, count-few, version-few, answer-few, place-few}
@@ -56,24 +56,6 @@ at-most-1223 p h =
     let to = moment-few (p .to) (omega arith) in
     let count = count-few (p .count) (h .few-facts) in
     simp length-append (omega arith)
-
--- No answer has a number above 14.
-pub numbers-are-small : (answer : Answer) → number-of answer ≤ 14
-numbers-are-small Granted = omega arith
-numbers-are-small (CertificateMalformed i) = omega arith
-numbers-are-small ProofMalformed = omega arith
-numbers-are-small (StepUnfit i) = omega arith
-numbers-are-small (OrderFalse i) = omega arith
-numbers-are-small NoMomentLeft = omega arith
-numbers-are-small (FactsFull i) = omega arith
-numbers-are-small StateMalformed = omega arith
-numbers-are-small RequestDiffers = omega arith
-numbers-are-small MomentOutside = omega arith
-numbers-are-small (FactMissing i) = omega arith
-numbers-are-small MomentAboveLatest = omega arith
-numbers-are-small ProcapMalformed = omega arith
-numbers-are-small BufferShort = omega arith
-numbers-are-small (InputMalformed i) = omega arith
 
 -- The two lines of a refusal, whatever its place.
 pub refusal-at-most-38 : (answer : Answer) → length (refusal-text answer) ≤ 38

@@ -17,7 +17,7 @@ use Rattle.text.specs.Numbers.{digit-zero, most-digits, digits-of, decim
 -- ── Digits ──
 
 -- The byte is a digit.
-abbrev pub IsDigit : ℕ → Type 0
+abbrev IsDigit : ℕ → Type 0
 IsDigit b = is-digit b ≡ true
 
 -- The byte of a number below ten is a digit.

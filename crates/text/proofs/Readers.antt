@@ -55,7 +55,7 @@ pub takes-all : (bytes : List ℕ) → Takes bytes 0 bytes (length bytes)
 takes-all bytes = record { says = rw (drop-length, append-nil); place = omega arith }
 
 -- What is taken from the beginning to the end is the whole.
-pub all-taken : (bytes said : List ℕ) → Takes bytes 0 said (length bytes) → said ≡ bytes
+all-taken : (bytes said : List ℕ) → Takes bytes 0 said (length bytes) → said ≡ bytes
 all-taken bytes said h = sym (rw (drop-length, append-nil) at (h .says))
 
 -- ── What is found ──

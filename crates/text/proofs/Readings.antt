@@ -199,7 +199,7 @@ module _ (text : List ℕ) where
 -- ── What is handed over ──
 
 -- The answer and the procap of a reading.
-abbrev pub Handed : Option Procap → ReadText → Type 0
+abbrev Handed : Option Procap → ReadText → Type 0
 Handed o r = (r .answer ≡ answer-of (or-else ProcapMalformed o)) × (r .procap ≡ procap-handed (or-else ProcapMalformed o))
 
 -- Where there is no procap, the answer is 12 and the procap is empty; where there is one, it is granted.

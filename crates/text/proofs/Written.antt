@@ -41,10 +41,6 @@ module _ (p : Procap) (room : ℕ) where
   unfolding writing
   can-be-written w = goes-on _ _ tt (is-so ProcapMalformed (writable? p) w)
 
-  -- [Numbers 13] One that can be written is refused where its text does not fit.
-  pub does-not-fit : Writable p → room < length (text-of p) → writing p room ≡ refused BufferShort
-  does-not-fit w l = can-be-written w ∙ too-long (text-of p) room l
-
   -- Where it fits, the text is written.
   pub is-written : Writable p → length (text-of p) ≤ room → writing p room ≡ granted (text-of p)
   is-written w l = can-be-written w ∙ fits (text-of p) room l

@@ -42,12 +42,12 @@ use Rattle.verifier.proofs.CertificateLaws.{statements-count}
 -- ── Outcomes that are handed over ──
 
 -- A refusal.
-pub hands-refusal : (o : Outcome Procap) (answer : Answer) (r : Verified) → o ≡ refused answer → r ≡ record { answer = answer; procap = empty-procap } → HandsOver o r
+hands-refusal : (o : Outcome Procap) (answer : Answer) (r : Verified) → o ≡ refused answer → r ≡ record { answer = answer; procap = empty-procap } → HandsOver o r
 unfolding answer-of procap-handed
 hands-refusal o answer r e f = rw e (record { answer = ap (λ x. x .answer) f; procap = ap (λ x. x .procap) f })
 
 -- A grant.
-pub hands-grant : (o : Outcome Procap) (p : Procap) (r : Verified) → o ≡ granted p → r .answer ≡ Granted → r .procap ≡ p → HandsOver o r
+hands-grant : (o : Outcome Procap) (p : Procap) (r : Verified) → o ≡ granted p → r .answer ≡ Granted → r .procap ≡ p → HandsOver o r
 unfolding answer-of procap-handed
 hands-grant o p r e f g = rw e (record { answer = f; procap = g })
 
@@ -106,7 +106,7 @@ module _ (records : List Certificate) (buffer proof : List ℕ) where
 
 module _ (r : Request) (records : List Certificate) (buffer proof : List ℕ) where
   -- A case that reads, in the words of the calls.
-  pub reads-so : (x : List Statement × Check) → read-case records buffer proof ≡ granted x → CaseReads records buffer proof (x .0) (x .1)
+  reads-so : (x : List Statement × Check) → read-case records buffer proof ≡ granted x → CaseReads records buffer proof (x .0) (x .1)
   reads-so x e = case-read r records buffer proof (x .0) (x .1) e (λ e₁ e₂. record { certificates-read = e₁; proof-reads = e₂ })
 
   module _ (v : Verified) where

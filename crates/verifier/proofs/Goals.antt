@@ -13,7 +13,7 @@ use Rattle.formula.specs.PutIn.{stack, terms-of, no-terms, fill-place, fill}
 use Rattle.formula.specs.Meaning.{Means}
 
 -- The bytes, with two for each name of the request.
-abbrev pub goal-bytes : ℕ → ℕ → ℕ → ℕ → ℕ → ℕ → List ℕ
+abbrev goal-bytes : ℕ → ℕ → ℕ → ℕ → ℕ → ℕ → List ℕ
 goal-bytes a b c d e f = 0x15 ∷ 0x00 ∷ 0x00 ∷ 0x01 ∷ 0x17 ∷ 0x00 ∷ 0x64 ∷ 0x03 ∷ 0x00 ∷ a ∷ b ∷ 0x00 ∷ c ∷ d ∷ 0x00 ∷ e ∷ f ∷ []
 
 -- What they read as.
@@ -34,7 +34,7 @@ unfolding stack terms-of fill-place fill
 goal-fills a b c d e f = refl
 
 -- So they mean the goal.
-pub goal-means : (r : Request) (a b c d e f : ℕ) → (0 + a) * 256 + b ≡ r .who → (0 + c) * 256 + d ≡ r .what → (0 + e) * 256 + f ≡ r .right
+goal-means : (r : Request) (a b c d e f : ℕ) → (0 + a) * 256 + b ≡ r .who → (0 + c) * 256 + d ≡ r .what → (0 + e) * 256 + f ≡ r .right
     → Means (goal-bytes a b c d e f) 0 (record { at = 0; terms = no-terms }) (goal r)
 goal-means r a b c d e f who what right = record {
   level = 2;

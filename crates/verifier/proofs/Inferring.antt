@@ -46,7 +46,7 @@ infer-inside proof c zero h q M e r = absurd (no-infer-step proof c zero h q M e
 infer-inside proof c (suc n) h q M e r = infer-read proof c n h q M e r .0
 
 -- What goes on from a step that was inferred, to another judgement at the same end.
-abbrev pub Follows : List ℕ → Inferred → Inferred → (walk.Judgement → Walk walk.Judgement) → Type 0
+abbrev Follows : List ℕ → Inferred → Inferred → (walk.Judgement → Walk walk.Judgement) → Type 0
 Follows buffer inferred r part =
     (state : List ℕ) (b : Book) (w : Walk walk.Judgement) (e : ℕ) (list : List ℕ) → Yields state buffer b w e inferred list → Yields state buffer b (and-then w part) e r list
 

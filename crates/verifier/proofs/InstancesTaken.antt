@@ -49,7 +49,7 @@ its-sort q times (Name n) = inl refl
 its-sort q times (When t) = inr refl
 
 -- What putting in one more term tells.
-abbrev pub OneMore : Terms → Term → Terms → Type 0
+abbrev OneMore : Terms → Term → Terms → Type 0
 OneMore terms t more =
     (FewTerms terms → terms .count < most-binders → FewTerms more)
     × ((terms .count < most-binders → more .count ≡ suc (terms .count))

@@ -23,7 +23,7 @@ abbrev pub After : List ℕ → ℕ → ℕ → Type 0
 After bytes place next = place < length bytes → next ≡ place + 1
 
 -- A formula of at most so many levels that begins at a place ends there.
-abbrev pub EndsAt : List ℕ → ℕ → ℕ → Type 0
+abbrev EndsAt : List ℕ → ℕ → ℕ → Type 0
 EndsAt bytes place end =
     (n : ℕ) (sorts : List Sort) (A : Formula) (e : ℕ) → n ≤ most-formula-levels → formula bytes n sorts place ≡ some (A, e) → end ≡ e
 

@@ -64,7 +64,7 @@ unfolding as-name
 time-no-name e = rw e
 
 -- What reading a place tells: the terms are put in, and the place after it.
-abbrev pub PlaceTold : List ℕ → Terms → ℕ → PlaceRead → Type 0
+abbrev PlaceTold : List ℕ → Terms → ℕ → PlaceRead → Type 0
 PlaceTold bytes terms at r =
     ((sorts : List Sort) (x : tree.Place) (e : ℕ) → FewTerms terms → argument bytes sorts at ≡ some (x, e)
     → place-of (r .place) ≡ fill-place 0 (terms-of terms) x)
@@ -92,7 +92,7 @@ both-placed bytes {terms} at {one} {other} f g sorts x y middle end few e h =
     record { first = f .0 sorts x middle few e; second = g .0 sorts y end few k; ends = g .1 sorts y end k }
 
 -- What reading two times tells.
-abbrev pub SpanTold : List ℕ → Terms → ℕ → ℕ → Ledger → Span → Type 0
+abbrev SpanTold : List ℕ → Terms → ℕ → ℕ → Ledger → Span → Type 0
 SpanTold bytes terms at q l r =
     (sorts : List Sort) (x y : tree.Place) (middle end : ℕ) → FewTerms terms
     → argument bytes sorts at ≡ some (x, middle) → argument bytes sorts middle ≡ some (y, end)

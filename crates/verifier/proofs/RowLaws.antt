@@ -161,7 +161,7 @@ module _ (rows : List ℕ) (at : ℕ) {kind : ℕ} (e : kind ≡ getD rows at 0)
 -- ── A row that is put ──
 
 -- The numbers that a row is put as.
-abbrev pub numbers-of : Row → List ℕ
+abbrev numbers-of : Row → List ℕ
 numbers-of row =
     whose-kind (row .whose)
     ∷ whose-value (row .whose)

@@ -39,7 +39,7 @@ module _ (bytes : List ℕ) {q at i e : ℕ} (after : After bytes q at) (read : 
       let (_, is, _) = byte-at bytes (q + 1) i e read in
       rw there is
 
-  pub next-is : {next : ℕ} → After bytes at next → next ≡ e
+  next-is : {next : ℕ} → After bytes at next → next ≡ e
   next-is g =
       let (inside, _, end) = byte-at bytes (q + 1) i e read in
       let n = there in

@@ -8,7 +8,6 @@ use formula::parts::FormulaAt;
 use formula::parts::Judgement;
 use formula::parts::fact_at;
 use formula::parts::is_a;
-use formula::parts::past;
 use formula::parts::past_formula;
 use formula::parts::place_at;
 use formula::terms::MOST_FORMULA_LEVELS;
@@ -18,16 +17,16 @@ use ledger::Ledger;
 use ledger::Stop;
 use ledger::ask_fact;
 use ledger::ask_order;
+use procap::bytes::past;
 use procap::fact::Term;
 use procap::time::Time;
-use steps::after;
 use steps::byte_or_zero;
 use steps::past_step;
 use steps::time_at;
 ghost use mathlib.Core.Path.{_≡_};
 ghost use mathlib.Core.List.{List};
 ghost use mathlib.Core.Option.{some};
-ghost use Prim.Native.Nat.{ℕ, _<_};
+ghost use Prim.Native.Nat.{ℕ};
 ghost use Rattle.bl.specs.Trees.{Sort, Formula};
 ghost use Rattle.bl.specs.Trees as tree;
 ghost use Rattle.bl.specs.Formulas.{argument};
@@ -117,21 +116,11 @@ fn part_at(judgement: Judgement, at: usize) -> Judgement
     on_interval(part, from, to)
 }
 
-// A judgement that says nothing.
-pub(crate) fn no_judgement() -> Judgement {
-    let terms = Terms::none();
-    let formula = FormulaAt {
-        at: 0,
-        terms: terms,
-    };
-    on_interval(formula, Time::Ctime, Time::Ctime)
-}
-
-// Nothing is inferred.
+// Nothing is inferred: the ledger has stopped, and the judgement says nothing.
 pub(crate) fn nothing(ledger: Ledger) -> Inferred
     ensures { λ r. ⌜ r .ledger ≡ ledger ⌝ }
 {
-    let judgement = no_judgement();
+    let judgement = Judgement::front_on_ctime();
     Inferred {
         ledger: ledger,
         judgement: judgement,
@@ -202,13 +191,13 @@ pub(crate) fn local(
 ) -> Inferred
     ensures { λ r. ⌜ UsesLocal (now (proof .entry)) (now (assumptions .entry)) scope offset ledger r ⌝ }
 {
-    let at = after(proof, offset);
+    let at = past(proof, offset);
     let back = byte_or_zero(proof, at) as usize;
     let count = scope.count;
     if count <= back {
         return nothing(ledger.misfit(offset));
     }
-    let next = after(proof, at);
+    let next = past(proof, at);
     row_used(assumptions, count - back - 1, scope, offset, ledger, next)
 }
 
@@ -222,9 +211,9 @@ pub(crate) fn certificate(
 ) -> Inferred
     ensures { λ r. ⌜ UsesCertificate (now (proof .entry)) (now (certificates .entry)) scope offset ledger r ⌝ }
 {
-    let at = after(proof, offset);
+    let at = past(proof, offset);
     let index = byte_or_zero(proof, at) as usize;
-    let next = after(proof, at);
+    let next = past(proof, at);
     row_used(certificates, index, scope, offset, ledger, next)
 }
 

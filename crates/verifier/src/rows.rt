@@ -3,12 +3,13 @@ use formula::parts::FormulaAt;
 use formula::parts::Judgement;
 use formula::terms::TERMS_NUMBERS;
 use formula::terms::Terms;
+use ledger::number_in;
 use procap::fact::Term;
 use procap::time::Time;
 ghost use mathlib.Core.Path.{_≡_};
 ghost use mathlib.Core.List.{[], _∷_};
 ghost use Prim.Native.Nat.{ℕ, _+_, _≤_, _<_};
-ghost use lib.ListN.{length, getD};
+ghost use lib.ListN.{length};
 ghost use lib.Seq.{sets};
 ghost use Rattle.formula.specs.PutIn.{«terms-numbers»};
 ghost use Rattle.verifier.specs.RowsOf.{«row-in», «whose-in», «time-in», «numbers-in», «most-rows», «all-numbers»};
@@ -53,13 +54,6 @@ impl Whose {
 pub struct Row {
     pub whose: Whose,
     pub judgement: Judgement,
-}
-
-// A number of the rows, 0 past their end.
-fn number_in(rows: &[u64], at: usize) -> u64
-    ensures { λ r. ⌜ r ≡ getD (now (rows .entry)) at 0 ⌝ }
-{
-    if at < rows.len() { rows[at] } else { 0 }
 }
 
 // The time that two numbers of the rows stand for.

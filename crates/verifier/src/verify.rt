@@ -5,9 +5,7 @@ use crate::certificates::rows_of;
 use crate::judge::Scope;
 use crate::judge::View;
 use crate::walk::check;
-use formula::parts::FormulaAt;
 use formula::parts::Judgement;
-use formula::terms::Terms;
 use ledger::LIST_NUMBERS;
 use ledger::Ledger;
 use ledger::Reading;
@@ -17,7 +15,6 @@ use procap::answer::Answer;
 use procap::procap::Procap;
 use procap::procap::Request;
 use procap::time::LATEST_SECOND;
-use procap::time::Time;
 use steps::MOST_PROOF_LEVELS;
 ghost use mathlib.Core.Path.{_≡_};
 ghost use mathlib.Core.List.{List};
@@ -189,7 +186,7 @@ fn walked(
     ensures { λ r. ⌜ Walked request (now (buffer .entry)) (now (proof .entry)) (now (state .entry)) (now (certificates .entry)) reading (now (facts .entry)) r (now (facts .exit)) ⌝ }
 {
     let bytes = goal_of(request);
-    let goal = goal_on_ctime();
+    let goal = Judgement::front_on_ctime();
     let scope = Scope {
         count: 0,
         shut: 0,
@@ -212,22 +209,6 @@ fn walked(
         MOST_PROOF_LEVELS,
     );
     checked.ledger
-}
-
-// The formula that fills the goal's bytes, on [ctime,ctime].
-fn goal_on_ctime() -> Judgement
-    ensures { λ r. ⌜ r ≡ record { formula = record { at = 0; terms = «no-terms» }; from = Time.Ctime; to = Time.Ctime } ⌝ }
-{
-    let terms = Terms::none();
-    let formula = FormulaAt {
-        at: 0,
-        terms: terms,
-    };
-    Judgement {
-        formula: formula,
-        from: Time::Ctime,
-        to: Time::Ctime,
-    }
 }
 
 // The goal of a request as a formula in bytes: 1 says 100(who, what, right).

@@ -25,7 +25,7 @@ use bl::FormulaTag;
 use bl::InferTag;
 use formula::parts::Judgement;
 use ledger::Ledger;
-use steps::after;
+use procap::bytes::past;
 use steps::check_tag_at;
 use steps::infer_tag_at;
 use steps::term_at;
@@ -63,7 +63,7 @@ pub(crate) fn infer(
     if left == 0 {
         return nothing(ledger.misfit(at));
     }
-    let begin = after(proof, at);
+    let begin = past(proof, at);
     match infer_tag_at(proof, at) {
         InferTag::LocalTag => local(proof, assumptions, scope, at, ledger),
         InferTag::CertificateTag => certificate(proof, certificates, scope, at, ledger),
@@ -153,7 +153,7 @@ fn apply(
         facts,
         assumptions,
         scope,
-        after(proof, at),
+        past(proof, at),
         ledger,
         left,
     );
@@ -230,7 +230,7 @@ pub(crate) fn check(
         ),
         CheckTag::TopStepTag => Checked {
             ledger: top(goal_bytes, at, goal, ledger),
-            next: after(proof, at),
+            next: past(proof, at),
         },
         CheckTag::AtInTag => at_in(
             buffer,
@@ -290,11 +290,11 @@ pub(crate) fn check(
         ),
         CheckTag::StateTag => Checked {
             ledger: state_fact(goal_bytes, state, facts, at, goal, ledger),
-            next: after(proof, at),
+            next: past(proof, at),
         },
         CheckTag::OrderStepTag => Checked {
             ledger: order(goal_bytes, at, goal, ledger),
-            next: after(proof, at),
+            next: past(proof, at),
         },
         CheckTag::InferredTag => {
             let inferred = infer(
@@ -378,7 +378,7 @@ fn pair(
         goal_bytes,
         scope,
         one,
-        after(proof, at),
+        past(proof, at),
         after_parts,
         left,
     );
@@ -438,7 +438,7 @@ fn at_in(
         goal_bytes,
         scope,
         judgement,
-        after(proof, at),
+        past(proof, at),
         after_inside,
         left,
     )
@@ -469,7 +469,7 @@ fn at_out(
         facts,
         assumptions,
         scope,
-        after(proof, at),
+        past(proof, at),
         ledger,
         left,
     );
@@ -553,7 +553,7 @@ fn says_in(
         goal_bytes,
         inner,
         judgement,
-        after(proof, at),
+        past(proof, at),
         after_inside,
         left,
     )
@@ -584,7 +584,7 @@ fn says_out(
         facts,
         assumptions,
         scope,
-        after(proof, at),
+        past(proof, at),
         ledger,
         left,
     );

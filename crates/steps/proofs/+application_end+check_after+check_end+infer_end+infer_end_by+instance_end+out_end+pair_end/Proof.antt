@@ -7,6 +7,7 @@ use borrow.Author.Needs.{needs}
 use borrow.Fn.Kinds.{In}
 use borrow.Fn.PlainCycle.{Measures, is, falls, and}
 use Rattle.procap.proofs.Handed.{term-told}
+use Rattle.procap.proofs.bytes.past.Reads as past-reads
 use Rattle.steps.proofs.StepTags.{InferTagged, CheckTagged}
 use Rattle.steps.proofs.StepEnding.{local-ends, certificate-ends, first-ends, second-ends, apply-ends, instance-ends, no-term-ends, no-infer-ends, infer-ends, no-infer-levels, no-check-levels, pair-ends, at-out-ends, says-out-ends, at-in-ends, says-in-ends, trivial-ends, state-ends, compare-ends, no-check-ends, inferred-ends, after-ends, after-nowhere, nowhere-after}
 use Rattle.steps.proofs.StepsCounted.{few-inferring, few-checking, both-few}
@@ -34,7 +35,6 @@ use Rattle.steps.proofs.+application_end+check_after+check_end+infer_en
 use Rattle.steps.proofs.pair_end.Reads as pair-end
 use Rattle.steps.proofs.pair_end.Kinds as pair-end-kinds
 use Rattle.steps.proofs.+application_end+check_after+check_end+infer_end+infer_end_by+instance_end+out_end+pair_end.Lts-pair_end as pair-end-lts
-use Rattle.steps.proofs.after.Reads as after-reads
 use Rattle.steps.proofs.check_tag_at.Reads as check-tag-at-reads
 use Rattle.steps.proofs.index_end.Reads as index-end-reads
 use Rattle.steps.proofs.infer_tag_at.Reads as infer-tag-at-reads
@@ -123,8 +123,8 @@ check-after-calls t = (check-end-below t, check-end.Post)
 
 abbrev check-end-calls : ℕ → check-end-lts.Claims
 check-end-calls t = (
-  after-reads.Asked,
-  after-reads.Learnt,
+  past-reads.Asked,
+  past-reads.Learnt,
   check-tag-at-reads.Asked,
   check-tag-at-reads.Learnt,
   pair-end-below t,
@@ -143,8 +143,8 @@ abbrev infer-end-calls : ℕ → infer-end-lts.Claims
 infer-end-calls t = (
   infer-tag-at-reads.Asked,
   infer-tag-at-reads.Learnt,
-  after-reads.Asked,
-  after-reads.Learnt,
+  past-reads.Asked,
+  past-reads.Learnt,
   infer-end-by-below t,
   infer-end-by.Post,
 )
@@ -231,14 +231,14 @@ check-after-returns-3 t c = nowhere-after _ _ _ _ (c .enum-told2 .given .1)
 -- What is known of a step that checks, once its tag is.
 check-tagged : (t : ℕ) (c : check-end-lts.After-check-tag-at (check-end-calls t) (check-end-at t) check-end.Post)
     → (let start = c .before .before .before .before in
-    CheckTagged (start .args .proof .now) (start .args .left) (start .args .at) (c .before .after .result) (c .check-tag-at .result))
-check-tagged t c = record { more = c .before .before .if1 .left; next = c .before .after .ensures; is = c .check-tag-at .ensures }
+    CheckTagged (start .args .proof .now) (start .args .left) (start .args .at) (c .before .past .result) (c .check-tag-at .result))
+check-tagged t c = record { more = c .before .before .if1 .left; next = c .before .past .ensures .0; is = c .check-tag-at .ensures }
 
 check-end-returns : (t : ℕ) → check-end-lts.Need-returns (check-end-calls t) (check-end-at t) check-end.Post
 check-end-returns t c = no-check-levels _ _ _ _ _ (c .if1 .taken)
 
-check-end-after-requires : (t : ℕ) → check-end-lts.Need-after-requires (check-end-calls t) (check-end-at t) check-end.Post
-check-end-after-requires t c κs = search needs
+check-end-past-requires : (t : ℕ) → check-end-lts.Need-past-requires (check-end-calls t) (check-end-at t) check-end.Post
+check-end-past-requires t c κs = search needs
 
 check-end-check-tag-at-requires : (t : ℕ) → check-end-lts.Need-check-tag-at-requires (check-end-calls t) (check-end-at t) check-end.Post
 check-end-check-tag-at-requires t c κs = search needs
@@ -346,10 +346,10 @@ check-end-returns-11 : (t : ℕ) → check-end-lts.Need-returns-11 (check-end-ca
 check-end-returns-11 t c = no-check-ends (check-tagged t (c .before .before)) _ _ (c .enum-told10 .given .1)
 
 -- What is known of a step that infers, once its tag is.
-infer-tagged : (t : ℕ) (c : infer-end-lts.After-after (infer-end-calls t) (infer-end-at t) infer-end.Post)
+infer-tagged : (t : ℕ) (c : infer-end-lts.After-past (infer-end-calls t) (infer-end-at t) infer-end.Post)
     → (let start = c .before .before .before .before in
-    InferTagged (start .args .proof .now) (start .args .at) (c .after .result) (c .before .infer-tag-at .result))
-infer-tagged t c = record { next = c .after .ensures; is = c .before .infer-tag-at .ensures }
+    InferTagged (start .args .proof .now) (start .args .at) (c .past .result) (c .before .infer-tag-at .result))
+infer-tagged t c = record { next = c .past .ensures .0; is = c .before .infer-tag-at .ensures }
 
 infer-end-returns : (t : ℕ) → infer-end-lts.Need-returns (infer-end-calls t) (infer-end-at t) infer-end.Post
 infer-end-returns t c = no-infer-levels _ _ _ _ _ (c .if1 .taken)
@@ -357,8 +357,8 @@ infer-end-returns t c = no-infer-levels _ _ _ _ _ (c .if1 .taken)
 infer-end-infer-tag-at-requires : (t : ℕ) → infer-end-lts.Need-infer-tag-at-requires (infer-end-calls t) (infer-end-at t) infer-end.Post
 infer-end-infer-tag-at-requires t c κs = search needs
 
-infer-end-after-requires : (t : ℕ) → infer-end-lts.Need-after-requires (infer-end-calls t) (infer-end-at t) infer-end.Post
-infer-end-after-requires t c κs = search needs
+infer-end-past-requires : (t : ℕ) → infer-end-lts.Need-past-requires (infer-end-calls t) (infer-end-at t) infer-end.Post
+infer-end-past-requires t c κs = search needs
 
 infer-end-sub-infer-end-by : (t : ℕ) → infer-end-lts.Need-sub-infer-end-by (infer-end-calls t) (infer-end-at t) infer-end.Post
 infer-end-sub-infer-end-by t c = omega arith
@@ -496,7 +496,7 @@ pub +application-end+check-after+check-end+infer-end+infer-end-by+instance-end+o
     (check-after-returns-3 t))
     (λ t. check-end-lts.spec (check-end-calls t) (check-end-at t) check-end.Post
     (check-end-returns t)
-    (check-end-after-requires t)
+    (check-end-past-requires t)
     (check-end-check-tag-at-requires t)
     (check-end-enum-told t)
     (check-end-sub-pair-end t)
@@ -534,7 +534,7 @@ pub +application-end+check-after+check-end+infer-end+infer-end-by+instance-end+o
     (λ t. infer-end-lts.spec (infer-end-calls t) (infer-end-at t) infer-end.Post
     (infer-end-returns t)
     (infer-end-infer-tag-at-requires t)
-    (infer-end-after-requires t)
+    (infer-end-past-requires t)
     (infer-end-sub-infer-end-by t)
     (infer-end-infer-end-by-requires t)
     (infer-end-returns-2 t))

@@ -6,6 +6,7 @@ use native.Mathlib.Omega.{arith}
 use borrow.Author.Needs.{needs}
 use borrow.Fn.Kinds.{In}
 use borrow.Fn.PlainCycle.{Measures, is, falls, and}
+use Rattle.procap.proofs.bytes.past.Reads as past-reads
 use Rattle.steps.proofs.StepTags.{InferTagged, CheckTagged}
 use Rattle.steps.proofs.StepsPast.{none-past, two-past, application-past, local-past, certificate-past, first-past, second-past, apply-past, instance-past, no-infer-past, pair-past, at-out-past, says-out-past, at-in-past, says-in-past, trivial-past, state-past, compare-past, inferred-past, no-check-past}
 use Rattle.steps.proofs.past_application.Reads as past-application
@@ -20,7 +21,6 @@ use Rattle.steps.proofs.+past_application+past_inferring+past_step+past
 use Rattle.steps.proofs.past_two.Reads as past-two
 use Rattle.steps.proofs.past_two.Kinds as past-two-kinds
 use Rattle.steps.proofs.+past_application+past_inferring+past_step+past_two.Lts-past_two as past-two-lts
-use Rattle.steps.proofs.after.Reads as after-reads
 use Rattle.steps.proofs.check_tag_at.Reads as check-tag-at-reads
 use Rattle.steps.proofs.infer_tag_at.Reads as infer-tag-at-reads
 use Rattle.steps.proofs.term_at.Reads as term-at-reads
@@ -69,8 +69,8 @@ past-application-calls t = (past-two-below t, past-two.Post, time-at-reads.Asked
 
 abbrev past-inferring-calls : ℕ → past-inferring-lts.Claims
 past-inferring-calls t = (
-  after-reads.Asked,
-  after-reads.Learnt,
+  past-reads.Asked,
+  past-reads.Learnt,
   infer-tag-at-reads.Asked,
   infer-tag-at-reads.Learnt,
   past-step-below t,
@@ -83,8 +83,8 @@ past-inferring-calls t = (
 
 abbrev past-step-calls : ℕ → past-step-lts.Claims
 past-step-calls t = (
-  after-reads.Asked,
-  after-reads.Learnt,
+  past-reads.Asked,
+  past-reads.Learnt,
   check-tag-at-reads.Asked,
   check-tag-at-reads.Learnt,
   past-two-below t,
@@ -117,11 +117,11 @@ past-application-returns t c =
 -- What is known of a step that infers, once its tag is.
 infer-tagged : (t : ℕ) (c : past-inferring-lts.After-infer-tag-at (past-inferring-calls t) (past-inferring-at t) past-inferring.Post)
     → (let start = c .before .before .before in
-    InferTagged (start .args .proof .now) (start .args .at) (c .before .after .result) (c .infer-tag-at .result))
-infer-tagged t c = record { next = c .before .after .ensures; is = c .infer-tag-at .ensures }
+    InferTagged (start .args .proof .now) (start .args .at) (c .before .past .result) (c .infer-tag-at .result))
+infer-tagged t c = record { next = c .before .past .ensures .0; is = c .infer-tag-at .ensures }
 
-past-inferring-after-requires : (t : ℕ) → past-inferring-lts.Need-after-requires (past-inferring-calls t) (past-inferring-at t) past-inferring.Post
-past-inferring-after-requires t c κs = search needs
+past-inferring-past-requires : (t : ℕ) → past-inferring-lts.Need-past-requires (past-inferring-calls t) (past-inferring-at t) past-inferring.Post
+past-inferring-past-requires t c κs = search needs
 
 past-inferring-infer-tag-at-requires :
     (t : ℕ) → past-inferring-lts.Need-infer-tag-at-requires (past-inferring-calls t) (past-inferring-at t) past-inferring.Post
@@ -130,16 +130,16 @@ past-inferring-infer-tag-at-requires t c κs = search needs
 past-inferring-enum-told : (t : ℕ) → past-inferring-lts.Need-enum-told (past-inferring-calls t) (past-inferring-at t) past-inferring.Post
 past-inferring-enum-told t c = search needs
 
-past-inferring-after-requires-2 :
-    (t : ℕ) → past-inferring-lts.Need-after-requires-2 (past-inferring-calls t) (past-inferring-at t) past-inferring.Post
-past-inferring-after-requires-2 t c κs = search needs
+past-inferring-past-requires-2 :
+    (t : ℕ) → past-inferring-lts.Need-past-requires-2 (past-inferring-calls t) (past-inferring-at t) past-inferring.Post
+past-inferring-past-requires-2 t c κs = search needs
 
 past-inferring-enum-told-2 : (t : ℕ) → past-inferring-lts.Need-enum-told-2 (past-inferring-calls t) (past-inferring-at t) past-inferring.Post
 past-inferring-enum-told-2 t c = search needs
 
-past-inferring-after-requires-3 :
-    (t : ℕ) → past-inferring-lts.Need-after-requires-3 (past-inferring-calls t) (past-inferring-at t) past-inferring.Post
-past-inferring-after-requires-3 t c κs = search needs
+past-inferring-past-requires-3 :
+    (t : ℕ) → past-inferring-lts.Need-past-requires-3 (past-inferring-calls t) (past-inferring-at t) past-inferring.Post
+past-inferring-past-requires-3 t c κs = search needs
 
 past-inferring-enum-told-3 : (t : ℕ) → past-inferring-lts.Need-enum-told-3 (past-inferring-calls t) (past-inferring-at t) past-inferring.Post
 past-inferring-enum-told-3 t c = search needs
@@ -177,11 +177,11 @@ past-inferring-enum-told-7 : (t : ℕ) → past-inferring-lts.Need-enum-told-7 (
 past-inferring-enum-told-7 t c = search needs
 
 past-inferring-returns : (t : ℕ) → past-inferring-lts.Need-returns (past-inferring-calls t) (past-inferring-at t) past-inferring.Post
-past-inferring-returns t c = local-past (infer-tagged t (c .before .before .before)) _ _ (c .after2 .ensures) (c .before .enum-told .given .1)
+past-inferring-returns t c = local-past (infer-tagged t (c .before .before .before)) _ _ (c .past2 .ensures .0) (c .before .enum-told .given .1)
 
 past-inferring-returns-2 : (t : ℕ) → past-inferring-lts.Need-returns-2 (past-inferring-calls t) (past-inferring-at t) past-inferring.Post
 past-inferring-returns-2 t c =
-    certificate-past (infer-tagged t (c .before .before .before)) _ _ (c .after3 .ensures) (c .before .enum-told2 .given .1)
+    certificate-past (infer-tagged t (c .before .before .before)) _ _ (c .past3 .ensures .0) (c .before .enum-told2 .given .1)
 
 past-inferring-returns-3 : (t : ℕ) → past-inferring-lts.Need-returns-3 (past-inferring-calls t) (past-inferring-at t) past-inferring.Post
 past-inferring-returns-3 t c = first-past (infer-tagged t (c .before .before .before)) _ _ (c .past-step .ensures) (c .before .enum-told3 .given .1)
@@ -204,14 +204,14 @@ past-inferring-returns-7 t c = no-infer-past (infer-tagged t (c .before .before)
 -- What is known of a step that checks, once its tag is.
 check-tagged : (t : ℕ) (c : past-step-lts.After-check-tag-at (past-step-calls t) (past-step-at t) past-step.Post)
     → (let start = c .before .before .before .before in
-    CheckTagged (start .args .proof .now) (start .args .left) (start .args .at) (c .before .after .result) (c .check-tag-at .result))
-check-tagged t c = record { more = c .before .before .if1 .left; next = c .before .after .ensures; is = c .check-tag-at .ensures }
+    CheckTagged (start .args .proof .now) (start .args .left) (start .args .at) (c .before .past .result) (c .check-tag-at .result))
+check-tagged t c = record { more = c .before .before .if1 .left; next = c .before .past .ensures .0; is = c .check-tag-at .ensures }
 
 past-step-returns : (t : ℕ) → past-step-lts.Need-returns (past-step-calls t) (past-step-at t) past-step.Post
 past-step-returns t c = none-past _ _ _ _ (c .if1 .taken)
 
-past-step-after-requires : (t : ℕ) → past-step-lts.Need-after-requires (past-step-calls t) (past-step-at t) past-step.Post
-past-step-after-requires t c κs = search needs
+past-step-past-requires : (t : ℕ) → past-step-lts.Need-past-requires (past-step-calls t) (past-step-at t) past-step.Post
+past-step-past-requires t c κs = search needs
 
 past-step-check-tag-at-requires : (t : ℕ) → past-step-lts.Need-check-tag-at-requires (past-step-calls t) (past-step-at t) past-step.Post
 past-step-check-tag-at-requires t c κs = search needs
@@ -330,12 +330,12 @@ pub +past-application+past-inferring+past-step+past-two-spec : {M : Type 1} → 
     (past-application-time-at-requires-2 t)
     (past-application-returns t))
     (λ t. past-inferring-lts.spec (past-inferring-calls t) (past-inferring-at t) past-inferring.Post
-    (past-inferring-after-requires t)
+    (past-inferring-past-requires t)
     (past-inferring-infer-tag-at-requires t)
     (past-inferring-enum-told t)
-    (past-inferring-after-requires-2 t)
+    (past-inferring-past-requires-2 t)
     (past-inferring-enum-told-2 t)
-    (past-inferring-after-requires-3 t)
+    (past-inferring-past-requires-3 t)
     (past-inferring-enum-told-3 t)
     (past-inferring-past-step-requires t)
     (past-inferring-enum-told-4 t)
@@ -355,7 +355,7 @@ pub +past-application+past-inferring+past-step+past-two-spec : {M : Type 1} → 
     (past-inferring-returns-7 t))
     (λ t. past-step-lts.spec (past-step-calls t) (past-step-at t) past-step.Post
     (past-step-returns t)
-    (past-step-after-requires t)
+    (past-step-past-requires t)
     (past-step-check-tag-at-requires t)
     (past-step-enum-told t)
     (past-step-sub-past-two t)

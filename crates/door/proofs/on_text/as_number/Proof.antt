@@ -1,7 +1,7 @@
 -- Numbers end at 14 and the place is below 256, so that nothing overflows.
 use borrow.Author.Needs.{needs}
 use native.Mathlib.Omega.{arith}
-use Rattle.door.proofs.Answering.{numbers-are-small}
+use Rattle.procap.proofs.AnswerNumbers.{numbers-are-small}
 use Rattle.door.proofs.on_text.as_number.Statement.{statement}
 use Rattle.door.proofs.on_text.as_number.Tie as tie
 

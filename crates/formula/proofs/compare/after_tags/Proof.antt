@@ -17,7 +17,7 @@ at-requires c κs = search needs
 returns : tie.Need-returns
 returns c inside inside′ =
     let pair = c .before .before .before .before .before .args .pair in
-    c .at .ensures ∙ ap₂ (move pair) (c .before .before .past .ensures inside) (c .before .past2 .ensures inside′)
+    c .at .ensures ∙ ap₂ (move pair) (c .before .before .past .ensures .0 inside) (c .before .past2 .ensures .0 inside′)
 
 pub after-tags-spec : {M : Type 1} → statement M
 after-tags-spec = tie.close (tie.spec past-requires past-requires-2 at-requires returns)

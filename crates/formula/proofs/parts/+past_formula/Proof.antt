@@ -5,11 +5,11 @@ use borrow.Fn.Kinds.{In}
 use borrow.Fn.PlainCycle.{Measures, is, falls, and}
 use mathlib.Core.Path.{refl}
 use native.Mathlib.Omega.{arith}
+use Rattle.procap.proofs.bytes.past.Reads as past-reads
 use Rattle.formula.proofs.FormulaEnds.{none-left, top-ends, and-ends, implies-ends, all-names-end, all-times-end, says-ends, at-ends, atom-ends, fact-ends, order-ends, not-tagged}
 use Rattle.formula.proofs.parts.past_formula.Reads as past-formula
 use Rattle.formula.proofs.parts.past_formula.Kinds as past-formula-kinds
 use Rattle.formula.proofs.parts.+past_formula.Lts-past_formula as past-formula-lts
-use Rattle.formula.proofs.parts.past.Reads as past-reads
 use Rattle.formula.proofs.parts.past_head.Reads as past-head-reads
 use Rattle.formula.proofs.parts.past_place.Reads as past-place-reads
 use Rattle.formula.proofs.parts.tag_at.Reads as tag-at-reads
@@ -47,66 +47,66 @@ past-formula-returns t c = none-left _ _ _ _ (c .if1 .taken)
 past-formula-returns-2 : (t : ℕ) → past-formula-lts.Need-returns-2 (past-formula-calls t) (past-formula-at t) past-formula.Post
 past-formula-returns-2 t c =
     let there = c .before .before in
-    top-ends _ _ _ _ _ _ (there .before .tag-at .ensures) (there .past .ensures) (c .enum-told .given .1) refl
+    top-ends _ _ _ _ _ _ (there .before .tag-at .ensures) (there .past .ensures .0) (c .enum-told .given .1) refl
 
 past-formula-returns-3 : (t : ℕ) → past-formula-lts.Need-returns-3 (past-formula-calls t) (past-formula-at t) past-formula.Post
 past-formula-returns-3 t c =
     let told = c .before .before in
     let there = told .before .before in
-    and-ends _ _ _ _ _ _ (there .before .tag-at .ensures) (there .past .ensures) _ (c .before .past-formula .ensures) (c .past-formula2 .ensures) (told .enum-told2 .given .1)
+    and-ends _ _ _ _ _ _ (there .before .tag-at .ensures) (there .past .ensures .0) _ (c .before .past-formula .ensures) (c .past-formula2 .ensures) (told .enum-told2 .given .1)
 
 past-formula-returns-4 : (t : ℕ) → past-formula-lts.Need-returns-4 (past-formula-calls t) (past-formula-at t) past-formula.Post
 past-formula-returns-4 t c =
     let told = c .before .before in
     let there = told .before .before in
-    implies-ends _ _ _ _ _ _ (there .before .tag-at .ensures) (there .past .ensures) _ (c .before .past-formula3 .ensures) (c .past-formula4 .ensures) (told .enum-told3 .given .1)
+    implies-ends _ _ _ _ _ _ (there .before .tag-at .ensures) (there .past .ensures .0) _ (c .before .past-formula3 .ensures) (c .past-formula4 .ensures) (told .enum-told3 .given .1)
 
 past-formula-returns-5 : (t : ℕ) → past-formula-lts.Need-returns-5 (past-formula-calls t) (past-formula-at t) past-formula.Post
 past-formula-returns-5 t c =
     let told = c .before in
     let there = told .before .before in
-    all-names-end _ _ _ _ _ _ (there .before .tag-at .ensures) (there .past .ensures) (c .past-formula5 .ensures) (told .enum-told4 .given .1)
+    all-names-end _ _ _ _ _ _ (there .before .tag-at .ensures) (there .past .ensures .0) (c .past-formula5 .ensures) (told .enum-told4 .given .1)
 
 past-formula-returns-6 : (t : ℕ) → past-formula-lts.Need-returns-6 (past-formula-calls t) (past-formula-at t) past-formula.Post
 past-formula-returns-6 t c =
     let told = c .before in
     let there = told .before .before in
-    all-times-end _ _ _ _ _ _ (there .before .tag-at .ensures) (there .past .ensures) (c .past-formula6 .ensures) (told .enum-told5 .given .1)
+    all-times-end _ _ _ _ _ _ (there .before .tag-at .ensures) (there .past .ensures .0) (c .past-formula6 .ensures) (told .enum-told5 .given .1)
 
 past-formula-returns-7 : (t : ℕ) → past-formula-lts.Need-returns-7 (past-formula-calls t) (past-formula-at t) past-formula.Post
 past-formula-returns-7 t c =
     let told = c .before .before in
     let there = told .before .before in
-    says-ends _ _ _ _ _ _ (there .before .tag-at .ensures) (there .past .ensures) _ (c .before .past-place .ensures) (c .past-formula7 .ensures) (told .enum-told6 .given .1)
+    says-ends _ _ _ _ _ _ (there .before .tag-at .ensures) (there .past .ensures .0) _ (c .before .past-place .ensures) (c .past-formula7 .ensures) (told .enum-told6 .given .1)
 
 past-formula-returns-8 : (t : ℕ) → past-formula-lts.Need-returns-8 (past-formula-calls t) (past-formula-at t) past-formula.Post
 past-formula-returns-8 t c =
     let told = c .before .before .before in
     let there = told .before .before in
-    at-ends _ _ _ _ _ _ (there .before .tag-at .ensures) (there .past .ensures) _ _ (c .before .before .past-place2 .ensures) (c .before .past-place3 .ensures) (c .past-formula8 .ensures) (told .enum-told7 .given .1)
+    at-ends _ _ _ _ _ _ (there .before .tag-at .ensures) (there .past .ensures .0) _ _ (c .before .before .past-place2 .ensures) (c .before .past-place3 .ensures) (c .past-formula8 .ensures) (told .enum-told7 .given .1)
 
 past-formula-returns-9 : (t : ℕ) → past-formula-lts.Need-returns-9 (past-formula-calls t) (past-formula-at t) past-formula.Post
 past-formula-returns-9 t c =
     let told = c .before in
     let there = told .before .before in
-    atom-ends _ _ _ _ _ _ (there .before .tag-at .ensures) (there .past .ensures) (c .past-head .ensures) (told .enum-told8 .given .1)
+    atom-ends _ _ _ _ _ _ (there .before .tag-at .ensures) (there .past .ensures .0) (c .past-head .ensures) (told .enum-told8 .given .1)
 
 past-formula-returns-10 : (t : ℕ) → past-formula-lts.Need-returns-10 (past-formula-calls t) (past-formula-at t) past-formula.Post
 past-formula-returns-10 t c =
     let told = c .before in
     let there = told .before .before in
-    fact-ends _ _ _ _ _ _ (there .before .tag-at .ensures) (there .past .ensures) (c .past-head2 .ensures) (told .enum-told9 .given .1)
+    fact-ends _ _ _ _ _ _ (there .before .tag-at .ensures) (there .past .ensures .0) (c .past-head2 .ensures) (told .enum-told9 .given .1)
 
 past-formula-returns-11 : (t : ℕ) → past-formula-lts.Need-returns-11 (past-formula-calls t) (past-formula-at t) past-formula.Post
 past-formula-returns-11 t c =
     let told = c .before .before in
     let there = told .before .before in
-    order-ends _ _ _ _ _ _ (there .before .tag-at .ensures) (there .past .ensures) _ (c .before .past-place4 .ensures) (c .past-place5 .ensures) (told .enum-told10 .given .1)
+    order-ends _ _ _ _ _ _ (there .before .tag-at .ensures) (there .past .ensures .0) _ (c .before .past-place4 .ensures) (c .past-place5 .ensures) (told .enum-told10 .given .1)
 
 past-formula-returns-12 : (t : ℕ) → past-formula-lts.Need-returns-12 (past-formula-calls t) (past-formula-at t) past-formula.Post
 past-formula-returns-12 t c =
     let there = c .before .before in
-    not-tagged _ _ _ _ _ _ (there .before .tag-at .ensures) (there .past .ensures) (c .enum-told11 .given .1)
+    not-tagged _ _ _ _ _ _ (there .before .tag-at .ensures) (there .past .ensures .0) (c .enum-told11 .given .1)
 
 -- The other needs: the levels left, and that each call may be made.
 pub +past-formula-spec : {M : Type 1} → statement M

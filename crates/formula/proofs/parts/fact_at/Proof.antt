@@ -18,7 +18,7 @@ returns : tie.Need-returns
 returns c =
     let head = c .before .before .before in
     rw (c .none .ensures)
-    (λ p xs m. absurd (omega (arith, few-read _ _ _ (head .before .past .ensures) _ (head .head-at .ensures) p xs m, c .before .if1 .taken)), omega arith)
+    (λ p xs m. absurd (omega (arith, few-read _ _ _ (head .before .past .ensures .0) _ (head .head-at .ensures) p xs m, c .before .if1 .taken)), omega arith)
 
 fact-with-requires : tie.Need-fact-with-requires
 fact-with-requires c κs = search needs
@@ -26,7 +26,7 @@ fact-with-requires c κs = search needs
 returns-2 : tie.Need-returns-2
 returns-2 c =
     let head = c .before .before .before in
-    (λ p xs m. spells-fact _ _ _ (head .before .past .ensures) _ (head .head-at .ensures) p xs m _ _ (c .fact-with .ensures .0), c .fact-with .ensures .1)
+    (λ p xs m. spells-fact _ _ _ (head .before .past .ensures .0) _ (head .head-at .ensures) p xs m _ _ (c .fact-with .ensures .0), c .fact-with .ensures .1)
 
 pub fact-at-spec : {M : Type 1} → statement M
 fact-at-spec =

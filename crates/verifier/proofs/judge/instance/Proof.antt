@@ -60,7 +60,7 @@ returns-3 c =
     (takes-yields _ (y .gives .sound) (y .ends going)
     (instance-there _ (y .on going) _ _
     (holds-else (told .before .is-a .result) (told .if2 .left) (told .before .is-a .ensures) ∙ bound .binder-of .ensures)
-    (c .before .past .ensures)
+    (c .before .past .ensures .0)
     (c .before .before .with .ensures)
     (c .on-interval .ensures)))
 

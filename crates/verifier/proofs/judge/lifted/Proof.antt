@@ -32,7 +32,7 @@ returns-2 : tie.Need-returns-2
 returns-2 c =
     let told = c .before .before .before .before in
     λ F m.
-    at-taken m (c .before .before .before .past .ensures) _ (holds-else (told .before .is-a .result) (told .if1 .left) (told .before .is-a .ensures))
+    at-taken m (c .before .before .before .past .ensures .0) _ (holds-else (told .before .is-a .result) (told .if1 .left) (told .before .is-a .ensures))
     (c .before .before .span-at .ensures)
     (c .on-interval .ensures)
 

@@ -6,8 +6,8 @@ use Rattle.verifier.proofs.RowsUsed.{index-is, local-used}
 use Rattle.verifier.proofs.judge.local.Statement.{statement}
 use Rattle.verifier.proofs.judge.local.Tie as tie
 
-after-requires : tie.Need-after-requires
-after-requires c κs = search needs
+past-requires : tie.Need-past-requires
+past-requires c κs = search needs
 
 byte-or-zero-requires : tie.Need-byte-or-zero-requires
 byte-or-zero-requires c κs = search needs
@@ -25,11 +25,11 @@ returns : tie.Need-returns
 returns c =
     let read = c .before .before .before in
     λ state buffer list Γ i e s assumed few byte below.
-    let index = index-is _ (read .before .after .ensures) byte in
+    let index = index-is _ (read .before .past .ensures .0) byte in
     absurd (omega (arith, read .byte-or-zero .ensures, c .before .before .if1 .taken))
 
-after-requires-2 : tie.Need-after-requires-2
-after-requires-2 c κs = search needs
+past-requires-2 : tie.Need-past-requires-2
+past-requires-2 c κs = search needs
 
 sub-row-used : tie.Need-sub-row-used
 sub-row-used c = search needs
@@ -44,20 +44,20 @@ returns-2 : tie.Need-returns-2
 returns-2 c =
     let read = c .before .before .before in
     λ state buffer list Γ i e s.
-    local-used _ _ _ _ _ (read .before .after .ensures) (c .before .after2 .ensures) _ _ Γ (rw (read .byte-or-zero .ensures) refl)
+    local-used _ _ _ _ _ (read .before .past .ensures .0) (c .before .past2 .ensures .0) _ _ Γ (rw (read .byte-or-zero .ensures) refl)
     (λ x. c .row-used .ensures state buffer list x s)
 
 pub local-spec : {M : Type 1} → statement M
 local-spec =
     tie.close
     (tie.spec
-    after-requires
+    past-requires
     byte-or-zero-requires
     cast-back
     misfit-requires
     nothing-requires
     returns
-    after-requires-2
+    past-requires-2
     sub-row-used
     sub-row-used-2
     row-used-requires

@@ -19,7 +19,7 @@ read : (c : tie.After-place-at) {F : Formula} → let args = c .before .before .
 read c m =
     let told = c .before .before in
     let tag = holds-else (told .before .is-a .result) (told .if1 .left) (told .before .is-a .ensures) in
-    says-read m (c .before .past .ensures) tag (c .place-at .ensures)
+    says-read m (c .before .past .ensures .0) tag (c .place-at .ensures)
 
 is-a-requires : tie.Need-is-a-requires
 is-a-requires c κs = search needs

@@ -33,7 +33,7 @@ returns-2 c =
     let told = c .before .before .before .before in
     λ F two m.
     sides-there _ m _ _ two (holds-else (told .before .is-a .result) (told .if1 .left) (told .before .is-a .ensures))
-    (c .before .before .before .past .ensures)
+    (c .before .before .before .past .ensures .0)
     (c .before .before .past-formula .ensures)
     (c .before .part-at .ensures)
     (c .part-at2 .ensures)

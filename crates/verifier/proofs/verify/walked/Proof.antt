@@ -7,8 +7,8 @@ use Rattle.verifier.proofs.verify.walked.Tie as tie
 goal-of-requires : tie.Need-goal-of-requires
 goal-of-requires c κs = search needs
 
-goal-on-ctime-requires : tie.Need-goal-on-ctime-requires
-goal-on-ctime-requires c κs = search needs
+front-on-ctime-requires : tie.Need-front-on-ctime-requires
+front-on-ctime-requires c κs = search needs
 
 begin-requires : tie.Need-begin-requires
 begin-requires c κs = search needs
@@ -30,7 +30,7 @@ returns c =
     let check = c .before .before .before .check in
     let started = c .before .before .before .before .before .before .before in
     let begin = started .begin in
-    let goal = started .before .goal-on-ctime in
+    let goal = started .before .front-on-ctime in
     let goal-of = started .before .before .goal-of in
     walk-of-request _ _ _ _ _ _ _ _ _ (check .result) (check .last .1 .1 .1 .1 .0) (begin .result) (goal .result) (begin .ensures) (goal .ensures)
     (goal-of .ensures) (check .ensures)
@@ -40,7 +40,7 @@ walked-spec =
     tie.close
     (tie.spec
     goal-of-requires
-    goal-on-ctime-requires
+    front-on-ctime-requires
     begin-requires
     slice-aggregate-check
     slice-aggregate-check-2

@@ -46,7 +46,7 @@ use Rattle.verifier.proofs.judge.top.Reads as top-reads
 use Rattle.ledger.proofs.Ledger.goes_on.Reads as goes-on-reads
 use Rattle.ledger.proofs.Ledger.misfit.Reads as misfit-reads
 use Rattle.verifier.proofs.rows.with_row.Reads as with-row-reads
-use Rattle.steps.proofs.after.Reads as after-reads
+use Rattle.procap.proofs.bytes.past.Reads as past-reads
 use Rattle.steps.proofs.check_tag_at.Reads as check-tag-at-reads
 use Rattle.steps.proofs.infer_tag_at.Reads as infer-tag-at-reads
 use Rattle.steps.proofs.term_at.Reads as term-at-reads
@@ -160,8 +160,8 @@ assuming-calls t = (
 
 abbrev says-out-calls : ℕ → says-out-lts.Claims
 says-out-calls t = (
-  after-reads.Asked,
-  after-reads.Learnt,
+  past-reads.Asked,
+  past-reads.Learnt,
   infer-below t,
   infer.Post,
   goes-on-reads.Asked,
@@ -178,16 +178,16 @@ says-in-calls t = (
   said-reads.Learnt,
   goes-on-reads.Asked,
   goes-on-reads.Learnt,
-  after-reads.Asked,
-  after-reads.Learnt,
+  past-reads.Asked,
+  past-reads.Learnt,
   check-below t,
   check.Post,
 )
 
 abbrev at-out-calls : ℕ → at-out-lts.Claims
 at-out-calls t = (
-  after-reads.Asked,
-  after-reads.Learnt,
+  past-reads.Asked,
+  past-reads.Learnt,
   infer-below t,
   infer.Post,
   goes-on-reads.Asked,
@@ -200,8 +200,8 @@ at-out-calls t = (
 
 abbrev apply-calls : ℕ → apply-lts.Claims
 apply-calls t = (
-  after-reads.Asked,
-  after-reads.Learnt,
+  past-reads.Asked,
+  past-reads.Learnt,
   infer-below t,
   infer.Post,
   goes-on-reads.Asked,
@@ -220,8 +220,8 @@ infer-calls t = (
   misfit-reads.Learnt,
   nothing-reads.Asked,
   nothing-reads.Learnt,
-  after-reads.Asked,
-  after-reads.Learnt,
+  past-reads.Asked,
+  past-reads.Learnt,
   infer-tag-at-reads.Asked,
   infer-tag-at-reads.Learnt,
   local-reads.Asked,
@@ -248,8 +248,8 @@ at-in-calls t = (
   lifted-reads.Learnt,
   goes-on-reads.Asked,
   goes-on-reads.Learnt,
-  after-reads.Asked,
-  after-reads.Learnt,
+  past-reads.Asked,
+  past-reads.Learnt,
   check-below t,
   check.Post,
 )
@@ -264,8 +264,8 @@ check-calls t = (
   pair.Post,
   top-reads.Asked,
   top-reads.Learnt,
-  after-reads.Asked,
-  after-reads.Learnt,
+  past-reads.Asked,
+  past-reads.Learnt,
   at-in-below t,
   at-in.Post,
   at-out-below t,
@@ -290,14 +290,14 @@ pair-calls t = (
   sides-of-reads.Learnt,
   goes-on-reads.Asked,
   goes-on-reads.Learnt,
-  after-reads.Asked,
-  after-reads.Learnt,
+  past-reads.Asked,
+  past-reads.Learnt,
   check-below t,
   check.Post,
 )
 
-apply-after-requires : (t : ℕ) → apply-lts.Need-after-requires (apply-calls t) (apply-at t) apply.Post
-apply-after-requires t c κs = search needs
+apply-past-requires : (t : ℕ) → apply-lts.Need-past-requires (apply-calls t) (apply-at t) apply.Post
+apply-past-requires t c κs = search needs
 
 apply-infer-requires : (t : ℕ) → apply-lts.Need-infer-requires (apply-calls t) (apply-at t) apply.Post
 apply-infer-requires t c κs = search needs
@@ -312,8 +312,8 @@ apply-returns : (t : ℕ) → apply-lts.Need-returns (apply-calls t) (apply-at t
 apply-returns t c =
     let after-goes-on = c .before in
     let after-infer = after-goes-on .before .before .before .before in
-    let after-after = after-infer .before in
-    infer-apply-stopped _ _ _ _ _ _ _ _ _ _ _ (after-after .after .ensures) _ _ (after-infer .infer .ensures) (fails-where (after-goes-on .goes-on .result) (c .if1 .taken) (after-goes-on .goes-on .ensures))
+    let after-past = after-infer .before in
+    infer-apply-stopped _ _ _ _ _ _ _ _ _ _ _ (after-past .past .ensures .0) _ _ (after-infer .infer .ensures) (fails-where (after-goes-on .goes-on .result) (c .if1 .taken) (after-goes-on .goes-on .ensures))
 
 apply-put-to-use-requires : (t : ℕ) → apply-lts.Need-put-to-use-requires (apply-calls t) (apply-at t) apply.Post
 apply-put-to-use-requires t c κs = search needs
@@ -335,8 +335,8 @@ apply-returns-2 t c =
     let after-if1 = after-put-to-use .before in
     let after-goes-on = after-if1 .before in
     let after-infer = after-goes-on .before .before .before .before in
-    let after-after = after-infer .before in
-    infer-apply-unused _ _ _ _ _ _ _ _ _ _ _ (after-after .after .ensures) _ _ (after-infer .infer .ensures) (holds-else (after-goes-on .goes-on .result) (after-if1 .if1 .left) (after-goes-on .goes-on .ensures))
+    let after-past = after-infer .before in
+    infer-apply-unused _ _ _ _ _ _ _ _ _ _ _ (after-past .past .ensures .0) _ _ (after-infer .infer .ensures) (holds-else (after-goes-on .goes-on .result) (after-if1 .if1 .left) (after-goes-on .goes-on .ensures))
     _ (after-put-to-use .put-to-use .ensures) _ (c .nothing .ensures) (fails-where (after-goes-on2 .goes-on2 .result) (after-if2 .if2 .taken) (after-goes-on2 .goes-on2 .ensures))
 
 apply-check-requires : (t : ℕ) → apply-lts.Need-check-requires (apply-calls t) (apply-at t) apply.Post
@@ -357,8 +357,8 @@ apply-returns-3 t c =
     let after-if1 = after-put-to-use .before in
     let after-goes-on = after-if1 .before in
     let after-infer = after-goes-on .before .before .before .before in
-    let after-after = after-infer .before in
-    infer-apply _ _ _ _ _ _ _ _ _ _ _ (after-after .after .ensures) _ _ (after-infer .infer .ensures) (holds-else (after-goes-on .goes-on .result) (after-if1 .if1 .left) (after-goes-on .goes-on .ensures))
+    let after-past = after-infer .before in
+    infer-apply _ _ _ _ _ _ _ _ _ _ _ (after-past .past .ensures .0) _ _ (after-infer .infer .ensures) (holds-else (after-goes-on .goes-on .result) (after-if1 .if1 .left) (after-goes-on .goes-on .ensures))
     _ (after-put-to-use .put-to-use .ensures) (holds-else (after-goes-on2 .goes-on2 .result) (after-if2 .if2 .left) (after-goes-on2 .goes-on2 .ensures))
     _ _ (after-check .check .ensures)
 
@@ -404,8 +404,8 @@ at-in-returns t c =
     check-at-in-unfit _ _ _ _ _ _ _ _ _ _ _ _ (after-lifted .lifted .result) (after-lifted .lifted .ensures) (fails-where (after-goes-on .goes-on .result) (c .if1 .taken) (after-goes-on .goes-on .ensures))
     _
 
-at-in-after-requires : (t : ℕ) → at-in-lts.Need-after-requires (at-in-calls t) (at-in-at t) at-in.Post
-at-in-after-requires t c κs = search needs
+at-in-past-requires : (t : ℕ) → at-in-lts.Need-past-requires (at-in-calls t) (at-in-at t) at-in.Post
+at-in-past-requires t c κs = search needs
 
 at-in-check-requires : (t : ℕ) → at-in-lts.Need-check-requires (at-in-calls t) (at-in-at t) at-in.Post
 at-in-check-requires t c κs = search needs
@@ -416,15 +416,15 @@ at-in-same-length t c = search needs
 at-in-returns-2 : (t : ℕ) → at-in-lts.Need-returns-2 (at-in-calls t) (at-in-at t) at-in.Post
 at-in-returns-2 t c =
     let after-check = c .before .before in
-    let after-after = after-check .before in
-    let after-if1 = after-after .before .before in
+    let after-past = after-check .before in
+    let after-if1 = after-past .before .before in
     let after-goes-on = after-if1 .before in
     let after-lifted = after-goes-on .before .before .before in
     check-at-in _ _ _ _ _ _ _ _ _ _ _ _ (after-lifted .lifted .result) (after-lifted .lifted .ensures) (holds-else (after-goes-on .goes-on .result) (after-if1 .if1 .left) (after-goes-on .goes-on .ensures))
-    _ (after-after .after .ensures) _ _ (after-check .check .ensures)
+    _ (after-past .past .ensures .0) _ _ (after-check .check .ensures)
 
-at-out-after-requires : (t : ℕ) → at-out-lts.Need-after-requires (at-out-calls t) (at-out-at t) at-out.Post
-at-out-after-requires t c κs = search needs
+at-out-past-requires : (t : ℕ) → at-out-lts.Need-past-requires (at-out-calls t) (at-out-at t) at-out.Post
+at-out-past-requires t c κs = search needs
 
 at-out-infer-requires : (t : ℕ) → at-out-lts.Need-infer-requires (at-out-calls t) (at-out-at t) at-out.Post
 at-out-infer-requires t c κs = search needs
@@ -439,8 +439,8 @@ at-out-returns : (t : ℕ) → at-out-lts.Need-returns (at-out-calls t) (at-out-
 at-out-returns t c =
     let after-goes-on = c .before in
     let after-infer = after-goes-on .before .before .before .before .before in
-    let after-after = after-infer .before in
-    check-at-out-stopped _ _ _ _ _ _ _ _ _ _ _ _ _ (after-after .after .ensures) _ _ (after-infer .infer .ensures) (fails-where (after-goes-on .goes-on .result) (c .if1 .taken) (after-goes-on .goes-on .ensures))
+    let after-past = after-infer .before in
+    check-at-out-stopped _ _ _ _ _ _ _ _ _ _ _ _ _ (after-past .past .ensures .0) _ _ (after-infer .infer .ensures) (fails-where (after-goes-on .goes-on .result) (c .if1 .taken) (after-goes-on .goes-on .ensures))
     _
 
 at-out-lifted-requires : (t : ℕ) → at-out-lts.Need-lifted-requires (at-out-calls t) (at-out-at t) at-out.Post
@@ -459,8 +459,8 @@ at-out-returns-2 t c =
     let after-if1 = after-lifted .before in
     let after-goes-on = after-if1 .before in
     let after-infer = after-goes-on .before .before .before .before .before in
-    let after-after = after-infer .before in
-    check-at-out-unfit _ _ _ _ _ _ _ _ _ _ _ _ _ (after-after .after .ensures) _ _ (after-infer .infer .ensures) (holds-else (after-goes-on .goes-on .result) (after-if1 .if1 .left) (after-goes-on .goes-on .ensures))
+    let after-past = after-infer .before in
+    check-at-out-unfit _ _ _ _ _ _ _ _ _ _ _ _ _ (after-past .past .ensures .0) _ _ (after-infer .infer .ensures) (holds-else (after-goes-on .goes-on .result) (after-if1 .if1 .left) (after-goes-on .goes-on .ensures))
     (after-lifted .lifted .result) (after-lifted .lifted .ensures) (fails-where (after-goes-on2 .goes-on2 .result) (c .if2 .taken) (after-goes-on2 .goes-on2 .ensures))
     _
 
@@ -482,8 +482,8 @@ at-out-returns-3 t c =
     let after-if1 = after-lifted .before in
     let after-goes-on = after-if1 .before in
     let after-infer = after-goes-on .before .before .before .before .before in
-    let after-after = after-infer .before in
-    check-at-out _ _ _ _ _ _ _ _ _ _ _ _ _ (after-after .after .ensures) _ _ (after-infer .infer .ensures) (holds-else (after-goes-on .goes-on .result) (after-if1 .if1 .left) (after-goes-on .goes-on .ensures))
+    let after-past = after-infer .before in
+    check-at-out _ _ _ _ _ _ _ _ _ _ _ _ _ (after-past .past .ensures .0) _ _ (after-infer .infer .ensures) (holds-else (after-goes-on .goes-on .result) (after-if1 .if1 .left) (after-goes-on .goes-on .ensures))
     (after-lifted .lifted .result) (after-lifted .lifted .ensures) (holds-else (after-goes-on2 .goes-on2 .result) (after-if2 .if2 .left) (after-goes-on2 .goes-on2 .ensures))
     _ _ (after-assuming .assuming .ensures)
 
@@ -513,8 +513,8 @@ check-enum-told-2 t c = search needs
 check-top-requires : (t : ℕ) → check-lts.Need-top-requires (check-calls t) (check-at t) check.Post
 check-top-requires t c κs = search needs
 
-check-after-requires : (t : ℕ) → check-lts.Need-after-requires (check-calls t) (check-at t) check.Post
-check-after-requires t c κs = search needs
+check-past-requires : (t : ℕ) → check-lts.Need-past-requires (check-calls t) (check-at t) check.Post
+check-past-requires t c κs = search needs
 
 check-enum-told-3 : (t : ℕ) → check-lts.Need-enum-told-3 (check-calls t) (check-at t) check.Post
 check-enum-told-3 t c = search needs
@@ -558,8 +558,8 @@ check-enum-told-7 t c = search needs
 check-state-fact-requires : (t : ℕ) → check-lts.Need-state-fact-requires (check-calls t) (check-at t) check.Post
 check-state-fact-requires t c κs = search needs
 
-check-after-requires-2 : (t : ℕ) → check-lts.Need-after-requires-2 (check-calls t) (check-at t) check.Post
-check-after-requires-2 t c κs = search needs
+check-past-requires-2 : (t : ℕ) → check-lts.Need-past-requires-2 (check-calls t) (check-at t) check.Post
+check-past-requires-2 t c κs = search needs
 
 check-enum-told-8 : (t : ℕ) → check-lts.Need-enum-told-8 (check-calls t) (check-at t) check.Post
 check-enum-told-8 t c = search needs
@@ -567,8 +567,8 @@ check-enum-told-8 t c = search needs
 check-order-requires : (t : ℕ) → check-lts.Need-order-requires (check-calls t) (check-at t) check.Post
 check-order-requires t c κs = search needs
 
-check-after-requires-3 : (t : ℕ) → check-lts.Need-after-requires-3 (check-calls t) (check-at t) check.Post
-check-after-requires-3 t c κs = search needs
+check-past-requires-3 : (t : ℕ) → check-lts.Need-past-requires-3 (check-calls t) (check-at t) check.Post
+check-past-requires-3 t c κs = search needs
 
 check-enum-told-9 : (t : ℕ) → check-lts.Need-enum-told-9 (check-calls t) (check-at t) check.Post
 check-enum-told-9 t c = search needs
@@ -606,7 +606,7 @@ check-returns-3 t c =
     let after-if1 = after-check-tag-at .before in
     let start = after-if1 .before .before .before .before .before .before .before .before in
     check-tagged _ _ _ _ _ _ _ _ _ _ _ (start .args .left - 1) _ _ _ _ (omega (arith, after-if1 .if1 .left)) (sym (after-check-tag-at .check-tag-at .ensures) ∙ after-enum-told2 .enum-told2 .given .1)
-    tt (λ inside. check-trivial _ _ _ _ _ _ _ _ _ _ _ _ inside _ _ _ (c .after .ensures) (after-top .top .ensures _ _))
+    tt (λ inside. check-trivial _ _ _ _ _ _ _ _ _ _ _ _ inside _ _ _ (c .past .ensures .0) (after-top .top .ensures _ _))
 
 check-same-length-2 : (t : ℕ) → check-lts.Need-same-length-2 (check-calls t) (check-at t) check.Post
 check-same-length-2 t c = search needs
@@ -671,7 +671,7 @@ check-returns-8 t c =
     let after-if1 = after-check-tag-at .before in
     let start = after-if1 .before .before .before .before .before .before .before .before in
     check-tagged _ _ _ _ _ _ _ _ _ _ _ (start .args .left - 1) _ _ _ _ (omega (arith, after-if1 .if1 .left)) (sym (after-check-tag-at .check-tag-at .ensures) ∙ after-enum-told7 .enum-told7 .given .1)
-    tt (λ inside. check-state _ _ _ _ _ _ _ _ _ _ _ _ inside _ _ _ (c .after2 .ensures) (after-state-fact .state-fact .ensures))
+    tt (λ inside. check-state _ _ _ _ _ _ _ _ _ _ _ _ inside _ _ _ (c .past2 .ensures .0) (after-state-fact .state-fact .ensures))
 
 check-returns-9 : (t : ℕ) → check-lts.Need-returns-9 (check-calls t) (check-at t) check.Post
 check-returns-9 t c =
@@ -681,7 +681,7 @@ check-returns-9 t c =
     let after-if1 = after-check-tag-at .before in
     let start = after-if1 .before .before .before .before .before .before .before .before in
     check-tagged _ _ _ _ _ _ _ _ _ _ _ (start .args .left - 1) _ _ _ _ (omega (arith, after-if1 .if1 .left)) (sym (after-check-tag-at .check-tag-at .ensures) ∙ after-enum-told8 .enum-told8 .given .1)
-    tt (λ inside. check-order _ _ _ _ _ _ _ _ _ _ _ _ inside _ _ _ (c .after3 .ensures) (after-order .order .ensures _ _))
+    tt (λ inside. check-order _ _ _ _ _ _ _ _ _ _ _ _ inside _ _ _ (c .past3 .ensures .0) (after-order .order .ensures _ _))
 
 check-same-length-7 : (t : ℕ) → check-lts.Need-same-length-7 (check-calls t) (check-at t) check.Post
 check-same-length-7 t c = search needs
@@ -715,8 +715,8 @@ infer-returns t c =
     let after-if1 = c .before .before in
     infer-none _ _ _ _ _ _ _ _ _ _ _ _ (after-if1 .if1 .taken)
 
-infer-after-requires : (t : ℕ) → infer-lts.Need-after-requires (infer-calls t) (infer-at t) infer.Post
-infer-after-requires t c κs = search needs
+infer-past-requires : (t : ℕ) → infer-lts.Need-past-requires (infer-calls t) (infer-at t) infer.Post
+infer-past-requires t c κs = search needs
 
 infer-infer-tag-at-requires : (t : ℕ) → infer-lts.Need-infer-tag-at-requires (infer-calls t) (infer-at t) infer.Post
 infer-infer-tag-at-requires t c κs = search needs
@@ -816,11 +816,11 @@ infer-returns-4 t c =
     let after-infer = c .before .before .before in
     let after-enum-told3 = after-infer .before .before in
     let after-infer-tag-at = after-enum-told3 .before .before in
-    let after-after = after-infer-tag-at .before in
-    let after-if1 = after-after .before in
+    let after-past = after-infer-tag-at .before in
+    let after-if1 = after-past .before in
     let start = after-if1 .before .before .before .before .before .before .before in
     infer-tagged _ _ _ _ _ _ _ _ _ (start .args .left - 1) _ _ _ _ (omega (arith, after-if1 .if1 .left)) (sym (after-infer-tag-at .infer-tag-at .ensures) ∙ after-enum-told3 .enum-told3 .given .1)
-    (λ inside. infer-first _ _ _ _ _ _ _ _ _ _ _ (after-after .after .ensures) _ _ (after-infer .infer .ensures) _ (c .first .ensures))
+    (λ inside. infer-first _ _ _ _ _ _ _ _ _ _ _ (after-past .past .ensures .0) _ _ (after-infer .infer .ensures) _ (c .first .ensures))
 
 infer-same-length-2 : (t : ℕ) → infer-lts.Need-same-length-2 (infer-calls t) (infer-at t) infer.Post
 infer-same-length-2 t c = search needs
@@ -830,11 +830,11 @@ infer-returns-5 t c =
     let after-infer2 = c .before .before .before in
     let after-enum-told4 = after-infer2 .before .before in
     let after-infer-tag-at = after-enum-told4 .before .before in
-    let after-after = after-infer-tag-at .before in
-    let after-if1 = after-after .before in
+    let after-past = after-infer-tag-at .before in
+    let after-if1 = after-past .before in
     let start = after-if1 .before .before .before .before .before .before .before in
     infer-tagged _ _ _ _ _ _ _ _ _ (start .args .left - 1) _ _ _ _ (omega (arith, after-if1 .if1 .left)) (sym (after-infer-tag-at .infer-tag-at .ensures) ∙ after-enum-told4 .enum-told4 .given .1)
-    (λ inside. infer-second _ _ _ _ _ _ _ _ _ _ _ (after-after .after .ensures) _ _ (after-infer2 .infer2 .ensures) _ (c .second .ensures))
+    (λ inside. infer-second _ _ _ _ _ _ _ _ _ _ _ (after-past .past .ensures .0) _ _ (after-infer2 .infer2 .ensures) _ (c .second .ensures))
 
 infer-same-length-3 : (t : ℕ) → infer-lts.Need-same-length-3 (infer-calls t) (infer-at t) infer.Post
 infer-same-length-3 t c = search needs
@@ -858,11 +858,11 @@ infer-returns-7 t c =
     let after-term-at = after-infer3 .before .before in
     let after-enum-told6 = after-term-at .before in
     let after-infer-tag-at = after-enum-told6 .before .before in
-    let after-after = after-infer-tag-at .before in
-    let after-if1 = after-after .before in
+    let after-past = after-infer-tag-at .before in
+    let after-if1 = after-past .before in
     let start = after-if1 .before .before .before .before .before .before .before in
     infer-tagged _ _ _ _ _ _ _ _ _ (start .args .left - 1) _ _ _ _ (omega (arith, after-if1 .if1 .left)) (sym (after-infer-tag-at .infer-tag-at .ensures) ∙ after-enum-told6 .enum-told6 .given .1)
-    (λ inside. infer-instance _ _ _ _ _ _ _ _ _ _ inside _ (after-after .after .ensures) _ _ (after-term-at .term-at .ensures) _ _ (after-infer3 .infer3 .ensures) _ (c .instance .ensures))
+    (λ inside. infer-instance _ _ _ _ _ _ _ _ _ _ inside _ (after-past .past .ensures .0) _ _ (after-term-at .term-at .ensures) _ _ (after-infer3 .infer3 .ensures) _ (c .instance .ensures))
 
 infer-returns-8 : (t : ℕ) → infer-lts.Need-returns-8 (infer-calls t) (infer-at t) infer.Post
 infer-returns-8 t c =
@@ -886,8 +886,8 @@ pair-returns t c =
     check-pair-unfit _ _ _ _ _ _ _ _ _ _ _ _ _ (after-sides-of .sides-of .ensures) (fails-where (after-goes-on .goes-on .result) (c .if1 .taken) (after-goes-on .goes-on .ensures))
     _
 
-pair-after-requires : (t : ℕ) → pair-lts.Need-after-requires (pair-calls t) (pair-at t) pair.Post
-pair-after-requires t c κs = search needs
+pair-past-requires : (t : ℕ) → pair-lts.Need-past-requires (pair-calls t) (pair-at t) pair.Post
+pair-past-requires t c κs = search needs
 
 pair-check-requires : (t : ℕ) → pair-lts.Need-check-requires (pair-calls t) (pair-at t) pair.Post
 pair-check-requires t c κs = search needs
@@ -902,12 +902,12 @@ pair-returns-2 : (t : ℕ) → pair-lts.Need-returns-2 (pair-calls t) (pair-at t
 pair-returns-2 t c =
     let after-goes-on2 = c .before in
     let after-check = after-goes-on2 .before .before .before .before in
-    let after-after = after-check .before in
-    let after-if1 = after-after .before .before in
+    let after-past = after-check .before in
+    let after-if1 = after-past .before .before in
     let after-goes-on = after-if1 .before in
     let after-sides-of = after-goes-on .before .before .before .before in
     check-pair-stopped _ _ _ _ _ _ _ _ _ _ _ _ _ (after-sides-of .sides-of .ensures) (holds-else (after-goes-on .goes-on .result) (after-if1 .if1 .left) (after-goes-on .goes-on .ensures))
-    _ (after-after .after .ensures) _ _ (after-check .check .ensures) (fails-where (after-goes-on2 .goes-on2 .result) (c .if2 .taken) (after-goes-on2 .goes-on2 .ensures))
+    _ (after-past .past .ensures .0) _ _ (after-check .check .ensures) (fails-where (after-goes-on2 .goes-on2 .result) (c .if2 .taken) (after-goes-on2 .goes-on2 .ensures))
 
 pair-check-requires-2 : (t : ℕ) → pair-lts.Need-check-requires-2 (pair-calls t) (pair-at t) pair.Post
 pair-check-requires-2 t c κs =
@@ -924,12 +924,12 @@ pair-returns-3 t c =
     let after-if2 = after-check2 .before .before in
     let after-goes-on2 = after-if2 .before in
     let after-check = after-goes-on2 .before .before .before .before in
-    let after-after = after-check .before in
-    let after-if1 = after-after .before .before in
+    let after-past = after-check .before in
+    let after-if1 = after-past .before .before in
     let after-goes-on = after-if1 .before in
     let after-sides-of = after-goes-on .before .before .before .before in
     check-pair _ _ _ _ _ _ _ _ _ _ _ _ _ (after-sides-of .sides-of .ensures) (holds-else (after-goes-on .goes-on .result) (after-if1 .if1 .left) (after-goes-on .goes-on .ensures))
-    _ (after-after .after .ensures) _ _ (after-check .check .ensures) (holds-else (after-goes-on2 .goes-on2 .result) (after-if2 .if2 .left) (after-goes-on2 .goes-on2 .ensures))
+    _ (after-past .past .ensures .0) _ _ (after-check .check .ensures) (holds-else (after-goes-on2 .goes-on2 .result) (after-if2 .if2 .left) (after-goes-on2 .goes-on2 .ensures))
     _ _ (after-check2 .check2 .ensures)
 
 says-in-said-requires : (t : ℕ) → says-in-lts.Need-said-requires (says-in-calls t) (says-in-at t) says-in.Post
@@ -945,8 +945,8 @@ says-in-returns t c =
     check-says-in-unfit _ _ _ _ _ _ _ _ _ _ _ _ _ (after-said .said .ensures) (fails-where (after-goes-on .goes-on .result) (c .if1 .taken) (after-goes-on .goes-on .ensures))
     _
 
-says-in-after-requires : (t : ℕ) → says-in-lts.Need-after-requires (says-in-calls t) (says-in-at t) says-in.Post
-says-in-after-requires t c κs = search needs
+says-in-past-requires : (t : ℕ) → says-in-lts.Need-past-requires (says-in-calls t) (says-in-at t) says-in.Post
+says-in-past-requires t c κs = search needs
 
 says-in-check-requires : (t : ℕ) → says-in-lts.Need-check-requires (says-in-calls t) (says-in-at t) says-in.Post
 says-in-check-requires t c κs = search needs
@@ -957,15 +957,15 @@ says-in-same-length t c = search needs
 says-in-returns-2 : (t : ℕ) → says-in-lts.Need-returns-2 (says-in-calls t) (says-in-at t) says-in.Post
 says-in-returns-2 t c =
     let after-check = c .before .before in
-    let after-after = after-check .before in
-    let after-if1 = after-after .before .before in
+    let after-past = after-check .before in
+    let after-if1 = after-past .before .before in
     let after-goes-on = after-if1 .before in
     let after-said = after-goes-on .before .before .before in
     check-says-in _ _ _ _ _ _ _ _ _ _ _ _ _ (after-said .said .ensures) (holds-else (after-goes-on .goes-on .result) (after-if1 .if1 .left) (after-goes-on .goes-on .ensures))
-    _ (after-after .after .ensures) _ _ (after-check .check .ensures)
+    _ (after-past .past .ensures .0) _ _ (after-check .check .ensures)
 
-says-out-after-requires : (t : ℕ) → says-out-lts.Need-after-requires (says-out-calls t) (says-out-at t) says-out.Post
-says-out-after-requires t c κs = search needs
+says-out-past-requires : (t : ℕ) → says-out-lts.Need-past-requires (says-out-calls t) (says-out-at t) says-out.Post
+says-out-past-requires t c κs = search needs
 
 says-out-infer-requires : (t : ℕ) → says-out-lts.Need-infer-requires (says-out-calls t) (says-out-at t) says-out.Post
 says-out-infer-requires t c κs = search needs
@@ -980,8 +980,8 @@ says-out-returns : (t : ℕ) → says-out-lts.Need-returns (says-out-calls t) (s
 says-out-returns t c =
     let after-goes-on = c .before in
     let after-infer = after-goes-on .before .before .before .before .before in
-    let after-after = after-infer .before in
-    check-says-out-stopped _ _ _ _ _ _ _ _ _ _ _ _ _ (after-after .after .ensures) _ _ (after-infer .infer .ensures) (fails-where (after-goes-on .goes-on .result) (c .if1 .taken) (after-goes-on .goes-on .ensures))
+    let after-past = after-infer .before in
+    check-says-out-stopped _ _ _ _ _ _ _ _ _ _ _ _ _ (after-past .past .ensures .0) _ _ (after-infer .infer .ensures) (fails-where (after-goes-on .goes-on .result) (c .if1 .taken) (after-goes-on .goes-on .ensures))
     _
 
 says-out-said-requires : (t : ℕ) → says-out-lts.Need-said-requires (says-out-calls t) (says-out-at t) says-out.Post
@@ -1000,8 +1000,8 @@ says-out-returns-2 t c =
     let after-if1 = after-said .before in
     let after-goes-on = after-if1 .before in
     let after-infer = after-goes-on .before .before .before .before .before in
-    let after-after = after-infer .before in
-    check-says-out-unfit _ _ _ _ _ _ _ _ _ _ _ _ _ (after-after .after .ensures) _ _ (after-infer .infer .ensures) (holds-else (after-goes-on .goes-on .result) (after-if1 .if1 .left) (after-goes-on .goes-on .ensures))
+    let after-past = after-infer .before in
+    check-says-out-unfit _ _ _ _ _ _ _ _ _ _ _ _ _ (after-past .past .ensures .0) _ _ (after-infer .infer .ensures) (holds-else (after-goes-on .goes-on .result) (after-if1 .if1 .left) (after-goes-on .goes-on .ensures))
     _ (after-said .said .ensures) (fails-where (after-goes-on2 .goes-on2 .result) (c .if2 .taken) (after-goes-on2 .goes-on2 .ensures))
     _
 
@@ -1023,8 +1023,8 @@ says-out-returns-3 t c =
     let after-if1 = after-said .before in
     let after-goes-on = after-if1 .before in
     let after-infer = after-goes-on .before .before .before .before .before in
-    let after-after = after-infer .before in
-    check-says-out _ _ _ _ _ _ _ _ _ _ _ _ _ (after-after .after .ensures) _ _ (after-infer .infer .ensures) (holds-else (after-goes-on .goes-on .result) (after-if1 .if1 .left) (after-goes-on .goes-on .ensures))
+    let after-past = after-infer .before in
+    check-says-out _ _ _ _ _ _ _ _ _ _ _ _ _ (after-past .past .ensures .0) _ _ (after-infer .infer .ensures) (holds-else (after-goes-on .goes-on .result) (after-if1 .if1 .left) (after-goes-on .goes-on .ensures))
     _ (after-said .said .ensures) (holds-else (after-goes-on2 .goes-on2 .result) (after-if2 .if2 .left) (after-goes-on2 .goes-on2 .ensures))
     _ _ (after-assuming .assuming .ensures)
 
@@ -1032,37 +1032,37 @@ pub +apply+assuming+at-in+at-out+check+infer+pair+says-in+says-out-spec :
     {M : Type 1} → statement M
 +apply+assuming+at-in+at-out+check+infer+pair+says-in+says-out-spec =
     close μ-apply μ-assuming μ-at-in μ-at-out μ-check μ-infer μ-pair μ-says-in μ-says-out
-    (λ t. apply-lts.spec (apply-calls t) (apply-at t) apply.Post (apply-after-requires t) (apply-infer-requires t) (apply-goes-on-requires t)
+    (λ t. apply-lts.spec (apply-calls t) (apply-at t) apply.Post (apply-past-requires t) (apply-infer-requires t) (apply-goes-on-requires t)
     (apply-same-length t) (apply-returns t) (apply-put-to-use-requires t) (apply-goes-on-requires-2 t) (apply-nothing-requires t) (apply-same-length-2 t)
     (apply-returns-2 t) (apply-check-requires t) (apply-same-length-3 t) (apply-returns-3 t))
     (λ t. assuming-lts.spec (assuming-calls t) (assuming-at t) assuming.Post (assuming-misfit-requires t) (assuming-returns t) (assuming-with-row-requires t)
     (assuming-add-t22 t) (assuming-slice-aggregate-check t) (assuming-check-requires t) (assuming-same-length t) (assuming-returns-2 t))
     (λ t. at-in-lts.spec (at-in-calls t) (at-in-at t) at-in.Post (at-in-lifted-requires t) (at-in-goes-on-requires t) (at-in-returns t)
-    (at-in-after-requires t) (at-in-check-requires t) (at-in-same-length t) (at-in-returns-2 t))
-    (λ t. at-out-lts.spec (at-out-calls t) (at-out-at t) at-out.Post (at-out-after-requires t) (at-out-infer-requires t) (at-out-goes-on-requires t)
+    (at-in-past-requires t) (at-in-check-requires t) (at-in-same-length t) (at-in-returns-2 t))
+    (λ t. at-out-lts.spec (at-out-calls t) (at-out-at t) at-out.Post (at-out-past-requires t) (at-out-infer-requires t) (at-out-goes-on-requires t)
     (at-out-same-length t) (at-out-returns t) (at-out-lifted-requires t) (at-out-goes-on-requires-2 t) (at-out-same-length-2 t) (at-out-returns-2 t)
     (at-out-assuming-requires t) (at-out-same-length-3 t) (at-out-returns-3 t))
     (λ t. check-lts.spec (check-calls t) (check-at t) check.Post (check-misfit-requires t) (check-returns t) (check-check-tag-at-requires t)
-    (check-enum-told t) (check-sub-pair t) (check-pair-requires t) (check-enum-told-2 t) (check-top-requires t) (check-after-requires t)
+    (check-enum-told t) (check-sub-pair t) (check-pair-requires t) (check-enum-told-2 t) (check-top-requires t) (check-past-requires t)
     (check-enum-told-3 t) (check-sub-at-in t) (check-at-in-requires t) (check-enum-told-4 t) (check-sub-at-out t) (check-at-out-requires t)
     (check-enum-told-5 t) (check-sub-says-in t) (check-says-in-requires t) (check-enum-told-6 t) (check-sub-says-out t) (check-says-out-requires t)
-    (check-enum-told-7 t) (check-state-fact-requires t) (check-after-requires-2 t) (check-enum-told-8 t) (check-order-requires t) (check-after-requires-3 t)
+    (check-enum-told-7 t) (check-state-fact-requires t) (check-past-requires-2 t) (check-enum-told-8 t) (check-order-requires t) (check-past-requires-3 t)
     (check-enum-told-9 t) (check-infer-requires t) (check-checked-by-requires t) (check-enum-told-10 t) (check-misfit-requires-2 t)
     (check-same-length t) (check-returns-2 t) (check-returns-3 t) (check-same-length-2 t) (check-returns-4 t) (check-same-length-3 t)
     (check-returns-5 t) (check-same-length-4 t) (check-returns-6 t) (check-same-length-5 t) (check-returns-7 t) (check-same-length-6 t)
     (check-returns-8 t) (check-returns-9 t) (check-same-length-7 t) (check-returns-10 t) (check-returns-11 t))
     (λ t. infer-lts.spec (infer-calls t) (infer-at t) infer.Post (infer-misfit-requires t) (infer-nothing-requires t) (infer-returns t)
-    (infer-after-requires t) (infer-infer-tag-at-requires t) (infer-enum-told t) (infer-local-requires t) (infer-enum-told-2 t) (infer-certificate-requires t)
+    (infer-past-requires t) (infer-infer-tag-at-requires t) (infer-enum-told t) (infer-local-requires t) (infer-enum-told-2 t) (infer-certificate-requires t)
     (infer-enum-told-3 t) (infer-sub-infer t) (infer-infer-requires t) (infer-first-requires t) (infer-enum-told-4 t) (infer-sub-infer-2 t)
     (infer-infer-requires-2 t) (infer-second-requires t) (infer-enum-told-5 t) (infer-sub-apply t) (infer-apply-requires t) (infer-enum-told-6 t)
     (infer-term-at-requires t) (infer-sub-infer-3 t) (infer-infer-requires-3 t) (infer-instance-requires t) (infer-enum-told-7 t) (infer-misfit-requires-2 t)
     (infer-nothing-requires-2 t) (infer-returns-2 t) (infer-returns-3 t) (infer-same-length t) (infer-returns-4 t) (infer-same-length-2 t)
     (infer-returns-5 t) (infer-same-length-3 t) (infer-returns-6 t) (infer-same-length-4 t) (infer-returns-7 t) (infer-returns-8 t))
     (λ t. pair-lts.spec (pair-calls t) (pair-at t) pair.Post (pair-sides-of-requires t) (pair-goes-on-requires t) (pair-returns t)
-    (pair-after-requires t) (pair-check-requires t) (pair-goes-on-requires-2 t) (pair-same-length t) (pair-returns-2 t) (pair-check-requires-2 t)
+    (pair-past-requires t) (pair-check-requires t) (pair-goes-on-requires-2 t) (pair-same-length t) (pair-returns-2 t) (pair-check-requires-2 t)
     (pair-same-length-2 t) (pair-returns-3 t))
     (λ t. says-in-lts.spec (says-in-calls t) (says-in-at t) says-in.Post (says-in-said-requires t) (says-in-goes-on-requires t) (says-in-returns t)
-    (says-in-after-requires t) (says-in-check-requires t) (says-in-same-length t) (says-in-returns-2 t))
-    λ t. says-out-lts.spec (says-out-calls t) (says-out-at t) says-out.Post (says-out-after-requires t) (says-out-infer-requires t)
+    (says-in-past-requires t) (says-in-check-requires t) (says-in-same-length t) (says-in-returns-2 t))
+    λ t. says-out-lts.spec (says-out-calls t) (says-out-at t) says-out.Post (says-out-past-requires t) (says-out-infer-requires t)
     (says-out-goes-on-requires t) (says-out-same-length t) (says-out-returns t) (says-out-said-requires t) (says-out-goes-on-requires-2 t)
     (says-out-same-length-2 t) (says-out-returns-2 t) (says-out-assuming-requires t) (says-out-same-length-3 t) (says-out-returns-3 t)

@@ -2,8 +2,8 @@
 use borrow.Author.Needs.{needs}
 use mathlib.Core.Path.{ap}
 use Rattle.procap.specs.declared.time.Time.the-variants.{Ctime}
-use Rattle.verifier.proofs.verify.goal_on_ctime.Statement.{statement}
-use Rattle.verifier.proofs.verify.goal_on_ctime.Tie as tie
+use Rattle.formula.proofs.parts.Judgement.front_on_ctime.Statement.{statement}
+use Rattle.formula.proofs.parts.Judgement.front_on_ctime.Tie as tie
 
 none-requires : tie.Need-none-requires
 none-requires c κs = search needs
@@ -11,5 +11,5 @@ none-requires c κs = search needs
 returns : tie.Need-returns
 returns c = ap (λ terms. record { formula = record { at = 0; terms = terms }; from = Ctime; to = Ctime }) (c .none .ensures)
 
-pub goal-on-ctime-spec : {M : Type 1} → statement M
-goal-on-ctime-spec = tie.close (tie.spec none-requires returns)
+pub front-on-ctime-spec : {M : Type 1} → statement M
+front-on-ctime-spec = tie.close (tie.spec none-requires returns)
