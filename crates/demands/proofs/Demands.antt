@@ -33,7 +33,7 @@ use Rattle.verifier.specs.Verifying.{records-of}
 use Rattle.cases.specs.Case.{Case, case-in, buffer-of, records-from}
 use Rattle.cases.specs.Calls.{printed}
 use Rattle.cases.proofs.AlwaysPrinted.{always-printed}
-use Rattle.demands.specs.Gives.{VerifyGives, DirectGives, OpenGives, DoorGives, ReadGives, WriteGives, PrintGives, AnsweredSomewhere}
+use Rattle.demands.specs.Gives.{VerifyGives, DirectGives, OpenGives, DoorGives, ReadGives, WriteGives, WriteRefusalGives, PrintGives, AnsweredSomewhere}
 use Rattle.demands.proofs.Telling.{answer-granted, in-front, handed-of-grant, handed-of-refusal, left-of-refusal, accepts-exactly, issues-exactly, somewhere-exactly, reads-exactly, stands-in-front, writes-exactly, opens-exactly, lets-in-exactly}
 use Rattle.demands.proofs.Opening.{issued-opens-the-door-exactly-where-direct-accepts, issued-is-written, its-text-opens-the-door-exactly-where-direct-accepts}
 use Rattle.demands.proofs.Printed.{printed-opens-exactly}
@@ -65,7 +65,14 @@ refused-write-writes-nothing p before w after gives n =
     let left = left-of-refusal _ before (λ e. n (gives .answer ∙ e)) in
     (gives .buffer ∙ left .0, gives .length-told ∙ left .1)
 
--- Demand 1. And one that has no room for what is to be printed.
+-- Demand 1. So does one that has no room for a refusal.
+pub refused-write-of-a-refusal-writes-nothing : (refusal : Answer) (before : List ℕ) (w : WrittenText) (after : List ℕ)
+    → WriteRefusalGives refusal before w after → (w .answer ≡ Granted → ⊥) → (after ≡ before) × (w .length ≡ 0)
+refused-write-of-a-refusal-writes-nothing refusal before w after gives n =
+    let left = left-of-refusal _ before (λ e. n (gives .answer ∙ e)) in
+    (gives .buffer ∙ left .0, gives .length-told ∙ left .1)
+
+-- Demand 1. And so does the program's work, where it has no room for what is to be printed.
 pub refused-print-writes-nothing : (input before : List ℕ) (w : WrittenText) (after : List ℕ) → PrintGives input before w after
     → (w .answer ≡ Granted → ⊥) → (after ≡ before) × (w .length ≡ 0)
 refused-print-writes-nothing input before w after gives n =

@@ -14,7 +14,8 @@ use Rattle.procap.specs.declared.procap.Request.{Request}
 use Rattle.procap.specs.declared.procap.Procap.{Procap}
 use Rattle.bl.specs.Calls.{verified, directly}
 use Rattle.bl.specs.Accepting.{AreBytes}
-use Rattle.text.specs.Calls.{reading, writing, length-given, buffer-left}
+use Rattle.text.specs.Text.{refusal-text}
+use Rattle.text.specs.Calls.{reading, fitting, writing, length-given, buffer-left}
 use Rattle.text.specs.declared.reader.ReadText.{ReadText}
 use Rattle.text.specs.declared.writer.WrittenText.{WrittenText}
 use Rattle.door.specs.Door.{opening, opening-text, packed}
@@ -50,6 +51,12 @@ pub record WriteGives (p : Procap) (before : List ℕ) (w : WrittenText) (after 
   pub answer : w .answer ≡ answer-of (writing p (length before))
   pub length-told : w .length ≡ length-given (writing p (length before))
   pub buffer : after ≡ buffer-left (writing p (length before)) before
+
+-- `write_refusal` gives an answer and a length, and leaves the buffer `before` as `after`.
+pub record WriteRefusalGives (refusal : Answer) (before : List ℕ) (w : WrittenText) (after : List ℕ) : Type 0 where
+  pub answer : w .answer ≡ answer-of (fitting (refusal-text refusal) (length before))
+  pub length-told : w .length ≡ length-given (fitting (refusal-text refusal) (length before))
+  pub buffer : after ≡ buffer-left (fitting (refusal-text refusal) (length before)) before
 
 -- `answer_case`, the work of the program, gives an answer and a length, and leaves the buffer `before` as `after`.
 pub record PrintGives (input before : List ℕ) (w : WrittenText) (after : List ℕ) : Type 0 where
