@@ -10,7 +10,7 @@ C := $(CC) -std=c11 -Wall -Wextra -Wpedantic -Werror -O2
 program: kit
 	@mkdir -p bin
 	@[ -f target/bin/check_case ] || echo "proving and building bin/check: from nothing this takes about eight minutes" >&2
-	@rt check check_case > bin/check.log 2>&1 || { cat bin/check.log >&2; exit 1; }
+	@rt check check_case 2>&1 | tee bin/check.log | { grep --line-buffered '^rt: .* proved ([0-9]' >&2 || true; } || { cat bin/check.log >&2; exit 1; }
 	@cp target/bin/check_case bin/check
 
 # The main job on an example: the proof of case P is checked, and its procap is printed.
