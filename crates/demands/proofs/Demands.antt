@@ -12,7 +12,7 @@ use Rattle.procap.specs.Facts.{Spelled}
 use Rattle.procap.specs.Procaps.{empty-procap}
 use Rattle.procap.specs.Writable.{RequestInForm}
 use Rattle.procap.specs.Answers.{number-of}
-use Rattle.procap.specs.Outcome.{granted}
+use Rattle.procap.specs.Outcome.{Outcome, granted}
 use Rattle.procap.specs.States.{stated}
 use Rattle.procap.specs.declared.answer.Answer.{Answer}
 use Rattle.procap.specs.declared.answer.Answer.the-variants.{Granted, ProcapMalformed}
@@ -33,8 +33,8 @@ use Rattle.verifier.specs.Verifying.{records-of}
 use Rattle.cases.specs.Case.{Case, case-in, buffer-of, records-from}
 use Rattle.cases.specs.Calls.{printed}
 use Rattle.cases.proofs.AlwaysPrinted.{always-printed}
-use Rattle.demands.specs.Gives.{VerifyGives, DirectGives, OpenGives, DoorGives, ReadGives, WriteGives, WriteRefusalGives, PrintGives, AnsweredSomewhere}
-use Rattle.demands.proofs.Telling.{answer-granted, in-front, handed-of-grant, handed-of-refusal, left-of-refusal, accepts-exactly, issues-exactly, somewhere-exactly, reads-exactly, stands-in-front, writes-exactly, opens-exactly, lets-in-exactly}
+use Rattle.demands.specs.Gives.{VerifyGives, DirectGives, OpenGives, DoorGives, ReadGives, Wrote, WriteGives, PrintGives, AnsweredSomewhere}
+use Rattle.demands.proofs.Telling.{answer-granted, in-front, handed-of-grant, handed-of-refusal, left-of-refusal, accepts-exactly, issues-exactly, somewhere-exactly, reads-exactly, writes-exactly, opens-exactly, lets-in-exactly}
 use Rattle.demands.proofs.Opening.{issued-opens-the-door-exactly-where-direct-accepts, issued-is-written, its-text-opens-the-door-exactly-where-direct-accepts}
 use Rattle.demands.proofs.Printed.{printed-opens-exactly}
 
@@ -58,25 +58,12 @@ pub the-empty-procap-opens-nothing : (r : Request) (m : ℕ) (state : List ℕ) 
     → answer ≡ ProcapMalformed
 the-empty-procap-opens-nothing r m state answer gives = gives ∙ sym (unwritable empty-procap r m state (λ w. omega (arith, w .version-known)))
 
--- Demand 1. A writer that refuses leaves the lent buffer as it was, so that no blender carries half a text to the desk.
-pub refused-write-writes-nothing : (p : Procap) (before : List ℕ) (w : WrittenText) (after : List ℕ) → WriteGives p before w after
+-- Demand 1. A call that writes, whatever it came to, leaves the lent buffer as it was where it refuses: the writer of a procap (`WriteGives`), that
+-- of a refusal (`WriteRefusalGives`) and the program's work (`PrintGives`). So no blender carries half a text to the desk.
+pub refused-write-writes-nothing : (o : Outcome (List ℕ)) (before : List ℕ) (w : WrittenText) (after : List ℕ) → Wrote o before w after
     → (w .answer ≡ Granted → ⊥) → (after ≡ before) × (w .length ≡ 0)
-refused-write-writes-nothing p before w after gives n =
-    let left = left-of-refusal _ before (λ e. n (gives .answer ∙ e)) in
-    (gives .buffer ∙ left .0, gives .length-told ∙ left .1)
-
--- Demand 1. So does one that has no room for a refusal.
-pub refused-write-of-a-refusal-writes-nothing : (refusal : Answer) (before : List ℕ) (w : WrittenText) (after : List ℕ)
-    → WriteRefusalGives refusal before w after → (w .answer ≡ Granted → ⊥) → (after ≡ before) × (w .length ≡ 0)
-refused-write-of-a-refusal-writes-nothing refusal before w after gives n =
-    let left = left-of-refusal _ before (λ e. n (gives .answer ∙ e)) in
-    (gives .buffer ∙ left .0, gives .length-told ∙ left .1)
-
--- Demand 1. And so does the program's work, where it has no room for what is to be printed.
-pub refused-print-writes-nothing : (input before : List ℕ) (w : WrittenText) (after : List ℕ) → PrintGives input before w after
-    → (w .answer ≡ Granted → ⊥) → (after ≡ before) × (w .length ≡ 0)
-refused-print-writes-nothing input before w after gives n =
-    let left = left-of-refusal _ before (λ e. n (gives .answer ∙ e)) in
+refused-write-writes-nothing o before w after gives n =
+    let left = left-of-refusal o before (λ e. n (gives .answer ∙ e)) in
     (gives .buffer ∙ left .0, gives .length-told ∙ left .1)
 
 -- Demand 1. With room for 1,223 bytes the program has an answer printed to whatever a blender brings to the office.
@@ -84,7 +71,7 @@ pub every-case-is-answered : (input before : List ℕ) → most-text ≤ length 
     → PrintGives input before w after → (w .answer ≡ Granted) × (take (w .length) after ≡ printed input)
 every-case-is-answered input before room w after gives =
     let written = always-printed input (length before) room in
-    (gives .answer ∙ answer-granted _ _ written, in-front _ (printed input) before w after (gives .length-told) (gives .buffer) written)
+    (gives .answer ∙ answer-granted _ _ written, in-front _ (printed input) before w after gives written)
 
 -- ── Demand 2 ──
 
@@ -110,7 +97,7 @@ pub what-reads-is-what-would-be-written : (text : List ℕ) (v : ReadText) → R
     → (w .answer ≡ Granted) × (take (w .length) after ≡ text)
 what-reads-is-what-would-be-written text v gives granted-it before room w after writes =
     let written = read-is-written text (v .procap) (reads-exactly text v gives .0 granted-it) (length before) room in
-    (writes .answer ∙ answer-granted _ text written, stands-in-front (v .procap) before w after writes text written)
+    (writes .answer ∙ answer-granted _ text written, in-front _ text before w after writes written)
 
 -- ── Demand 3 ──
 
@@ -143,7 +130,8 @@ module _ (r : Request) (certificates : Certificates) (buffer proof : List ℕ) w
         let at-the-check = accepts-exactly r certificates buffer proof m state checked checks in
         Iff·trans at-the-door (Iff·trans (law m in-range state σ reads) (Iff·symm at-the-check))
 
-    -- Demand 3, the way from the office to the desk. What is issued can be written into every buffer with room for 1,223 bytes.
+    -- Demand 3, the way from the office to the desk. What is issued can be written into every buffer with room for 1,223 bytes, so that a
+    -- blender who was issued a procap has a text to show.
     pub what-is-issued-is-written : (before : List ℕ) → most-text ≤ length before → (w : WrittenText) (after : List ℕ)
         → WriteGives (v .procap) before w after → w .answer ≡ Granted
     what-is-issued-is-written before room w after writes =

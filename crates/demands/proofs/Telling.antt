@@ -39,7 +39,7 @@ use Rattle.verifier.specs.declared.certificates.Certificates.{Certificates}
 use Rattle.verifier.specs.declared.verify.Verified.{Verified}
 use Rattle.verifier.specs.Verifying.{records-of}
 use Rattle.cases.proofs.Refusals.{Refuses, verified-refuses}
-use Rattle.demands.specs.Gives.{VerifyGives, DirectGives, OpenGives, DoorGives, ReadGives, WriteGives, AnsweredSomewhere}
+use Rattle.demands.specs.Gives.{VerifyGives, DirectGives, OpenGives, DoorGives, ReadGives, Wrote, WriteGives, AnsweredSomewhere}
 
 -- ── Outcomes ──
 
@@ -64,10 +64,10 @@ handed-of-refusal (granted p) n = absurd (n refl)
 handed-of-refusal (refused answer) n = refl
 
 -- A grant leaves its text at the front of the buffer, and a refusal leaves the buffer as it was and tells no length.
-pub in-front : (o : Outcome (List ℕ)) (text before : List ℕ) (w : WrittenText) (after : List ℕ) → w .length ≡ length-given o
-    → after ≡ buffer-left o before → o ≡ granted text → take (w .length) after ≡ text
+pub in-front : (o : Outcome (List ℕ)) (text before : List ℕ) (w : WrittenText) (after : List ℕ) → Wrote o before w after → o ≡ granted text
+    → take (w .length) after ≡ text
 unfolding length-given buffer-left
-in-front o text before w after told left e = rw (told, left, e) (take-append-seam text (drop (length text) before))
+in-front o text before w after gives e = rw (gives .length-told, gives .buffer, e) (take-append-seam text (drop (length text) before))
 
 pub left-of-refusal : (o : Outcome (List ℕ)) (buffer : List ℕ) → (answer-of o ≡ Granted → ⊥)
     → (buffer-left o buffer ≡ buffer) × (length-given o ≡ 0)
@@ -159,16 +159,12 @@ pub reads-exactly : (text : List ℕ) (v : ReadText) → ReadGives text v → (v
 reads-exactly text v gives = procap-tells _ (reading-refuses text) (v .answer) (v .procap) (gives .answer) (gives .procap)
 
 module _ (p : Procap) (before : List ℕ) (w : WrittenText) (after : List ℕ) (gives : WriteGives p before w after) where
-  -- What the writer gives stands at the front of the buffer, as long as it tells.
-  pub stands-in-front : (text : List ℕ) → writing p (length before) ≡ granted text → take (w .length) after ≡ text
-  stands-in-front text e = in-front _ text before w after (gives .length-told) (gives .buffer) e
-
   -- The writer answers 0 exactly when it gives what stands there.
   pub writes-exactly : (w .answer ≡ Granted) ↔ (writing p (length before) ≡ granted (take (w .length) after))
   writes-exactly = (
     λ e.
         let (text, grant) = granted-answer _ (writing-refuses p (length before)) (sym (gives .answer) ∙ e) in
-        rw (stands-in-front text grant) grant,
+        rw (in-front _ text before w after gives grant) grant,
     λ e. gives .answer ∙ answer-granted _ _ e,
   )
 

@@ -6,7 +6,7 @@ use mathlib.Core.Option.{some}
 use lib.ListN.{length}
 use Rattle.procap.specs.Times.{latest}
 use Rattle.procap.specs.Facts.{Spelled}
-use Rattle.procap.specs.Outcome.{answer-of, procap-handed}
+use Rattle.procap.specs.Outcome.{Outcome, answer-of, procap-handed}
 use Rattle.procap.specs.States.{stated}
 use Rattle.procap.specs.declared.answer.Answer.{Answer}
 use Rattle.procap.specs.declared.answer.Answer.the-variants.{Granted}
@@ -46,23 +46,23 @@ pub record ReadGives (text : List ℕ) (v : ReadText) : Type 0 where
   pub answer : v .answer ≡ answer-of (reading text)
   pub procap : v .procap ≡ procap-handed (reading text)
 
--- `write_text` gives an answer and a length, and leaves the buffer `before` as `after`.
-pub record WriteGives (p : Procap) (before : List ℕ) (w : WrittenText) (after : List ℕ) : Type 0 where
-  pub answer : w .answer ≡ answer-of (writing p (length before))
-  pub length-told : w .length ≡ length-given (writing p (length before))
-  pub buffer : after ≡ buffer-left (writing p (length before)) before
+-- A call that writes gives the answer and the length of what it came to, and leaves the lent buffer `before` as `after`.
+pub record Wrote (o : Outcome (List ℕ)) (before : List ℕ) (w : WrittenText) (after : List ℕ) : Type 0 where
+  pub answer : w .answer ≡ answer-of o
+  pub length-told : w .length ≡ length-given o
+  pub buffer : after ≡ buffer-left o before
 
--- `write_refusal` gives an answer and a length, and leaves the buffer `before` as `after`.
-pub record WriteRefusalGives (refusal : Answer) (before : List ℕ) (w : WrittenText) (after : List ℕ) : Type 0 where
-  pub answer : w .answer ≡ answer-of (fitting (refusal-text refusal) (length before))
-  pub length-told : w .length ≡ length-given (fitting (refusal-text refusal) (length before))
-  pub buffer : after ≡ buffer-left (fitting (refusal-text refusal) (length before)) before
+-- `write_text` writes a procap's text.
+abbrev pub WriteGives : Procap → List ℕ → WrittenText → List ℕ → Type 0
+WriteGives p before w after = Wrote (writing p (length before)) before w after
 
--- `answer_case`, the work of the program, gives an answer and a length, and leaves the buffer `before` as `after`.
-pub record PrintGives (input before : List ℕ) (w : WrittenText) (after : List ℕ) : Type 0 where
-  pub answer : w .answer ≡ answer-of (answering input (length before))
-  pub length-told : w .length ≡ length-given (answering input (length before))
-  pub buffer : after ≡ buffer-left (answering input (length before)) before
+-- `write_refusal` writes a refusal's two lines.
+abbrev pub WriteRefusalGives : Answer → List ℕ → WrittenText → List ℕ → Type 0
+WriteRefusalGives refusal before w after = Wrote (fitting (refusal-text refusal) (length before)) before w after
+
+-- `answer_case`, the work of the program, writes what is printed for an input.
+abbrev pub PrintGives : List ℕ → List ℕ → WrittenText → List ℕ → Type 0
+PrintGives input before w after = Wrote (answering input (length before)) before w after
 
 -- A moment in range and a well-formed state, in bytes, at which `direct` answers 0.
 pub record AnsweredSomewhere (r : Request) (certificates : Certificates) (buffer proof : List ℕ) : Type 0 where
