@@ -91,15 +91,16 @@ module _ {input : List ℕ} {at count : ℕ} {before : List ℕ} where
               (put-both 0 (buffer-of (h .found)) before bytes end (g .found .says) after (r .end) (omega arith) (h .put) (g .end, g .put))
 
     -- All of them.
-    pub all-groups-read : count ≤ i
+    pub all-groups-read : count ≤ most-certificates → count ≤ i
         → GroupsFound (groups input count first-group-line at) count before
         (record { form = Kept; certificates = record { count = count; records = records }; next = next; end = end })
         bytes
-    all-groups-read l = record {
+    all-groups-read most l = record {
       found = h .found;
       reads =
           led-all (h .found) (groups input (count - i) (group-line i) next) (h .reads) (group-line count) next
           (groups-end input (count - i) (group-line i) next (omega arith) ∙ ap (λ k. granted ([], group-line k, next)) all);
+      few = most;
       their-records = records-kept most-certificates _ (h .found) (h .counted ∙ all) (h .kept);
       end = omega (arith, h .put .0);
       behind = h .behind;

@@ -9,9 +9,10 @@ use lib.Seq.{take-at}
 use Rattle.procap.specs.Lists.{pad}
 use Rattle.procap.proofs.Indices.{pad-more}
 use Rattle.bl.specs.declared.Certificate.{Certificate}
-use Rattle.verifier.specs.declared.certificates.Certificates.{Certificates}
-use Rattle.verifier.specs.Verifying.{no-record, records-of}
+use Rattle.verifier.specs.Verifying.{no-record}
 use Rattle.cases.specs.Case.{Group, buffer-of, record-at, records-from}
+use Rattle.cases.specs.Found.{kept-records}
+use Rattle.cases.specs.declared.groups.Records.{Records}
 
 -- The formula of a group more comes after the others.
 pub buffer-more : (gs : List Group) (g : Group) → buffer-of (gs ++ (g ∷ [])) ≡ buffer-of gs ++ g .says
@@ -53,8 +54,7 @@ record-stored n gs g i end counted e l =
     its-record = ap (λ k. record-at k g) (omega arith)
 
 -- The records of an array that has zeros past those of the groups are those of the groups.
-pub records-kept : (n : ℕ) (cs : Certificates) (gs : List Group) → length gs ≡ cs .count → cs .records ≡ pad n no-record (records-from 0 gs)
-    → records-of cs ≡ records-from 0 gs
-unfolding records-of pad
-records-kept n cs gs counted kept =
-    rw (kept, append-assoc) (take-at (records-from 0 gs) _ (cs .count) (as-many-records 0 gs ∙ counted))
+pub records-kept : (n : ℕ) (rs : Records) (gs : List Group) → length gs ≡ rs .count → rs .records ≡ pad n no-record (records-from 0 gs)
+    → kept-records rs ≡ records-from 0 gs
+unfolding pad
+records-kept n rs gs counted kept = rw kept (take-at (records-from 0 gs) _ (rs .count) (as-many-records 0 gs ∙ counted))

@@ -10,7 +10,8 @@ use Rattle.procap.specs.declared.answer.Answer.the-variants.{InputMalformed}
 use Rattle.procap.specs.declared.time.Time.{Time}
 use Rattle.procap.specs.declared.procap.Request.{Request}
 use Rattle.text.specs.Buffers.{put-at}
-use Rattle.verifier.specs.Verifying.{records-of}
+use Rattle.bl.specs.Certificates.{most-certificates}
+use Rattle.bl.specs.declared.Certificate.{Certificate}
 use Rattle.cases.specs.Hex.{is-hex, hex-value, leading-hex, paired}
 use Rattle.cases.specs.Case.{Group, Case, first-group-line, buffer-of, record-at, records-from}
 use Rattle.cases.specs.declared.hex.HexDigit.{HexDigit}
@@ -21,6 +22,7 @@ use Rattle.cases.specs.declared.lines.Form.{Form}
 use Rattle.cases.specs.declared.lines.Form.the-variants.{Kept, BrokenAt}
 use Rattle.cases.specs.declared.lines.TimeRead.{TimeRead}
 use Rattle.cases.specs.declared.lines.TimeRead.the-variants.{Found, NoTime}
+use Rattle.cases.specs.declared.groups.Records.{Records}
 use Rattle.cases.specs.declared.groups.HeadingRead.{HeadingRead}
 use Rattle.cases.specs.declared.groups.GroupRead.{GroupRead}
 use Rattle.cases.specs.declared.groups.GroupsRead.{GroupsRead}
@@ -95,11 +97,16 @@ pub record GroupFound (o : Outcome (Group × ℕ × ℕ)) (line start : ℕ) (be
 abbrev pub GroupReads : Outcome (Group × ℕ × ℕ) → ℕ → ℕ → List ℕ → GroupRead → List ℕ → Type 0
 GroupReads o line start before r after = Reads o (r .form) (GroupFound o line start before r after)
 
+-- The records that are kept: the first of the array, as many as their count says.
+abbrev pub kept-records : Records → List Certificate
+kept-records rs = take (rs .count) (rs .records)
+
 -- The groups, their records, and their formulas in the buffer.
 pub record GroupsFound (o : Outcome (List Group × ℕ × ℕ)) (count : ℕ) (before : List ℕ) (r : GroupsRead) (after : List ℕ) : Type 0 where
   pub found : List Group
   pub reads : o ≡ granted (found, first-group-line + 4 * count, r .next)
-  pub their-records : records-of (r .certificates) ≡ records-from 0 found
+  pub few : r .certificates .count ≤ most-certificates
+  pub their-records : kept-records (r .certificates) ≡ records-from 0 found
   pub end : r .end ≡ length (buffer-of found)
   pub behind : 2 * (r .end) ≤ r .next
   pub put : after ≡ put-at 0 (buffer-of found) before
@@ -114,7 +121,8 @@ pub record CaseFound (o : Outcome (Case × ℕ × ℕ)) (r : CaseRead) (bytes : 
   pub next : ℕ
   pub reads : o ≡ granted (found, line, next)
   pub its-request : r .request ≡ found .request
-  pub its-records : records-of (r .certificates) ≡ records-from 0 (found .groups)
+  pub few : r .certificates .count ≤ most-certificates
+  pub its-records : kept-records (r .certificates) ≡ records-from 0 (found .groups)
   pub in-order : r .split ≤ r .end
   pub inside : r .end ≤ length bytes
   pub its-buffer : take (r .split) bytes ≡ buffer-of (found .groups)

@@ -1,12 +1,14 @@
 // The whole way from a case to what is printed.
 use crate::case::case_at;
+use crate::groups::Records;
 use crate::lines::Form;
+use bl::Certificate;
 use procap::answer::Answer;
 use procap::procap::Request;
 use text::writer::WrittenText;
 use text::writer::write_refusal;
 use text::writer::write_text;
-use verifier::certificates::Certificates;
+use verifier::certificates::MOST_CERTIFICATES;
 use verifier::verify::Verified;
 use verifier::verify::verify;
 ghost use mathlib.Core.Path.{_≡_};
@@ -14,10 +16,12 @@ ghost use Prim.Native.Nat.{_-_, _≤_};
 ghost use lib.ListN.{length, take, drop};
 ghost use Rattle.procap.specs.Outcome.{Outcome, «answer-of»};
 ghost use Rattle.procap.specs.declared.procap.Procap.{Procap};
+ghost use Rattle.bl.specs.Certificates.{«most-certificates»};
 ghost use Rattle.bl.specs.Calls.{verified};
 ghost use Rattle.text.specs.Calls.{«length-given», «buffer-left»};
-ghost use Rattle.verifier.specs.Verifying.{«records-of», HandsOver};
+ghost use Rattle.verifier.specs.Verifying.{HandsOver};
 ghost use Rattle.cases.specs.Calls.{«printed-of», answering};
+ghost use Rattle.cases.specs.Found.{«kept-records»};
 ghost use Rattle.cases.specs.Printing.{Printable, Writes};
 
 // How many bytes a case may have.
@@ -51,16 +55,33 @@ pub fn answer_case(input: &[u8], out: &mut [u8]) -> WrittenText
 // What verify answers for the formulas and the proof that stand in the buffer, one after the other.
 fn verify_parts(
     request: Request,
-    certificates: Certificates,
+    certificates: Records,
     bytes: &[u8],
     split: usize,
     end: usize,
 ) -> Verified
+    requires few { ⌜ certificates .count ≤ «most-certificates» ⌝ }
     requires order { ⌜ split ≤ end ⌝ }
     requires inside { ⌜ end ≤ length (now bytes) ⌝ }
-    ensures { λ r. ⌜ HandsOver (verified request («records-of» certificates) (take split (now (bytes .entry))) (take (end - split) (drop split (now (bytes .entry))))) r ⌝ }
+    ensures { λ r. ⌜ HandsOver (verified request («kept-records» certificates) (take split (now (bytes .entry))) (take (end - split) (drop split (now (bytes .entry))))) r ⌝ }
 {
-    verify(request, certificates, &bytes[..split], &bytes[split..end])
+    let count = certificates.count;
+    let records = certificates.records;
+    verify_lent(request, records, count, &bytes[..split], &bytes[split..end])
+}
+
+// What verify answers to the first `count` of the records, which are lent to it.
+fn verify_lent(
+    request: Request,
+    records: [Certificate; MOST_CERTIFICATES],
+    count: usize,
+    buffer: &[u8],
+    proof: &[u8],
+) -> Verified
+    requires { ⌜ count ≤ «most-certificates» ⌝ }
+    ensures { λ r. ⌜ HandsOver (verified request (take count records) (now (buffer .entry)) (now (proof .entry))) r ⌝ }
+{
+    verify(request, &records[..count], buffer, proof)
 }
 
 // Puts what is printed for what verify answers at the front of the buffer.

@@ -1,6 +1,7 @@
 // All lines of a case.
 use crate::groups::FIRST_GROUP_LINE;
 use crate::groups::GROUP_LINES;
+use crate::groups::Records;
 use crate::groups::groups_at;
 use crate::groups::no_certificates;
 use crate::hex::hex_line;
@@ -9,7 +10,6 @@ use procap::bytes::NumberRead;
 use procap::procap::Request;
 use procap::writable::LARGEST_NAME;
 use text::line::line;
-use verifier::certificates::Certificates;
 use verifier::certificates::MOST_CERTIFICATES;
 ghost use mathlib.Core.Path.{_≡_};
 ghost use Prim.Native.Nat.{_*_, _≤_};
@@ -29,7 +29,7 @@ pub struct RequestRead {
 pub struct CaseRead {
     pub form: Form,
     pub request: Request,
-    pub certificates: Certificates,
+    pub certificates: Records,
     pub split: usize,
     pub end: usize,
 }

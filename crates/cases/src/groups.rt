@@ -7,13 +7,12 @@ use bl::Certificate;
 use procap::bytes::NumberRead;
 use procap::time::Time;
 use procap::writable::LARGEST_NAME;
-use verifier::certificates::Certificates;
 use verifier::certificates::MOST_CERTIFICATES;
+use verifier::certificates::no_record;
 ghost use mathlib.Core.Path.{_≡_};
 ghost use Prim.Native.Nat.{_*_, _≤_};
 ghost use lib.ListN.{length};
 ghost use Rattle.bl.specs.Certificates.{«most-certificates»};
-ghost use Rattle.verifier.specs.Verifying.{«no-record»};
 ghost use Rattle.cases.specs.Case.{«first-group-line», heading, group, groups};
 ghost use Rattle.cases.specs.Found.{HeadingReads, GroupReads, GroupsReads};
 
@@ -21,6 +20,12 @@ ghost use Rattle.cases.specs.Found.{HeadingReads, GroupReads, GroupsRead
 pub const FIRST_GROUP_LINE: u16 = 5;
 // How many lines a group has.
 pub const GROUP_LINES: u16 = 4;
+
+// The records of the groups that were read: the first `count` of them.
+pub struct Records {
+    pub count: usize,
+    pub records: [Certificate; MOST_CERTIFICATES],
+}
 
 // Whether the lines of a group before its formula were read, what they say, and the place after them.
 pub struct HeadingRead {
@@ -42,7 +47,7 @@ pub struct GroupRead {
 // Whether all groups were read, their records, and the places after them and after the bytes of their formulas.
 pub struct GroupsRead {
     pub form: Form,
-    pub certificates: Certificates,
+    pub certificates: Records,
     pub next: usize,
     pub end: usize,
 }
@@ -76,7 +81,7 @@ pub(crate) fn groups_at(input: &[u8], at: usize, count: usize, bytes: &mut [u8])
         end = read.end;
         i += 1;
     }
-    let certificates = Certificates {
+    let certificates = Records {
         count: count,
         records: records,
     };
@@ -182,25 +187,12 @@ fn no_heading(broken: usize) -> HeadingRead
 }
 
 // No records.
-pub(crate) fn no_certificates() -> Certificates
+pub(crate) fn no_certificates() -> Records
     ensures { λ r. ⌜ r .count ≡ 0 ⌝ }
 {
     let none = no_record();
-    Certificates {
+    Records {
         count: 0,
         records: [none; MOST_CERTIFICATES],
-    }
-}
-
-// A record of zeros.
-fn no_record() -> Certificate
-    ensures { λ r. ⌜ r ≡ «no-record» ⌝ }
-{
-    Certificate {
-        principal: 0,
-        from: Time::Moment(0),
-        to: Time::Moment(0),
-        start: 0,
-        length: 0,
     }
 }

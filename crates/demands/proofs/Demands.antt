@@ -19,6 +19,7 @@ use Rattle.procap.specs.declared.answer.Answer.the-variants.{Granted, ProcapMal
 use Rattle.procap.specs.declared.procap.Request.{Request}
 use Rattle.procap.specs.declared.procap.Procap.{Procap}
 use Rattle.procap.proofs.AnswerNumbers.{numbers-are-small}
+use Rattle.bl.specs.declared.Certificate.{Certificate}
 use Rattle.bl.specs.Calls.{directly}
 use Rattle.bl.specs.Accepting.{AreBytes, Derivable}
 use Rattle.bl.proofs.Theorems.{direct-accepts-exactly-derivations, issued-exactly-where-some-press-is-accepted, issued-can-be-written}
@@ -27,9 +28,7 @@ use Rattle.text.specs.declared.reader.ReadText.{ReadText}
 use Rattle.text.specs.declared.writer.WrittenText.{WrittenText}
 use Rattle.text.proofs.Theorems.{written-is-read, read-is-written}
 use Rattle.door.proofs.Refusals.{unwritable}
-use Rattle.verifier.specs.declared.certificates.Certificates.{Certificates}
 use Rattle.verifier.specs.declared.verify.Verified.{Verified}
-use Rattle.verifier.specs.Verifying.{records-of}
 use Rattle.cases.specs.Case.{Case, case-in, buffer-of, records-from}
 use Rattle.cases.specs.Calls.{printed}
 use Rattle.cases.proofs.AlwaysPrinted.{always-printed}
@@ -45,7 +44,7 @@ pub every-answer-has-a-number : (answer : Answer) → number-of answer ≤ 14
 every-answer-has-a-number answer = numbers-are-small answer
 
 -- Demand 1. A blender who is refused at the office walks away with an empty procap.
-pub refused-verify-is-empty : (r : Request) (certificates : Certificates) (buffer proof : List ℕ) (v : Verified)
+pub refused-verify-is-empty : (r : Request) (certificates : List Certificate) (buffer proof : List ℕ) (v : Verified)
     → VerifyGives r certificates buffer proof v → (v .answer ≡ Granted → ⊥) → v .procap ≡ empty-procap
 refused-verify-is-empty r certificates buffer proof v gives n = gives .procap ∙ handed-of-refusal _ (λ e. n (gives .answer ∙ e))
 
@@ -77,12 +76,12 @@ every-case-is-answered input before room w after gives =
 
 -- Demand 2. The direct check answers 0 exactly when all that is lent reads and the proof is a derivation by the rules, at that moment in
 -- that state: no search tool, however clever or broken, gets a blender's press through that the house's rules do not give.
-pub accepted-exactly-when-derived : (r : Request) (certificates : Certificates) (buffer proof : List ℕ) (m : ℕ) (state : List ℕ) (answer : Answer)
+pub accepted-exactly-when-derived : (r : Request) (certificates : List Certificate) (buffer proof : List ℕ) (m : ℕ) (state : List ℕ) (answer : Answer)
     → DirectGives r certificates buffer proof m state answer
-    → (answer ≡ Granted) ↔ Derivable r (records-of certificates) buffer proof m state
+    → (answer ≡ Granted) ↔ Derivable r certificates buffer proof m state
 accepted-exactly-when-derived r certificates buffer proof m state answer gives =
     Iff·trans (accepts-exactly r certificates buffer proof m state answer gives)
-    (direct-accepts-exactly-derivations r (records-of certificates) buffer proof m state)
+    (direct-accepts-exactly-derivations r certificates buffer proof m state)
 
 -- Demand 2. What we write reads back the same: the procap that a blender carries to the desk as a text is the one that was issued.
 pub what-is-written-reads-back : (p : Procap) (before : List ℕ) (w : WrittenText) (after : List ℕ) → WriteGives p before w after
@@ -101,13 +100,13 @@ what-reads-is-what-would-be-written text v gives granted-it before room w after 
 
 -- ── Demand 3 ──
 
-module _ (r : Request) (certificates : Certificates) (buffer proof : List ℕ) where
+module _ (r : Request) (certificates : List Certificate) (buffer proof : List ℕ) where
   -- Demand 3, the issuing half. Verify answers 0 exactly when some press would be accepted if that proof were checked there: a blender
   -- who may start at some time gets a procap, and nobody else does.
   pub issued-exactly-where-some-press-is-answered : AreBytes buffer → AreBytes proof → (v : Verified) → VerifyGives r certificates buffer proof v
       → (v .answer ≡ Granted) ↔ AnsweredSomewhere r certificates buffer proof
   issued-exactly-where-some-press-is-answered in-bytes proof-in-bytes v gives =
-      let somewhere = issued-exactly-where-some-press-is-accepted r (records-of certificates) buffer proof in-bytes proof-in-bytes in
+      let somewhere = issued-exactly-where-some-press-is-accepted r certificates buffer proof in-bytes proof-in-bytes in
       let answered = somewhere-exactly r certificates buffer proof in (
         λ e. answered .0 (somewhere .0 (v .procap, issues-exactly r certificates buffer proof v gives .0 e)),
         λ s. let (p, e) = somewhere .1 (answered .1 s) in gives .answer ∙ answer-granted _ p e,
@@ -122,10 +121,9 @@ module _ (r : Request) (certificates : Certificates) (buffer proof : List ℕ) w
         → (checked : Answer) → DirectGives r certificates buffer proof m state checked
         → (opened ≡ Granted) ↔ (checked ≡ Granted)
     opens-exactly-where-direct-answers m in-range state σ reads opened opens checked checks =
-        let records = records-of certificates in
         let e = issues-exactly r certificates buffer proof v gives .0 issued in
-        let can-be-written = issued-can-be-written r records buffer proof names in-bytes proof-in-bytes (v .procap) e in
-        let law = issued-opens-the-door-exactly-where-direct-accepts r records buffer proof names in-bytes proof-in-bytes (v .procap) e in
+        let can-be-written = issued-can-be-written r certificates buffer proof names in-bytes proof-in-bytes (v .procap) e in
+        let law = issued-opens-the-door-exactly-where-direct-accepts r certificates buffer proof names in-bytes proof-in-bytes (v .procap) e in
         let at-the-door = opens-exactly (v .procap) can-be-written r m state opened opens in
         let at-the-check = accepts-exactly r certificates buffer proof m state checked checks in
         Iff·trans at-the-door (Iff·trans (law m in-range state σ reads) (Iff·symm at-the-check))
@@ -136,7 +134,7 @@ module _ (r : Request) (certificates : Certificates) (buffer proof : List ℕ) w
         → WriteGives (v .procap) before w after → w .answer ≡ Granted
     what-is-issued-is-written before room w after writes =
         let e = issues-exactly r certificates buffer proof v gives .0 issued in
-        let law = issued-is-written r (records-of certificates) buffer proof names in-bytes proof-in-bytes (v .procap) e in
+        let law = issued-is-written r certificates buffer proof names in-bytes proof-in-bytes (v .procap) e in
         writes .answer ∙ answer-granted _ _ (law (length before) room)
 
     -- Demand 3, the opening half, for the desk firmware. The text that is written of the procap opens the door exactly where the same proof
@@ -147,10 +145,9 @@ module _ (r : Request) (certificates : Certificates) (buffer proof : List ℕ) w
         → (checked : Answer) → DirectGives r certificates buffer proof m state checked
         → (number ≡ 0) ↔ (checked ≡ Granted)
     its-text-opens-exactly-where-direct-answers before w after writes written m in-range state σ reads number opens checked checks =
-        let records = records-of certificates in
         let e = issues-exactly r certificates buffer proof v gives .0 issued in
         let given = writes-exactly (v .procap) before w after writes .0 written in
-        let law = its-text-opens-the-door-exactly-where-direct-accepts r records buffer proof names in-bytes proof-in-bytes (v .procap) e in
+        let law = its-text-opens-the-door-exactly-where-direct-accepts r certificates buffer proof names in-bytes proof-in-bytes (v .procap) e in
         let at-the-door = lets-in-exactly (take (w .length) after) r m state number opens in
         let at-the-check = accepts-exactly r certificates buffer proof m state checked checks in
         Iff·trans at-the-door (Iff·trans (law (length before) _ given m in-range state σ reads) (Iff·symm at-the-check))

@@ -35,9 +35,7 @@ use Rattle.text.proofs.Written.{is-written}
 use Rattle.text.proofs.Theorems.{written-is-read}
 use Rattle.door.specs.Door.{opening, opening-text, packed}
 use Rattle.door.proofs.Answering.{zero-exactly-when-open}
-use Rattle.verifier.specs.declared.certificates.Certificates.{Certificates}
 use Rattle.verifier.specs.declared.verify.Verified.{Verified}
-use Rattle.verifier.specs.Verifying.{records-of}
 use Rattle.cases.proofs.Refusals.{Refuses, verified-refuses}
 use Rattle.demands.specs.Gives.{VerifyGives, DirectGives, OpenGives, DoorGives, ReadGives, Wrote, WriteGives, AnsweredSomewhere}
 
@@ -105,20 +103,20 @@ module _ (r : Request) (records : List Certificate) (buffer proof : List ℕ) wh
       go-on-refused Refuses _ _ (run-refused Refuses (λ q. omega arith) (λ q. omega arith) (λ q. omega arith) (λ q. omega arith) _ _ _) λ w _.
       tt
 
-module _ (r : Request) (certificates : Certificates) (buffer proof : List ℕ) where
+module _ (r : Request) (certificates : List Certificate) (buffer proof : List ℕ) where
   -- The direct check answers 0 exactly when it accepts.
   pub accepts-exactly : (m : ℕ) (state : List ℕ) (answer : Answer) → DirectGives r certificates buffer proof m state answer
-      → (answer ≡ Granted) ↔ (directly r (records-of certificates) buffer proof m state ≡ granted tt)
-  accepts-exactly m state answer gives = answer-tells _ (directly-refuses r (records-of certificates) buffer proof m state) answer gives
+      → (answer ≡ Granted) ↔ (directly r certificates buffer proof m state ≡ granted tt)
+  accepts-exactly m state answer gives = answer-tells _ (directly-refuses r certificates buffer proof m state) answer gives
 
   -- Verify answers 0 exactly when it issues the procap that it hands over.
   pub issues-exactly : (v : Verified) → VerifyGives r certificates buffer proof v
-      → (v .answer ≡ Granted) ↔ (verified r (records-of certificates) buffer proof ≡ granted (v .procap))
+      → (v .answer ≡ Granted) ↔ (verified r certificates buffer proof ≡ granted (v .procap))
   issues-exactly v gives =
-      procap-tells _ (verified-refuses r (records-of certificates) buffer proof) (v .answer) (v .procap) (gives .answer) (gives .procap)
+      procap-tells _ (verified-refuses r certificates buffer proof) (v .answer) (v .procap) (gives .answer) (gives .procap)
 
   -- A press that is accepted is one at which the direct check answers 0.
-  pub somewhere-exactly : AcceptedSomewhere r (records-of certificates) buffer proof ↔ AnsweredSomewhere r certificates buffer proof
+  pub somewhere-exactly : AcceptedSomewhere r certificates buffer proof ↔ AnsweredSomewhere r certificates buffer proof
   somewhere-exactly = (
     λ s. record {
       moment = s .moment;

@@ -12,6 +12,7 @@ use Rattle.procap.specs.declared.answer.Answer.{Answer}
 use Rattle.procap.specs.declared.answer.Answer.the-variants.{Granted}
 use Rattle.procap.specs.declared.procap.Request.{Request}
 use Rattle.procap.specs.declared.procap.Procap.{Procap}
+use Rattle.bl.specs.declared.Certificate.{Certificate}
 use Rattle.bl.specs.Calls.{verified, directly}
 use Rattle.bl.specs.Accepting.{AreBytes}
 use Rattle.text.specs.Text.{refusal-text}
@@ -19,19 +20,17 @@ use Rattle.text.specs.Calls.{reading, fitting, writing, length-given, buffer-le
 use Rattle.text.specs.declared.reader.ReadText.{ReadText}
 use Rattle.text.specs.declared.writer.WrittenText.{WrittenText}
 use Rattle.door.specs.Door.{opening, opening-text, packed}
-use Rattle.verifier.specs.declared.certificates.Certificates.{Certificates}
 use Rattle.verifier.specs.declared.verify.Verified.{Verified}
-use Rattle.verifier.specs.Verifying.{records-of}
 use Rattle.cases.specs.Calls.{answering}
 
 -- `verify` gives an answer and a procap.
-pub record VerifyGives (r : Request) (certificates : Certificates) (buffer proof : List ℕ) (v : Verified) : Type 0 where
-  pub answer : v .answer ≡ answer-of (verified r (records-of certificates) buffer proof)
-  pub procap : v .procap ≡ procap-handed (verified r (records-of certificates) buffer proof)
+pub record VerifyGives (r : Request) (certificates : List Certificate) (buffer proof : List ℕ) (v : Verified) : Type 0 where
+  pub answer : v .answer ≡ answer-of (verified r certificates buffer proof)
+  pub procap : v .procap ≡ procap-handed (verified r certificates buffer proof)
 
 -- `direct` gives an answer, at a moment in a state.
-abbrev pub DirectGives : Request → Certificates → List ℕ → List ℕ → ℕ → List ℕ → Answer → Type 0
-DirectGives r certificates buffer proof m state answer = answer ≡ answer-of (directly r (records-of certificates) buffer proof m state)
+abbrev pub DirectGives : Request → List Certificate → List ℕ → List ℕ → ℕ → List ℕ → Answer → Type 0
+DirectGives r certificates buffer proof m state answer = answer ≡ answer-of (directly r certificates buffer proof m state)
 
 -- `open`, the door on a value, gives an answer.
 abbrev pub OpenGives : Procap → Request → ℕ → List ℕ → Answer → Type 0
@@ -65,7 +64,7 @@ abbrev pub PrintGives : List ℕ → List ℕ → WrittenText → List ℕ → T
 PrintGives input before w after = Wrote (answering input (length before)) before w after
 
 -- A moment in range and a well-formed state, in bytes, at which `direct` answers 0.
-pub record AnsweredSomewhere (r : Request) (certificates : Certificates) (buffer proof : List ℕ) : Type 0 where
+pub record AnsweredSomewhere (r : Request) (certificates : List Certificate) (buffer proof : List ℕ) : Type 0 where
   pub moment : ℕ
   pub moment-in-range : moment ≤ latest
   pub state : List ℕ

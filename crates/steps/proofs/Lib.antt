@@ -4,3 +4,6 @@ pub mod StepTags
 pub mod StepEnding
 pub mod StepsCounted
 pub mod StepsPast
+pub mod ReaderContracts
+pub mod TakenApart
+pub mod MadeAndPassed

@@ -1,11 +1,13 @@
 // The proof bytes: tags, indices and terms of steps, where a step ends, and whether the bytes are a proof.
+pub mod reader;
+
+use crate::reader::byte_or_zero;
+use crate::reader::term_read;
 use bl::CheckTag;
 use bl::InferTag;
 use procap::bytes::TermRead;
 use procap::bytes::past;
-use procap::bytes::term_by;
 use procap::fact::Term;
-use procap::tag::TermTag;
 use procap::time::Time;
 ghost use mathlib.Core.Path.{_≡_};
 ghost use mathlib.Core.Option.{some};
@@ -36,13 +38,6 @@ pub struct TermAt {
 pub struct TimeAt {
     pub time: Time,
     pub next: usize,
-}
-
-// A byte of the proof, 0 past its end.
-pub fn byte_or_zero(proof: &[u8], at: usize) -> u8
-    ensures { λ r. ⌜ r ≡ getD (now (proof .entry)) at 0 ⌝ }
-{
-    if at < proof.len() { proof[at] } else { 0 }
 }
 
 // The tag of a step that must infer.
@@ -83,16 +78,6 @@ pub fn check_tag_at(proof: &[u8], at: usize) -> CheckTag
         0x2d => CheckTag::OrderStepTag,
         _ => CheckTag::NoCheckTag,
     }
-}
-
-// The term at a place of the proof and the place after it, or none.
-fn term_read(proof: &[u8], at: usize) -> TermRead
-    ensures { λ r. ⌜ TermReads (term (now (proof .entry)) at) r ⌝ }
-{
-    if at >= proof.len() {
-        return TermRead::NoTerm;
-    }
-    term_by(proof, TermTag::of(proof[at]), at + 1)
 }
 
 // The term at a place of the proof; where there is none, name 0.
@@ -358,7 +343,7 @@ fn index_end(proof: &[u8], limit: usize, at: usize) -> StepEnd
     if at >= proof.len() {
         return StepEnd::Nowhere;
     }
-    if (proof[at] as usize) < limit {
+    if (byte_or_zero(proof, at) as usize) < limit {
         StepEnd::At(at + 1, 0)
     } else {
         StepEnd::Nowhere

@@ -111,19 +111,16 @@ module _ (r : Request) (records : List Certificate) (buffer proof : List ℕ) wh
 
   module _ (v : Verified) where
     abbrev Answered : Type 0
-    Answered = (v .answer ≡ answer-of (verified r records buffer proof)) × (v .procap ≡ procap-handed (verified r records buffer proof))
-
-    both : HandsOver (verified r records buffer proof) v → Answered
-    both h = (h .answer, h .procap)
+    Answered = HandsOver (verified r records buffer proof) v
 
     pub verify-stops : (answer : Answer) → read-case records buffer proof ≡ refused answer → v ≡ record { answer = answer; procap = empty-procap } → Answered
     unfolding verified
-    verify-stops answer e f = both (hands-refusal _ answer v (refused-on _ _ answer e) f)
+    verify-stops answer e f = hands-refusal _ answer v (refused-on _ _ answer e) f
 
     pub verify-goes-on : (x : List Statement × Check) → read-case records buffer proof ≡ granted x
         → ((cs : List Statement) (N : Check) → CaseReads records buffer proof cs N → HandsOver (verified-case r cs N) v) → Answered
     unfolding verified verified-case
-    verify-goes-on x e k = both (rw (goes-on (read-case records buffer proof) (λ y. verified-case r (y .0) (y .1)) x e) (k (x .0) (x .1) (reads-so x e)))
+    verify-goes-on x e k = rw (goes-on (read-case records buffer proof) (λ y. verified-case r (y .0) (y .1)) x e) (k (x .0) (x .1) (reads-so x e))
 
   module _ (m : ℕ) (state : List ℕ) (a : Answer) where
     pub direct-stops : read-case records buffer proof ≡ refused a → a ≡ answer-of (directly r records buffer proof m state)

@@ -22,9 +22,9 @@ use Rattle.bl.specs.Trees.{Formula}
 use Rattle.bl.specs.Formulas.{most-formula-levels, formula-in}
 use Rattle.bl.specs.Certificates.{Statement, most-certificates, most-part-bytes, fixed-time, part-of, formula-of, statement-by, statement-of, and-then, statements-from, statements}
 use Rattle.verifier.specs.declared.certificates.Certificates.{Certificates}
-use Rattle.verifier.specs.declared.rows.Row.{Row}
+use Rattle.judging.specs.declared.rows.Row.{Row}
 use Rattle.formula.specs.PutIn.{terms-numbers, terms-of, stack}
-use Rattle.verifier.specs.RowsOf.{row-in, most-rows, all-numbers, Certifies}
+use Rattle.judging.specs.RowsOf.{row-in, most-rows, all-numbers, Certifies}
 use Rattle.verifier.specs.Verifying.{no-record, records-of, row-of, WellFormedRecord, RowsAre}
 use Rattle.formula.proofs.Filling.{fill-nothing}
 use Rattle.formula.proofs.Shifted.{formula-in-shifted}
@@ -173,11 +173,15 @@ record-at : (cs : Certificates) (k : ℕ) → k < cs .count → k < length (cs .
 unfolding records-of pad
 record-at cs k l m = getD-take (cs .count) _ k no-record l ∙ List·getD-append (cs .records) _ no-record k m
 
+-- Too many are refused.
+pub many-refused : (buffer : List ℕ) (records : List Certificate) → most-certificates < length records
+    → statements buffer records ≡ refused (CertificateMalformed 0)
+unfolding statements
+many-refused buffer records many = rw (lt-leb (length records) most-certificates many)
+
 module _ (buffer : List ℕ) (cs : Certificates) where
-  -- Too many are refused.
   pub too-many : most-certificates < cs .count → statements buffer (records-of cs) ≡ refused (CertificateMalformed 0)
-  unfolding statements
-  too-many many = rw (records-count cs, lt-leb (cs .count) most-certificates many)
+  too-many many = many-refused buffer (records-of cs) (omega (arith, records-count cs))
 
   -- Few are read in a row.
   few-read : cs .count ≤ most-certificates → statements buffer (records-of cs) ≡ statements-from buffer 0 (records-of cs)

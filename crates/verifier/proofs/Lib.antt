@@ -1,17 +1,7 @@
--- Laws on the walk and the calls.
-pub mod RowLaws
+-- Laws on the calls.
 pub mod CertificateLaws
-pub mod WalkParts
-pub mod StepWalks
-pub mod Coming
-pub mod JudgingLaws
-pub mod RowsUsed
-pub mod PartsTaken
-pub mod PlacesTaken
-pub mod InstancesTaken
-pub mod Surroundings
-pub mod Inferring
-pub mod Checking
-pub mod Goals
+pub mod CopyLaws
+pub mod CopiesRead
+pub mod Lending
 pub mod WalkBegins
 pub mod Answers

@@ -17,16 +17,16 @@ use Rattle.bl.proofs.Called.{proof-step}
 use Rattle.ledger.specs.declared.Reading.{Reading}
 use Rattle.ledger.specs.declared.Stop.the-variants.{Going}
 use Rattle.ledger.specs.declared.Ledger.{Ledger}
-use Rattle.verifier.specs.declared.judge.Scope.{Scope}
-use Rattle.verifier.specs.declared.judge.View.the-variants.{NoView}
+use Rattle.judging.specs.declared.judge.Scope.{Scope}
+use Rattle.judging.specs.declared.judge.View.the-variants.{NoView}
 use Rattle.formula.specs.declared.parts.Judgement.{Judgement}
-use Rattle.verifier.specs.declared.walk.Checked.{Checked}
+use Rattle.judging.specs.declared.walk.Checked.{Checked}
 use Rattle.ledger.specs.Books.{book, list-numbers, Sound, facts-in, kept-of, reading-of, unless-stopped, resume}
 use Rattle.formula.specs.PutIn.{no-terms}
 use Rattle.formula.specs.Meaning.{Means}
-use Rattle.verifier.specs.RowsOf.{Assumed}
-use Rattle.verifier.specs.Judging.{view-in}
-use Rattle.verifier.specs.Walking.{Around, Checks}
+use Rattle.judging.specs.RowsOf.{Assumed}
+use Rattle.judging.specs.Judging.{view-in}
+use Rattle.judging.specs.Walking.{Around, Checks}
 use Rattle.verifier.specs.Verifying.{Walked}
 
 -- The ledger at the start.

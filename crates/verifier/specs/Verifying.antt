@@ -1,4 +1,4 @@
--- The records that are handed over by value, and what the parts of verify and of the direct check promise.
+-- What is copied of the lent records, and what the parts of verify and of the direct check promise.
 use Prim.Native.Nat.{ℕ}
 use mathlib.Core.Path.{_≡_}
 use mathlib.Core.List.{List}
@@ -12,7 +12,7 @@ use Rattle.procap.specs.declared.procap.Request.{Request}
 use Rattle.procap.specs.declared.procap.Procap.{Procap}
 use Rattle.bl.specs.declared.Certificate.{Certificate}
 use Rattle.bl.specs.Trees.{Check}
-use Rattle.bl.specs.Certificates.{Statement, statements, statement-of}
+use Rattle.bl.specs.Certificates.{Statement, statements, statement-of, most-certificates}
 use Rattle.bl.specs.Questions.{done}
 use Rattle.bl.specs.Steps.{proof-in}
 use Rattle.bl.specs.Readings.{start, office, press, run}
@@ -25,16 +25,20 @@ use Rattle.ledger.specs.declared.Stop.the-variants.{Going, Stopped}
 use Rattle.verifier.specs.declared.verify.Verified.{Verified}
 use Rattle.ledger.specs.declared.Ledger.{Ledger}
 use Rattle.ledger.specs.Books.{book, list-numbers, Sound, reading-of, resume}
-use Rattle.verifier.specs.declared.rows.Row.{Row}
-use Rattle.verifier.specs.declared.rows.Whose.the-variants.{Claim}
+use Rattle.judging.specs.declared.rows.Row.{Row}
+use Rattle.judging.specs.declared.rows.Whose.the-variants.{Claim}
 use Rattle.formula.specs.PutIn.{no-terms}
-use Rattle.verifier.specs.RowsOf.{Certified}
+use Rattle.judging.specs.RowsOf.{Certified}
 
 -- A record of zeros.
 abbrev pub no-record : Certificate
 no-record = record { principal = 0; from = Moment 0; to = Moment 0; start = 0; length = 0 }
 
--- The records that are handed over: as many as their count says, and zeros where it says more than there are.
+-- What is copied of lent records: how many they are, and the first of them, with zeros past the last.
+abbrev pub copy-of : List Certificate → Certificates
+copy-of cs = record { count = length cs; records = pad most-certificates no-record (take most-certificates cs) }
+
+-- The records that a copy stands for: as many as its count says, and zeros where it says more than there are.
 unfoldable pub records-of : Certificates → List Certificate
 records-of cs = take (cs .count) (pad (cs .count) no-record (cs .records))
 

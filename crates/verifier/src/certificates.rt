@@ -1,31 +1,83 @@
 // The certificate records: whether each is well formed, and their rows.
-use crate::rows::ALL_NUMBERS;
-use crate::rows::Row;
-use crate::rows::Whose;
-use crate::rows::put_row;
 use bl::Certificate;
 use formula::ends::holds_formula;
 use formula::parts::FormulaAt;
 use formula::parts::Judgement;
 use formula::terms::Terms;
+use judging::rows::ALL_NUMBERS;
+use judging::rows::Row;
+use judging::rows::Whose;
+use judging::rows::put_row;
 use ledger::Stop;
 use procap::answer::Answer;
 use procap::time::LATEST_SECOND;
 use procap::time::Time;
 ghost use mathlib.Core.Path.{_≡_};
+ghost use Prim.Native.Nat.{_≤_, _<_};
+ghost use lib.ListN.{replicate};
 ghost use Rattle.procap.specs.Tells.{Tells};
-ghost use Rattle.bl.specs.Certificates.{statements, «fixed-time»};
-ghost use Rattle.verifier.specs.Verifying.{«records-of», «row-of», WellFormedRecord, RowsAre, Stops};
+ghost use Rattle.bl.specs.Certificates.{statements, «fixed-time», «most-certificates»};
+ghost use Rattle.verifier.specs.Verifying.{«no-record», «records-of», «copy-of», «row-of», WellFormedRecord, RowsAre, Stops};
 
 // How many records are taken.
 pub const MOST_CERTIFICATES: usize = 32;
 // How many bytes a part may have.
 pub const MOST_PART_BYTES: usize = 256;
 
-// Certificate records by value: the first `count` of them.
+// What is copied of lent records: how many they are, and the first of them.
 pub struct Certificates {
     pub count: usize,
     pub records: [Certificate; MOST_CERTIFICATES],
+}
+
+// What is copied of lent records.
+pub(crate) fn copied(certificates: &[Certificate]) -> Certificates
+    ensures { λ r. ⌜ r ≡ «copy-of» (now (certificates .entry)) ⌝ }
+{
+    let mut records = no_records();
+    let count = certificates.len();
+    let most = most_copied(count);
+    let mut i: usize = 0;
+    while i < most {
+        records[i] = certificates[i];
+        i = i + 1;
+    }
+    Certificates {
+        count: count,
+        records: records,
+    }
+}
+
+// How many of so many records are copied.
+fn most_copied(count: usize) -> usize
+    ensures { λ r. ⌜ (r ≤ count) × (r ≤ «most-certificates») × (r < count → r ≡ «most-certificates») ⌝ }
+{
+    if count < MOST_CERTIFICATES {
+        count
+    } else {
+        MOST_CERTIFICATES
+    }
+}
+
+// No record yet.
+fn no_records() -> [Certificate; MOST_CERTIFICATES]
+    ensures { λ r. ⌜ r ≡ replicate «most-certificates» «no-record» ⌝ }
+{
+    let none = no_record();
+    [none; MOST_CERTIFICATES]
+}
+
+// A record of zeros.
+pub fn no_record() -> Certificate
+    ensures { λ r. ⌜ r ≡ «no-record» ⌝ }
+{
+    Certificate {
+        principal: 0,
+        from: Time::Moment(0),
+        to: Time::Moment(0),
+        start: 0,
+        length: 0,
+    }
 }
 
 // Whether to go on: the first malformed record stops.

@@ -1,11 +1,13 @@
 // Verify, and the direct check.
 use crate::certificates::Certificates;
+use crate::certificates::copied;
 use crate::certificates::first_malformed;
 use crate::certificates::rows_of;
-use crate::judge::Scope;
-use crate::judge::View;
-use crate::walk::check;
+use bl::Certificate;
 use formula::parts::Judgement;
+use judging::judge::Scope;
+use judging::judge::View;
+use judging::walk::check;
 use ledger::LIST_NUMBERS;
 use ledger::Ledger;
 use ledger::Reading;
@@ -40,9 +42,26 @@ pub struct Verified {
 }
 
 // Whether the proof shows the request from the certificates, and the procap for it.
-pub fn verify(request: Request, certificates: Certificates, buffer: &[u8], proof: &[u8]) -> Verified
-    ensures answer { λ r. ⌜ r .answer ≡ «answer-of» (verified request («records-of» certificates) (now (buffer .entry)) (now (proof .entry))) ⌝ }
-    ensures procap { λ r. ⌜ r .procap ≡ «procap-handed» (verified request («records-of» certificates) (now (buffer .entry)) (now (proof .entry))) ⌝ }
+pub fn verify(
+    request: Request,
+    certificates: &[Certificate],
+    buffer: &[u8],
+    proof: &[u8],
+) -> Verified
+    ensures answer { λ r. ⌜ r .answer ≡ «answer-of» (verified request (now (certificates .entry)) (now (buffer .entry)) (now (proof .entry))) ⌝ }
+    ensures procap { λ r. ⌜ r .procap ≡ «procap-handed» (verified request (now (certificates .entry)) (now (buffer .entry)) (now (proof .entry))) ⌝ }
+{
+    verify_copied(request, copied(certificates), buffer, proof)
+}
+
+// What verify answers to records that were copied.
+fn verify_copied(
+    request: Request,
+    certificates: Certificates,
+    buffer: &[u8],
+    proof: &[u8],
+) -> Verified
+    ensures { λ r. ⌜ HandsOver (verified request («records-of» certificates) (now (buffer .entry)) (now (proof .entry))) r ⌝ }
 {
     match malformed(certificates, buffer, proof) {
         Stop::Stopped(answer) => refused(answer),
@@ -102,6 +121,20 @@ fn refused(answer: Answer) -> Verified
 
 // Whether the proof, checked at a moment in a state, is accepted there.
 pub fn direct(
+    request: Request,
+    certificates: &[Certificate],
+    buffer: &[u8],
+    proof: &[u8],
+    moment: u64,
+    state: &[u8],
+) -> Answer
+    ensures { λ r. ⌜ r ≡ «answer-of» (directly request (now (certificates .entry)) (now (buffer .entry)) (now (proof .entry)) moment (now (state .entry))) ⌝ }
+{
+    direct_copied(request, copied(certificates), buffer, proof, moment, state)
+}
+
+// What the direct check answers to records that were copied.
+fn direct_copied(
     request: Request,
     certificates: Certificates,
     buffer: &[u8],

@@ -38,7 +38,7 @@ use Rattle.steps.proofs.+application_end+check_after+check_end+infer_en
 use Rattle.steps.proofs.check_tag_at.Reads as check-tag-at-reads
 use Rattle.steps.proofs.index_end.Reads as index-end-reads
 use Rattle.steps.proofs.infer_tag_at.Reads as infer-tag-at-reads
-use Rattle.steps.proofs.term_read.Reads as term-read-reads
+use Rattle.steps.proofs.reader.term_read.Reads as term-read-reads
 use Rattle.steps.proofs.time_after.Reads as time-after-reads
 use Rattle.steps.proofs.+application_end+check_after+check_end+infer_end+infer_end_by+instance_end+out_end+pair_end.{statement}
 use Rattle.steps.proofs.+application_end+check_after+check_end+infer_end+infer_end_by+instance_end+out_end+pair_end.Tie.{close}

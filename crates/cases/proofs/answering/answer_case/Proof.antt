@@ -65,7 +65,7 @@ found : (c : tie.After-enum-told)
 found c = let read = c .before .before .before .case-at in kept-told _ _ (c .enum-told .given .1) (read .ensures)
 
 verify-parts-requires : tie.Need-verify-parts-requires
-verify-parts-requires c κs = let f = found (c .before .before .before) in (f .in-order, f .inside)
+verify-parts-requires c κs = let f = found (c .before .before .before) in (f .few, (f .in-order, f .inside))
 
 write-verified-requires : tie.Need-write-verified-requires
 write-verified-requires c κs = search needs

@@ -6,22 +6,22 @@ use lib.Seq.{length-take-le}
 use Rattle.cases.proofs.answering.verify_parts.Statement.{statement}
 use Rattle.cases.proofs.answering.verify_parts.Tie as tie
 
-slice-aggregate-verify : tie.Need-slice-aggregate-verify
-slice-aggregate-verify c =
-    let args = c .before .before .args in
+slice-aggregate-verify-lent : tie.Need-slice-aggregate-verify-lent
+slice-aggregate-verify-lent c =
+    let args = c .before .before .before .args in
     sym (length-take-le (args .split) (args .bytes .now) (omega arith))
 
-sub-verify : tie.Need-sub-verify
-sub-verify c = search needs
+sub-verify-lent : tie.Need-sub-verify-lent
+sub-verify-lent c = search needs
 
-part-verify-start : tie.Need-part-verify-start
-part-verify-start c = search needs
+part-verify-lent-start : tie.Need-part-verify-lent-start
+part-verify-lent-start c = search needs
 
-part-verify-end : tie.Need-part-verify-end
-part-verify-end c = search needs
+part-verify-lent-end : tie.Need-part-verify-lent-end
+part-verify-lent-end c = search needs
 
-verify-requires : tie.Need-verify-requires
-verify-requires c κs = search needs
+verify-lent-requires : tie.Need-verify-lent-requires
+verify-lent-requires c κs = search needs
 
 returns : tie.Need-returns
 returns c = search needs
@@ -30,9 +30,9 @@ pub verify-parts-spec : {M : Type 1} → statement M
 verify-parts-spec =
     tie.close
     (tie.spec
-    slice-aggregate-verify
-    sub-verify
-    part-verify-start
-    part-verify-end
-    verify-requires
+    slice-aggregate-verify-lent
+    sub-verify-lent
+    part-verify-lent-start
+    part-verify-lent-end
+    verify-lent-requires
     returns)

@@ -122,6 +122,7 @@ returns-4 c =
       next = _;
       reads = case-here _ _ _ _ _ _ _ _ (behind .reads) _ _ (proof .1) (c .before .if2 .left);
       its-request = refl;
+      few = behind .few;
       its-records = behind .their-records;
       in-order = ends-in-order _ _ _ _ _ _ _ (behind .end) (proof .3) (behind .put) (proof .4);
       inside = ends-inside _ _ _ _ _ _ _ (behind .end) (proof .3) (behind .put) (proof .4);

@@ -103,7 +103,7 @@ same-length-2 : tie.Need-same-length-2 Inv-loop μ-loop
 same-length-2 c = c .before .loop .inv .same-length
 
 returns-2 : tie.Need-returns-2 Inv-loop μ-loop
-returns-2 c = all-groups-read (c .before .loop .inv) (c .loop-test .left)
+returns-2 c = all-groups-read (c .before .loop .inv) (omega arith) (c .loop-test .left)
 
 pub groups-at-spec : {M : Type 1} → statement M
 groups-at-spec =

@@ -3,10 +3,11 @@ use Prim.Native.Nat.{_-_}
 use mathlib.Core.Path.{_≡_, refl, sym}
 use mathlib.Core.Logic.{⊎-elim}
 use native.Mathlib.Omega.{arith}
+use borrow.Author.Needs.{needs}
 use lib.ListN.{length}
 use Rattle.procap.proofs.Indices.{mapped}
 use Rattle.bl.specs.Certificates.{most-certificates}
-use Rattle.verifier.specs.RowsOf.{most-rows}
+use Rattle.judging.specs.RowsOf.{most-rows}
 use Rattle.verifier.proofs.CertificateLaws.{RowsPut, no-rows-put, one-row-put, no-row-put, rows-certified}
 use Rattle.verifier.proofs.certificates.rows_of.Statement.{statement}
 use Rattle.verifier.proofs.certificates.rows_of.Tie as tie
@@ -37,7 +38,7 @@ row-of-requires : tie.Need-row-of-requires Inv-loop μ-loop
 row-of-requires c κs = tt
 
 put-row-requires : tie.Need-put-row-requires Inv-loop μ-loop
-put-row-requires c κs = (c .before .before .before .before .before .loop .inv .room, omega arith)
+put-row-requires c κs = search needs
 
 add-i : tie.Need-add-i Inv-loop μ-loop
 add-i c = omega arith
@@ -49,7 +50,7 @@ loop-again : tie.Need-loop-again Inv-loop μ-loop
 loop-again c =
     let so-far = c .before .before .loop .inv in
     ⊎-elim
-    (λ w. rw (w .6) (one-row-put so-far (w .4 .kept .0) (w .3 .ensures) (w .4 .ensures .0) (w .4 .ensures .1)))
+    (λ w. rw (w .6) (one-row-put so-far (w .4 .kept .0) (w .3 .ensures) (w .4 .ensures .0 (so-far .room) (omega arith)) (w .4 .ensures .1)))
     (λ w. rw (w .1) (no-row-put so-far (w .0 .left)))
     (c .if1 .came)
 

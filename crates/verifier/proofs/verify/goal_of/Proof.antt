@@ -1,6 +1,6 @@
 -- The bytes are those of the goal, with the three names of the request in two bytes each.
 use borrow.Author.Needs.{needs}
-use Rattle.verifier.proofs.Goals.{goal-of-request}
+use Rattle.judging.proofs.Goals.{goal-of-request}
 use Rattle.verifier.proofs.verify.goal_of.Statement.{statement}
 use Rattle.verifier.proofs.verify.goal_of.Tie as tie
 

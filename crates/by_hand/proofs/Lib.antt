@@ -1,0 +1,4 @@
+pub mod ArrayRow
+pub mod Calls
+pub mod Clauses
+pub mod Loan

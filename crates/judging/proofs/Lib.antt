@@ -1,0 +1,14 @@
+-- Laws on the steps and the walk.
+pub mod RowLaws
+pub mod WalkParts
+pub mod StepWalks
+pub mod Coming
+pub mod JudgingLaws
+pub mod RowsUsed
+pub mod PartsTaken
+pub mod PlacesTaken
+pub mod InstancesTaken
+pub mod Surroundings
+pub mod Inferring
+pub mod Checking
+pub mod Goals

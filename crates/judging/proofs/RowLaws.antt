@@ -1,0 +1,227 @@
+-- Laws of rows: numbers stored one after another stand where they were stored and leave the others, a row goes by its own 24 numbers, and the
+-- numbers that a row is put as are read back as that row.
+use Prim.Native.Nat.{ℕ, zero, suc, _+_, _*_, _≤_, _<_}
+use mathlib.Core.Path.{_≡_, refl, sym, ap, ap₂, _∙_}
+use mathlib.Core.List.{List, [], _∷_, _++_}
+use native.Mathlib.Nat.{add-zero, zero-add, add-suc, suc-add, add-assoc}
+use native.Mathlib.Numerals.{add-one, towards-suc}
+use native.Mathlib.Omega.{arith}
+use borrow.Author.Tests.{ne-eqb}
+use borrow.Author.Count.{below-more}
+use lib.ListN.{length, getD, take, set, length-set}
+use lib.Seq.{sets, getD-set-same, getD-set-other, getD-append-add, length-take-le, take-suc, ext-getD}
+use lib.Dec.{eqb}
+use Rattle.procap.specs.Tells.{pick}
+use Rattle.procap.specs.Numbered.{kind-of, value-of, of-numbers}
+use Rattle.procap.specs.declared.time.Time.{Time}
+use Rattle.procap.specs.declared.fact.Term.the-variants.{When}
+use Rattle.procap.proofs.Numbered.{time-numbered}
+use Rattle.judging.specs.declared.rows.Row.{Row}
+use Rattle.judging.specs.declared.rows.Whose.{Whose}
+use Rattle.judging.specs.declared.rows.Whose.the-variants.{Plain, Claim}
+use Rattle.formula.specs.PutIn.{terms-numbers}
+use Rattle.judging.specs.RowsOf.{numbers-in, time-of, time-in, whose-in, row-in, row-numbers}
+use Rattle.judging.specs.RowNumbers.{whose-kind, whose-value}
+
+-- ── Numbers stored one after another ──
+
+-- Numbers stored right after others are stored with them.
+sets-after : (l : List ℕ) (at : ℕ) (xs ys : List ℕ) → sets (sets l at xs) (at + length xs) ys ≡ sets l at (xs ++ ys)
+sets-after l at [] ys = rw add-zero
+sets-after l at (x ∷ xs) ys = rw (add-suc, ← suc-add) (sets-after (set l at x) (suc at) xs ys)
+
+-- One number more of a list.
+pub sets-more : (l : List ℕ) (at : ℕ) (xs : List ℕ) (i : ℕ) → i < length xs → set (sets l at (take i xs)) (at + i) (getD xs i 0) ≡ sets l at (take (i + 1) xs)
+sets-more l at xs i inside =
+    let n = length-take-le i xs (omega arith) in
+    let one : take (i + 1) xs ≡ take i xs ++ (getD xs i 0 ∷ []) = rw add-one (take-suc xs i 0 inside) in
+    ap (λ k. set (sets l at (take i xs)) (at + k) (getD xs i 0)) (sym n)
+    ∙ sets-after l at (take i xs) (getD xs i 0 ∷ [])
+    ∙ ap (λ ys. sets l at ys) (sym one)
+
+-- What stands before or after them stays.
+stays : (l : List ℕ) (at : ℕ) (xs : List ℕ) (j : ℕ) → (at ≤ j → at + length xs ≤ j) → getD (sets l at xs) j 0 ≡ getD l j 0
+stays l at [] j outside = refl
+stays l at (x ∷ xs) j outside =
+    stays (set l at x) (suc at) xs j (λ m. let b = outside (omega arith) in omega arith)
+    ∙ getD-set-other l at j x 0 (λ e. let b = outside (omega arith) in omega arith)
+
+-- They stand where they were stored.
+stands : (l : List ℕ) (at : ℕ) (xs : List ℕ) (k : ℕ) → at + length xs ≤ length l → k < length xs → getD (sets l at xs) (at + k) 0 ≡ getD xs k 0
+stands l at [] k room inside = absurd (omega arith)
+stands l at (x ∷ xs) zero room inside =
+    rw add-zero (stays (set l at x) (suc at) xs at (λ m. absurd (omega arith)) ∙ getD-set-same l at x 0 (omega arith))
+stands l at (x ∷ xs) (suc k) room inside =
+    rw (add-suc, ← suc-add) (stands (set l at x) (suc at) xs k (rw length-set (omega arith)) (omega arith))
+
+-- ── A row goes by its own numbers ──
+
+-- So many numbers from a place on, said by indices.
+numbers-in-length : (rows : List ℕ) (at n : ℕ) → length (numbers-in rows at n) ≡ n
+unfolding numbers-in
+numbers-in-length rows at zero = refl
+numbers-in-length rows at (suc n) = ap suc (numbers-in-length rows (at + 1) n)
+
+numbers-in-at : (rows : List ℕ) (at n k : ℕ) → k < n → getD (numbers-in rows at n) k 0 ≡ getD rows (at + k) 0
+unfolding numbers-in
+numbers-in-at rows at zero k inside = absurd (omega arith)
+numbers-in-at rows at (suc n) zero inside = rw add-zero
+numbers-in-at rows at (suc n) (suc k) inside =
+    numbers-in-at rows (at + 1) n k (omega arith) ∙ ap (λ j. getD rows j 0) (omega arith)
+
+numbers-are : (xs rows : List ℕ) (at n : ℕ) → length xs ≡ n → ((k : ℕ) → k < n → getD xs k 0 ≡ getD rows (at + k) 0) → xs ≡ numbers-in rows at n
+numbers-are xs rows at n e same =
+    ext-getD 0 xs (numbers-in rows at n)
+    (e ∙ sym (numbers-in-length rows at n))
+    (λ k inside. same k (omega arith) ∙ sym (numbers-in-at rows at n k (omega arith)))
+
+-- The first i numbers from a place on are copied into an array of n.
+pub record Copied (rows : List ℕ) (at n : ℕ) (numbers : List ℕ) (i : ℕ) : Type 0 where
+  pub room : length numbers ≡ n
+  pub same : (k : ℕ) → k < i → getD numbers k 0 ≡ getD rows (at + k) 0
+
+module _ (rows : List ℕ) (at : ℕ) {n : ℕ} {numbers : List ℕ} where
+  pub none-copied : length numbers ≡ n → Copied rows at n numbers 0
+  none-copied e = record { room = e; same = λ k inside. absurd (omega arith) }
+
+  pub one-copied : {i v : ℕ} → i < n → v ≡ getD rows (at + i) 0 → Copied rows at n numbers i → Copied rows at n (set numbers i v) (i + 1)
+  one-copied {i} {v} inside e c = record {
+    room = rw length-set (c .room);
+    same =
+        below-more (λ k. getD (set numbers i v) k 0 ≡ getD rows (at + k) 0) i
+        (λ k l. getD-set-other numbers i k v 0 (λ e. omega arith) ∙ c .same k l)
+        (getD-set-same numbers i v 0 (omega (arith, c .room)) ∙ e);
+  }
+
+  pub all-copied : {i : ℕ} → n ≤ i → Copied rows at n numbers i → numbers ≡ numbers-in rows at n
+  all-copied all c = numbers-are numbers rows at n (c .room) (λ k inside. c .same k (omega arith))
+
+-- From two places on the same n numbers stand.
+abbrev Alike : ℕ → List ℕ → ℕ → List ℕ → ℕ → Type 0
+Alike n xs s ys t = (k : ℕ) → k < n → getD xs (s + k) 0 ≡ getD ys (t + k) 0
+
+module _ (xs ys : List ℕ) (s t : ℕ) where
+  first-alike : Alike 2 xs s ys t → getD xs s 0 ≡ getD ys t 0
+  first-alike same = simp add-zero at (same 0 (omega arith))
+
+  -- What two and what n numbers stand for.
+  whose-alike : Alike 2 xs s ys t → whose-in xs s ≡ whose-in ys t
+  unfolding whose-in
+  whose-alike same =
+      ap₂ (λ (a b : ℕ). pick (eqb a 0) Plain (Claim b)) (first-alike same) (same 1 (omega arith))
+
+  time-alike : Alike 2 xs s ys t → time-in xs s ≡ time-in ys t
+  time-alike same = ap₂ (λ (a b : ℕ). time-of (of-numbers a b)) (first-alike same) (same 1 (omega arith))
+
+  numbers-alike : (n : ℕ) → Alike n xs s ys t → numbers-in xs s n ≡ numbers-in ys t n
+  numbers-alike n same =
+      numbers-are (numbers-in xs s n) ys t n (numbers-in-length xs s n) (λ k inside. numbers-in-at xs s n k inside ∙ same k inside)
+
+  -- From further places on.
+  further : (n m j : ℕ) → m + j ≤ n → Alike n xs s ys t → Alike j xs (s + m) ys (t + m)
+  further n m j fits same k inside = simp add-assoc (same (m + k) (omega arith))
+
+rows-alike : (xs ys : List ℕ) (i j : ℕ) → Alike row-numbers xs (i * row-numbers) ys (j * row-numbers) → row-in xs i ≡ row-in ys j
+unfolding row-in
+rows-alike xs ys i j same =
+    let s = i * row-numbers in
+    let t = j * row-numbers in
+    let part : (m n : ℕ) → m + n ≤ row-numbers → Alike n xs (s + m) ys (t + m) = λ m n fits. further xs ys s t row-numbers m n fits same in
+    λ d. record {
+      whose = whose-alike xs ys s t (λ k inside. same k (omega arith)) d;
+      judgement = record {
+        formula = record {
+          at = same 6 (omega arith) d;
+          terms = record {
+            count = same 7 (omega arith) d;
+            numbers = numbers-alike xs ys (s + 8) (t + 8) terms-numbers (part 8 terms-numbers (omega arith)) d;
+          };
+        };
+        from = time-alike xs ys (s + 2) (t + 2) (part 2 2 (omega arith)) d;
+        to = time-alike xs ys (s + 4) (t + 4) (part 4 2 (omega arith)) d;
+      };
+    }
+
+-- A row of which all numbers are copied is the same.
+pub row-copied : (rows : List ℕ) {n : ℕ} {copy : List ℕ} {i : ℕ} → Copied rows 0 n copy i → (j : ℕ) → j * row-numbers + row-numbers ≤ i
+    → row-in copy j ≡ row-in rows j
+row-copied rows {copy = copy} c j below =
+    rows-alike copy rows j j (λ k inside. c .same (j * row-numbers + k) (omega arith) ∙ ap (λ m. getD rows m 0) (zero-add (j * row-numbers + k)))
+
+-- Whose a row is, by its first number.
+module _ (rows : List ℕ) (at : ℕ) {kind : ℕ} (e : kind ≡ getD rows at 0) where
+  pub whose-plain : kind ≡ 0 → Plain ≡ whose-in rows at
+  unfolding whose-in
+  whose-plain z = rw (← e, z)
+
+  pub whose-claimed : {value : ℕ} → (kind ≡ 0 → ⊥) → value ≡ getD rows (at + 1) 0 → Claim value ≡ whose-in rows at
+  unfolding whose-in
+  whose-claimed other f = rw (← e, ne-eqb kind 0 other, ← f)
+
+-- ── A row that is put ──
+
+-- The numbers that a row is put as.
+abbrev numbers-of : Row → List ℕ
+numbers-of row =
+    whose-kind (row .whose)
+    ∷ whose-value (row .whose)
+    ∷ kind-of (When (row .judgement .from))
+    ∷ value-of (When (row .judgement .from))
+    ∷ kind-of (When (row .judgement .to))
+    ∷ value-of (When (row .judgement .to))
+    ∷ row .judgement .formula .at
+    ∷ row .judgement .formula .terms .count
+    ∷ row .judgement .formula .terms .numbers
+
+-- Its parts put one after another are all of them.
+pub row-put : (before : List ℕ) (start : ℕ) {first second third fourth after : List ℕ} {k₁ v₁ k₂ v₂ k₃ v₃ : ℕ} (row : Row)
+    → k₁ ≡ whose-kind (row .whose) → v₁ ≡ whose-value (row .whose) → first ≡ sets before start (k₁ ∷ v₁ ∷ [])
+    → k₂ ≡ kind-of (When (row .judgement .from)) → v₂ ≡ value-of (When (row .judgement .from)) → second ≡ sets first (start + 2) (k₂ ∷ v₂ ∷ [])
+    → k₃ ≡ kind-of (When (row .judgement .to)) → v₃ ≡ value-of (When (row .judgement .to)) → third ≡ sets second (start + 4) (k₃ ∷ v₃ ∷ [])
+    → fourth ≡ sets third (start + 6) (row .judgement .formula .at ∷ row .judgement .formula .terms .count ∷ [])
+    → after ≡ sets fourth (start + 8) (row .judgement .formula .terms .numbers)
+    → after ≡ sets before start (numbers-of row)
+row-put before start row a b one c d two e f three four five = rw (five, four, three, two, one, a, b, c, d, e, f) (simp towards-suc)
+
+-- Each part is read back.
+whose-back : (w : Whose) → pick (eqb (whose-kind w) 0) Plain (Claim (whose-value w)) ≡ w
+whose-back Plain = refl
+whose-back (Claim k) = refl
+
+time-back : (t : Time) → time-of (of-numbers (kind-of (When t)) (value-of (When t))) ≡ t
+unfolding time-of
+time-back t = ap time-of (time-numbered t)
+
+row-back : (row : Row) → length (row .judgement .formula .terms .numbers) ≡ terms-numbers → row-in (numbers-of row) 0 ≡ row
+unfolding row-in whose-in
+row-back row e = λ d. record {
+  whose = whose-back (row .whose) d;
+  judgement = record {
+    formula = record {
+      at = row .judgement .formula .at;
+      terms = record { count = row .judgement .formula .terms .count; numbers = sym numbers-back d };
+    };
+    from = time-back (row .judgement .from) d;
+    to = time-back (row .judgement .to) d;
+  };
+}
+  where
+    numbers : List ℕ
+    numbers = row .judgement .formula .terms .numbers
+
+    numbers-back : numbers ≡ numbers-in (numbers-of row) 8 terms-numbers
+    numbers-back = numbers-are numbers (numbers-of row) 8 terms-numbers e (λ k inside. sym (getD-append-add (take 8 (numbers-of row)) numbers k 0))
+
+module _ (before : List ℕ) (index : ℕ) (row : Row) (full : length (row .judgement .formula .terms .numbers) ≡ terms-numbers) {after : List ℕ}
+    (put : after ≡ sets before (index * row-numbers) (numbers-of row)) where
+  -- It stands there, and the others stay.
+  pub row-there : index * row-numbers + row-numbers ≤ length before → row-in after index ≡ row
+  row-there room =
+      rows-alike after (numbers-of row) index 0
+      (λ k inside. rw (put, zero-add) (stands before (index * row-numbers) (numbers-of row) k (omega arith) (omega arith)))
+      ∙ row-back row full
+
+  pub row-elsewhere : (i : ℕ) → (i ≡ index → ⊥) → row-in after i ≡ row-in before i
+  row-elsewhere i other =
+      rows-alike after before i i
+      (λ k inside. rw put (stays before (index * row-numbers) (numbers-of row) (i * row-numbers + k) (λ l. omega arith)))

@@ -1,0 +1,94 @@
+-- The walk of each step of a tree is that step's own part, then the walks of the steps that it is made of.
+use Prim.Native.Nat.{ℕ}
+use mathlib.Core.Path.{_≡_, refl, ap}
+use mathlib.Core.List.{List, _∷_, map}
+use Rattle.procap.specs.declared.time.Time.{Time}
+use Rattle.procap.specs.declared.fact.Term.{Term}
+use Rattle.bl.specs.Trees.{Formula, Infer, local, certificate, first, second, apply, instance, Check, pair, trivial, at-in, at-out, says-in, says-out, state, compare, inferred, offset}
+use Rattle.bl.specs.Certificates.{Statement}
+use Rattle.bl.specs.Rules.{Assumption, plain, claim, shut-out, View, view-of}
+use Rattle.bl.specs.Questions.{Walk, done, misfit, ask, _>>=_, _>>_}
+use Rattle.bl.specs.Walk.{Judgement, infer, check}
+use Rattle.judging.specs.Judging.{and-then, use-local, use-certificate, and-sides, implies-sides, at-parts, says-parts, top-goal, fact-goal, order-goal, first-side, second-side, put-in, two-orders, fits-goal}
+
+-- Three walks, one after another.
+in-turn : {A B C : Type 0} (w : Walk A) (f : A → Walk B) (g : B → Walk C) → w >>= f >>= g ≡ w >>= (λ a. f a >>= g)
+unfolding _>>=_
+in-turn (done a) f g = refl
+in-turn (misfit q) f g = refl
+in-turn (ask x q w) f g = ap (ask x q) (in-turn w f g)
+
+-- 26 after its first step: both sides of the implication, and the two orders.
+unfoldable pub use-implication : ℕ → Time → Time → Judgement → Walk (Formula × Formula)
+use-implication q t1 t2 (F, a, b) = do
+  x ← implies-sides q F
+  two-orders q a t1 t2 b
+  done x
+
+module _ (cs : List Statement) (Γ : List Assumption) (v : View) (q : ℕ) where
+  -- The steps that infer.
+  pub local-walk : (i : ℕ) → infer cs Γ v (local q i) ≡ use-local q v Γ i
+  unfolding infer use-local
+  local-walk i = refl
+
+  pub certificate-walk : (i : ℕ) → infer cs Γ v (certificate q i) ≡ use-certificate q v cs i
+  unfolding infer use-certificate
+  certificate-walk i = refl
+
+  pub first-walk : (M : Infer) → infer cs Γ v (first q M) ≡ and-then (infer cs Γ v M) (λ j. first-side q j)
+  unfolding infer first-side and-sides _>>=_
+  first-walk M = simp in-turn
+
+  pub second-walk : (M : Infer) → infer cs Γ v (second q M) ≡ and-then (infer cs Γ v M) (λ j. second-side q j)
+  unfolding infer second-side and-sides _>>=_
+  second-walk M = simp in-turn
+
+  pub instance-walk : (t : Term) (M : Infer) → infer cs Γ v (instance q t M) ≡ and-then (infer cs Γ v M) (put-in q t)
+  unfolding infer put-in _>>=_
+  instance-walk t M = refl
+
+  pub apply-walk : (M : Infer) (N : Check) (t1 t2 : Time) → infer cs Γ v (apply q M N t1 t2)
+      ≡ and-then (infer cs Γ v M) (λ j. and-then (use-implication q t1 t2 j) (λ x. and-then (check cs Γ v N (x .0) t1 t2) (λ _. done (x .1, t1, t2))))
+  unfolding infer use-implication implies-sides two-orders _>>=_
+  apply-walk M N t1 t2 = simp in-turn
+
+  module _ (G : Formula) (a b : Time) where
+    -- The steps that check.
+    pub pair-walk : (M N : Check) → check cs Γ v (pair q M N) G a b ≡ and-then (and-sides q G) (λ x. check cs Γ v M (x .0) a b >> check cs Γ v N (x .1) a b)
+    unfolding check and-sides _>>=_
+    pair-walk M N = simp in-turn
+
+    pub trivial-walk : check cs Γ v (trivial q) G a b ≡ top-goal q G
+    unfolding check top-goal
+    trivial-walk = refl
+
+    pub state-walk : check cs Γ v (state q) G a b ≡ fact-goal q G
+    unfolding check fact-goal
+    state-walk = refl
+
+    pub compare-walk : check cs Γ v (compare q) G a b ≡ order-goal q G
+    unfolding check order-goal
+    compare-walk = refl
+
+    pub at-in-walk : (M : Check) → check cs Γ v (at-in q M) G a b ≡ and-then (at-parts q G) (λ x. check cs Γ v M (x .0) (x .1) (x .2))
+    unfolding check at-parts _>>=_
+    at-in-walk M = simp in-turn
+
+    pub at-out-walk : (M : Infer) (N : Check) → check cs Γ v (at-out q M N) G a b
+        ≡ and-then (infer cs Γ v M) (λ j. and-then (at-parts q (j .0)) (λ x. check cs (plain (x .0) (x .1) (x .2) ∷ Γ) v N G a b))
+    unfolding check at-parts _>>=_
+    at-out-walk M N = simp in-turn
+
+    pub says-in-walk : (M : Check) → check cs Γ v (says-in q M) G a b ≡ and-then (says-parts q G) (λ x. check cs (map shut-out Γ) (view-of (x .0)) M (x .1) a b)
+    unfolding check says-parts _>>=_
+    says-in-walk M = simp in-turn
+
+    pub says-out-walk : (M : Infer) (N : Check) → check cs Γ v (says-out q M N) G a b
+        ≡ and-then (infer cs Γ v M) (λ j. and-then (says-parts q (j .0)) (λ x. check cs (claim (x .0) (x .1) (j .1) (j .2) ∷ Γ) v N G a b))
+    unfolding check says-parts _>>=_
+    says-out-walk M N = simp in-turn
+
+    -- An inferring step where one is checked, at the offset of its own tag.
+    pub inferred-walk : (M : Infer) → offset M ≡ q → check cs Γ v (inferred M) G a b ≡ and-then (infer cs Γ v M) (λ j. fits-goal q (j .0) (j .1) (j .2) G a b)
+    unfolding check fits-goal two-orders
+    inferred-walk M e = rw e

@@ -1,0 +1,19 @@
+-- The second of the two sides that were taken is inferred.
+use borrow.Author.Needs.{needs}
+use mathlib.Core.Path.{refl}
+use Rattle.judging.specs.Judging.{second-side}
+use Rattle.judging.proofs.JudgingLaws.{takes-so, one-side}
+use Rattle.judging.proofs.judge.second.Statement.{statement}
+use Rattle.judging.proofs.judge.second.Tie as tie
+
+conjuncts-requires : tie.Need-conjuncts-requires
+conjuncts-requires c κs = search needs
+
+returns : tie.Need-returns
+unfolding second-side
+returns c =
+    let both = c .before .before .conjuncts .ensures in
+    λ state b w e list y. one-side _ (λ x. x .1) _ y (λ F going m. takes-so (λ x on. on .1) (both .0 F going m)) (both .1) refl
+
+pub second-spec : {M : Type 1} → statement M
+second-spec = tie.close (tie.spec conjuncts-requires returns)

@@ -1,0 +1,170 @@
+-- What one step makes of a goal or of what was inferred: the parts of the walk that look at no other step.
+use Prim.Native.Nat.{ℕ}
+use mathlib.Core.Path.{_≡_}
+use mathlib.Core.List.{List}
+use Rattle.procap.specs.declared.time.Time.{Time}
+use Rattle.procap.specs.declared.fact.Term.{Term}
+use Rattle.bl.specs.declared.FormulaTag.{FormulaTag}
+use Rattle.bl.specs.declared.FormulaTag.the-variants.{TopTag, AndTag, ImpliesTag, AllNamesTag, AllTimesTag, SaysTag, AtTag, AtomTag, FactTag, OrderTag, NoFormulaTag}
+use Rattle.bl.specs.Trees.{Formula, put}
+use Rattle.bl.specs.Questions.{Walk, done, misfit, _>>=_, _>>_, Test, ask-order, ask-fact, need}
+use Rattle.bl.specs.Kinds.{as-name, as-time, as-terms, as-top, as-and, as-implies, as-all, as-says, as-at, as-fact, as-order}
+use Rattle.bl.specs.Rules as rules
+use Rattle.procap.specs.Lists.{nth}
+use Rattle.bl.specs.Certificates.{Statement}
+use Rattle.bl.specs.Rules.{Assumption, no-view, view-of}
+use Rattle.bl.specs.Walk as walk
+use Rattle.bl.specs.Walk.{same, need-sort}
+use Rattle.ledger.specs.declared.Ledger.{Ledger}
+use Rattle.ledger.specs.declared.Stop.the-variants.{Going}
+use Rattle.formula.specs.declared.parts.Judgement.{Judgement}
+use Rattle.judging.specs.declared.judge.View.{View}
+use Rattle.judging.specs.declared.judge.View.the-variants.{NoView, ViewOf}
+use Rattle.judging.specs.declared.judge.Inferred.{Inferred}
+use Rattle.judging.specs.declared.judge.Application.{Application}
+use Rattle.ledger.specs.Books.{Book, book, Gives, misfitted}
+use Rattle.formula.specs.Meaning.{On}
+
+-- One walk, and then another.
+abbrev pub and-then : {A B : Type 0} → Walk A → (A → Walk B) → Walk B
+and-then w g = w >>= g
+
+-- In whose view a step stands.
+unfoldable pub view-in : View → rules.View
+view-in NoView = no-view
+view-in (ViewOf k) = view-of k
+
+-- 20 and 21: an assumption, a certificate.
+unfoldable pub use-local : ℕ → rules.View → List Assumption → ℕ → Walk walk.Judgement
+use-local q v Γ i = do
+  x ← need q (nth Γ i)
+  walk.assumed q v x
+
+unfoldable pub use-certificate : ℕ → rules.View → List Statement → ℕ → Walk walk.Judgement
+use-certificate q v cs i = do
+  c ← need q (nth cs i)
+  walk.need-view q v (c .by)
+  done (c .says, c .from, c .to)
+
+-- Both sides of a conjunction, of an implication.
+unfoldable pub and-sides : ℕ → Formula → Walk (Formula × Formula)
+and-sides q F = do
+  (A, B, _) ← need q (as-and F)
+  done (A, B)
+
+unfoldable pub implies-sides : ℕ → Formula → Walk (Formula × Formula)
+implies-sides q F = do
+  (A, B, _) ← need q (as-implies F)
+  done (A, B)
+
+-- The same by the tag wanted; no other has two sides.
+unfoldable pub sides : FormulaTag → ℕ → Formula → Walk (Formula × Formula)
+sides AndTag q F = and-sides q F
+sides ImpliesTag q F = implies-sides q F
+sides TopTag q F = misfit q
+sides AllNamesTag q F = misfit q
+sides AllTimesTag q F = misfit q
+sides SaysTag q F = misfit q
+sides AtTag q F = misfit q
+sides AtomTag q F = misfit q
+sides FactTag q F = misfit q
+sides OrderTag q F = misfit q
+sides NoFormulaTag q F = misfit q
+
+-- The tags of formulas with two sides.
+unfoldable pub TwoSided : FormulaTag → Type 0
+TwoSided TopTag = ⊥
+TwoSided AndTag = Unit {0}
+TwoSided ImpliesTag = Unit {0}
+TwoSided AllNamesTag = ⊥
+TwoSided AllTimesTag = ⊥
+TwoSided SaysTag = ⊥
+TwoSided AtTag = ⊥
+TwoSided AtomTag = ⊥
+TwoSided FactTag = ⊥
+TwoSided OrderTag = ⊥
+TwoSided NoFormulaTag = ⊥
+
+-- The formula of an "at" and its interval.
+unfoldable pub at-parts : ℕ → Formula → Walk (Formula × Time × Time)
+at-parts q F = do
+  (x1, x2, A, _) ← need q (as-at F)
+  (t1, _) ← need q (as-time x1)
+  (t2, _) ← need q (as-time x2)
+  done (A, t1, t2)
+
+-- Who says, and what.
+unfoldable pub says-parts : ℕ → Formula → Walk (ℕ × Formula)
+says-parts q F = do
+  (x, A, _) ← need q (as-says F)
+  (k, _) ← need q (as-name x)
+  done (k, A)
+
+-- 25, 2C and 2D on their goal.
+unfoldable pub top-goal : ℕ → Formula → Test
+top-goal q G = do
+  _ ← need q (as-top G)
+  done tt
+
+unfoldable pub fact-goal : ℕ → Formula → Test
+fact-goal q G = do
+  (p, xs, _) ← need q (as-fact G)
+  (ts, _) ← need q (as-terms xs)
+  ask-fact q (p, ts)
+
+unfoldable pub order-goal : ℕ → Formula → Test
+order-goal q G = do
+  (x1, x2, _) ← need q (as-order G)
+  (t1, _) ← need q (as-time x1)
+  (t2, _) ← need q (as-time x2)
+  ask-order q t1 t2
+
+-- 23, 24 and 27 on what was inferred.
+unfoldable pub first-side : ℕ → walk.Judgement → Walk walk.Judgement
+first-side q (F, a, b) = do
+  (A, B) ← and-sides q F
+  done (A, a, b)
+
+unfoldable pub second-side : ℕ → walk.Judgement → Walk walk.Judgement
+second-side q (F, a, b) = do
+  (A, B) ← and-sides q F
+  done (B, a, b)
+
+unfoldable pub put-in : ℕ → Term → walk.Judgement → Walk walk.Judgement
+put-in q t (F, a, b) = do
+  (s, A, _) ← need q (as-all F)
+  need-sort q s t
+  done (put 0 t A, a, b)
+
+-- The two interval tests of 26, and of an inferring step where one is checked.
+unfoldable pub two-orders : ℕ → Time → Time → Time → Time → Test
+two-orders q a c d b = do
+  ask-order q a c
+  ask-order q d b
+
+unfoldable pub fits-goal : ℕ → Formula → Time → Time → Formula → Time → Time → Test
+fits-goal q F a b G c d = do
+  same q F G
+  two-orders q a c d b
+
+-- A step takes a value that is so, and the ledger stays; or it does not fit, and the ledger stops there.
+pub data Takes {X : Type 0} (w : Walk X) (q : ℕ) (l r : Ledger) (So : X → Type 0) : Type 0 where
+  takes : (x : X) → w ≡ done x → r ≡ l → So x → Takes w q l r So
+  unfit : w ≡ misfit q → r ≡ misfitted l q → Takes w q l r So
+
+-- The walk w, from the book b, came to a judgement whose step ends at e; where it stopped the rest says nothing.
+pub record Yields (state buffer : List ℕ) (b : Book) (w : Walk walk.Judgement) (e : ℕ) (r : Inferred) (list : List ℕ) : Type 0 where
+  pub formula : Formula
+  pub from : Time
+  pub to : Time
+  pub gives : Gives state b w (book (r .ledger) list) (formula, from, to)
+  pub on : r .ledger .stop ≡ Going → On buffer (r .judgement) formula from to
+  pub ends : r .ledger .stop ≡ Going → r .next ≡ e
+
+-- 26, before its second step: an implication put to use on [t1,t2], or nothing of the kind.
+pub data Used (state buffer : List ℕ) (q : ℕ) (list : List ℕ) (l : Ledger) (F : Formula) (a b t1 t2 : Time) (middle next : ℕ) (r : Application) : Type 0 where
+  used : (A B : Formula) → implies-sides q F ≡ done (A, B)
+      → Gives state (book l list) (two-orders q a t1 t2 b) (book (r .ledger) list) tt
+      → On buffer (r .premise) A t1 t2 → On buffer (r .conclusion) B t1 t2 → r .middle ≡ middle → r .next ≡ next
+      → Used state buffer q list l F a b t1 t2 middle next r
+  unused : implies-sides q F ≡ misfit q → Gives state (book l list) (misfit q) (book (r .ledger) list) (tt {0}) → Used state buffer q list l F a b t1 t2 middle next r

@@ -1,0 +1,543 @@
+// What one step makes of a goal, or of what its parts inferred. Nothing here looks at other steps.
+use crate::rows::MOST_ROWS;
+use crate::rows::Whose;
+use crate::rows::row_at;
+use bl::FormulaTag;
+use formula::compare::same;
+use formula::parts::FormulaAt;
+use formula::parts::Judgement;
+use formula::parts::fact_at;
+use formula::parts::is_a;
+use formula::parts::past_formula;
+use formula::parts::place_at;
+use formula::terms::MOST_FORMULA_LEVELS;
+use formula::terms::Place;
+use formula::terms::Terms;
+use ledger::Ledger;
+use ledger::Stop;
+use ledger::ask_fact;
+use ledger::ask_order;
+use procap::bytes::past;
+use procap::fact::Term;
+use procap::time::Time;
+use steps::past_step;
+use steps::reader::index_at;
+use steps::time_at;
+ghost use mathlib.Core.Path.{_≡_};
+ghost use mathlib.Core.List.{List};
+ghost use mathlib.Core.Option.{some};
+ghost use Prim.Native.Nat.{ℕ};
+ghost use Rattle.bl.specs.Trees.{Sort, Formula};
+ghost use Rattle.bl.specs.Trees as tree;
+ghost use Rattle.bl.specs.Formulas.{argument};
+ghost use Rattle.bl.specs.Steps as steps;
+ghost use Rattle.bl.specs.Walk as walk;
+ghost use Rattle.ledger.specs.Books.{misfitted, Leads};
+ghost use Rattle.formula.specs.PutIn.{«terms-of», FewTerms, «fill-place»};
+ghost use Rattle.formula.specs.Meaning.{begin, Means, On};
+ghost use Rattle.judging.specs.Judging.{«view-in», sides, «and-sides», «top-goal», «order-goal», «first-side», «second-side», «put-in», Takes};
+ghost use Rattle.judging.specs.StepPromises.{UsesRow, UsesLocal, UsesCertificate, TakesSides, TakesAt, TakesSays, Continues, PutsToUse, MeetsGoal, MeetsFact, FitsGoal};
+ghost use Rattle.judging.specs.Pieces.{«two-times», «binder-of»};
+
+// In whose view a step stands.
+pub enum View {
+    NoView,
+    ViewOf(u64),
+}
+
+// Where a step stands: how many assumptions are around it, below which of them the plain ones are shut out, and its view.
+pub struct Scope {
+    pub count: usize,
+    pub shut: usize,
+    pub view: View,
+}
+
+// What a step infers, and where it ends. Where the ledger has stopped, the rest says nothing.
+pub struct Inferred {
+    pub ledger: Ledger,
+    pub judgement: Judgement,
+    pub next: usize,
+}
+
+// Two judgements that one is made of.
+pub struct Sides {
+    pub ledger: Ledger,
+    pub first: Judgement,
+    pub second: Judgement,
+}
+
+// A judgement inside of another, and who says it.
+pub struct Inside {
+    pub ledger: Ledger,
+    pub principal: u64,
+    pub judgement: Judgement,
+}
+
+// Two times that stand one after the other, and where they end. Where the ledger has stopped, the rest says nothing.
+struct Span {
+    pub ledger: Ledger,
+    pub from: Time,
+    pub to: Time,
+    pub next: usize,
+}
+
+// What a 26 has to check, what it then infers, and where its second step begins and it ends.
+pub struct Application {
+    pub ledger: Ledger,
+    pub premise: Judgement,
+    pub conclusion: Judgement,
+    pub middle: usize,
+    pub next: usize,
+}
+
+// A formula on an interval.
+fn on_interval(formula: FormulaAt, from: Time, to: Time) -> Judgement
+    ensures { λ r. ⌜ r ≡ record { formula = formula; from = from; to = to } ⌝ }
+{
+    Judgement {
+        formula: formula,
+        from: from,
+        to: to,
+    }
+}
+
+// The part of a judgement that begins at another place, on the same interval.
+fn part_at(judgement: Judgement, at: usize) -> Judgement
+    ensures { λ r. ⌜ r ≡ record { formula = begin (judgement .formula) at; from = judgement .from; to = judgement .to } ⌝ }
+{
+    let formula = judgement.formula;
+    let terms = formula.terms;
+    let part = FormulaAt {
+        at: at,
+        terms: terms,
+    };
+    let from = judgement.from;
+    let to = judgement.to;
+    on_interval(part, from, to)
+}
+
+// Nothing is inferred: the ledger has stopped, and the judgement says nothing.
+pub(crate) fn nothing(ledger: Ledger) -> Inferred
+    ensures { λ r. ⌜ r .ledger ≡ ledger ⌝ }
+{
+    let judgement = Judgement::front_on_ctime();
+    Inferred {
+        ledger: ledger,
+        judgement: judgement,
+        next: 0,
+    }
+}
+
+// The view must be this principal.
+fn in_view(ledger: Ledger, offset: usize, view: View, principal: u64) -> Ledger
+    ensures { λ r. ⌜ Leads ledger (walk.«need-view» offset («view-in» view) principal) r ⌝ }
+{
+    match view {
+        View::NoView => ledger.misfit(offset),
+        View::ViewOf(viewer) => {
+            if viewer == principal {
+                ledger
+            } else {
+                ledger.misfit(offset)
+            }
+        }
+    }
+}
+
+// A row, used as it stands: a plain assumption unless it is shut out, a claim in the view of its principal.
+fn row_used(
+    rows: &[u64],
+    index: usize,
+    scope: Scope,
+    offset: usize,
+    ledger: Ledger,
+    next: usize,
+) -> Inferred
+    ensures { λ r. ⌜ UsesRow (now (rows .entry)) index scope offset ledger next r ⌝ }
+{
+    if MOST_ROWS <= index {
+        return nothing(ledger.misfit(offset));
+    }
+    let row = row_at(rows, index);
+    let whose = row.whose;
+    let judgement = row.judgement;
+    let view = scope.view;
+    match whose {
+        Whose::Plain => {
+            if index < scope.shut {
+                return nothing(ledger.misfit(offset));
+            }
+            Inferred {
+                ledger: ledger,
+                judgement: judgement,
+                next: next,
+            }
+        }
+        Whose::Claim(principal) => Inferred {
+            ledger: in_view(ledger, offset, view, principal),
+            judgement: judgement,
+            next: next,
+        },
+    }
+}
+
+// 20: an assumption as it stands, counted from the latest.
+pub(crate) fn local(
+    proof: &[u8],
+    assumptions: &[u64],
+    scope: Scope,
+    offset: usize,
+    ledger: Ledger,
+) -> Inferred
+    ensures { λ r. ⌜ UsesLocal (now (proof .entry)) (now (assumptions .entry)) scope offset ledger r ⌝ }
+{
+    let back = index_at(proof, offset) as usize;
+    let count = scope.count;
+    if count <= back {
+        return nothing(ledger.misfit(offset));
+    }
+    let next = past(proof, past(proof, offset));
+    row_used(assumptions, count - back - 1, scope, offset, ledger, next)
+}
+
+// 21: a certificate; its row is a claim, and so needs the view of its principal.
+pub(crate) fn certificate(
+    proof: &[u8],
+    certificates: &[u64],
+    scope: Scope,
+    offset: usize,
+    ledger: Ledger,
+) -> Inferred
+    ensures { λ r. ⌜ UsesCertificate (now (proof .entry)) (now (certificates .entry)) scope offset ledger r ⌝ }
+{
+    let index = index_at(proof, offset) as usize;
+    let next = past(proof, past(proof, offset));
+    row_used(certificates, index, scope, offset, ledger, next)
+}
+
+// The two sides of a conjunction or of an implication, by the tag wanted, each on the same interval.
+pub(crate) fn sides_of(
+    bytes: &[u8],
+    offset: usize,
+    wanted: FormulaTag,
+    judgement: Judgement,
+    ledger: Ledger,
+) -> Sides
+    ensures { λ r. ⌜ TakesSides (now (bytes .entry)) offset wanted judgement ledger r ⌝ }
+{
+    let formula = judgement.formula;
+    if !is_a(bytes, formula.at, wanted) {
+        return Sides {
+            ledger: ledger.misfit(offset),
+            first: judgement,
+            second: judgement,
+        };
+    }
+    let at = past(bytes, formula.at);
+    let end = past_formula(bytes, at, MOST_FORMULA_LEVELS);
+    Sides {
+        ledger: ledger,
+        first: part_at(judgement, at),
+        second: part_at(judgement, end),
+    }
+}
+
+// Both sides of the conjunction that was inferred, where the walk goes on.
+fn conjuncts(buffer: &[u8], offset: usize, inferred: Inferred) -> Sides
+    ensures going { λ r. ⌜ ((F : Formula) → inferred .ledger .stop ≡ Stop.Going → Means (now (buffer .entry)) 0 (inferred .judgement .formula) F → Takes («and-sides» offset F) offset (inferred .ledger) (r .ledger) (λ x. On (now (buffer .entry)) (r .first) (x .0) (inferred .judgement .from) (inferred .judgement .to) × On (now (buffer .entry)) (r .second) (x .1) (inferred .judgement .from) (inferred .judgement .to))) ⌝ }
+    ensures stopped { λ r. ⌜ ((inferred .ledger .stop ≡ Stop.Going → ⊥) → r .ledger ≡ inferred .ledger) ⌝ }
+{
+    let ledger = inferred.ledger;
+    let judgement = inferred.judgement;
+    if !ledger.goes_on() {
+        return Sides {
+            ledger: ledger,
+            first: judgement,
+            second: judgement,
+        };
+    }
+    sides_of(buffer, offset, FormulaTag::AndTag, judgement, ledger)
+}
+
+// 23: the first side of the conjunction that was inferred.
+pub(crate) fn first(buffer: &[u8], offset: usize, inferred: Inferred) -> Inferred
+    ensures { λ r. ⌜ Continues (now (buffer .entry)) inferred («first-side» offset) r ⌝ }
+{
+    let parts = conjuncts(buffer, offset, inferred);
+    let after_parts = parts.ledger;
+    let side = parts.first;
+    Inferred {
+        ledger: after_parts,
+        judgement: side,
+        next: inferred.next,
+    }
+}
+
+// 24: the second side of the conjunction that was inferred.
+pub(crate) fn second(buffer: &[u8], offset: usize, inferred: Inferred) -> Inferred
+    ensures { λ r. ⌜ Continues (now (buffer .entry)) inferred («second-side» offset) r ⌝ }
+{
+    let parts = conjuncts(buffer, offset, inferred);
+    let after_parts = parts.ledger;
+    let side = parts.second;
+    Inferred {
+        ledger: after_parts,
+        judgement: side,
+        next: inferred.next,
+    }
+}
+
+// 26, before its second step: the implication that was inferred is put to use on the times that stand after that step.
+pub(crate) fn put_to_use(
+    buffer: &[u8],
+    proof: &[u8],
+    offset: usize,
+    inferred: Inferred,
+    left: u64,
+) -> Application
+    ensures { λ r. ⌜ PutsToUse (now (buffer .entry)) (now (proof .entry)) offset inferred left r ⌝ }
+{
+    let ledger = inferred.ledger;
+    let judgement = inferred.judgement;
+    let from = judgement.from;
+    let to = judgement.to;
+    let parts = sides_of(buffer, offset, FormulaTag::ImpliesTag, judgement, ledger);
+    let after_parts = parts.ledger;
+    let first = parts.first;
+    let second = parts.second;
+    let one = first.formula;
+    let other = second.formula;
+    let t1 = time_at(proof, past_step(proof, inferred.next, left));
+    let t2 = time_at(proof, t1.next);
+    let begin = t1.time;
+    let end = t2.time;
+    let asked = ask_order(after_parts, offset, from, begin);
+    Application {
+        ledger: ask_order(asked, offset, end, to),
+        premise: on_interval(one, begin, end),
+        conclusion: on_interval(other, begin, end),
+        middle: inferred.next,
+        next: t2.next,
+    }
+}
+
+// 27: the for-all that was inferred, with a term of its sort put in.
+pub(crate) fn instance(buffer: &[u8], offset: usize, inferred: Inferred, term: Term) -> Inferred
+    ensures { λ r. ⌜ Continues (now (buffer .entry)) inferred («put-in» offset term) r ⌝ }
+{
+    let ledger = inferred.ledger;
+    let judgement = inferred.judgement;
+    let formula = judgement.formula;
+    let terms = formula.terms;
+    let from = judgement.from;
+    let to = judgement.to;
+    if !ledger.goes_on() {
+        return inferred;
+    }
+    if !is_a(buffer, formula.at, binder_of(term)) {
+        return nothing(ledger.misfit(offset));
+    }
+    let more = terms.with(term);
+    let body = FormulaAt {
+        at: past(buffer, formula.at),
+        terms: more,
+    };
+    Inferred {
+        ledger: ledger,
+        judgement: on_interval(body, from, to),
+        next: inferred.next,
+    }
+}
+
+// The binder that a term may be put in for.
+fn binder_of(term: Term) -> FormulaTag
+    ensures { λ r. ⌜ r ≡ «binder-of» term ⌝ }
+{
+    match term {
+        Term::Name(_) => FormulaTag::AllNamesTag,
+        Term::When(_) => FormulaTag::AllTimesTag,
+    }
+}
+
+// 28 and 29: the formula of an "at", on its own interval.
+pub(crate) fn lifted(bytes: &[u8], offset: usize, judgement: Judgement, ledger: Ledger) -> Inside
+    ensures { λ r. ⌜ TakesAt (now (bytes .entry)) offset judgement ledger r ⌝ }
+{
+    let formula = judgement.formula;
+    let terms = formula.terms;
+    if !is_a(bytes, formula.at, FormulaTag::AtTag) {
+        return not_inside(judgement, ledger, offset);
+    }
+    let span = span_at(bytes, past(bytes, formula.at), terms, offset, ledger);
+    let after_span = span.ledger;
+    let from = span.from;
+    let to = span.to;
+    let body = FormulaAt {
+        at: span.next,
+        terms: terms,
+    };
+    Inside {
+        ledger: after_span,
+        principal: 0,
+        judgement: on_interval(body, from, to),
+    }
+}
+
+// Two times that stand one after the other.
+fn span_at(bytes: &[u8], at: usize, terms: Terms, offset: usize, ledger: Ledger) -> Span
+    ensures { λ r. ⌜ ((sorts : List Sort) (x y : tree.Place) (middle end : ℕ) → FewTerms terms → argument (now (bytes .entry)) sorts at ≡ some (x, middle) → argument (now (bytes .entry)) sorts middle ≡ some (y, end) → Takes («two-times» offset («fill-place» 0 («terms-of» terms) x) («fill-place» 0 («terms-of» terms) y)) offset ledger (r .ledger) (λ t. (r .from ≡ t .0) × (r .to ≡ t .1) × (r .next ≡ end))) ⌝ }
+{
+    let one = place_at(bytes, at, terms, 0);
+    let other = place_at(bytes, one.next, terms, 0);
+    let one_place = one.place;
+    let other_place = other.place;
+    let Place::Fixed(one_term) = one_place else {
+        return no_span(ledger, offset);
+    };
+    let Place::Fixed(other_term) = other_place else {
+        return no_span(ledger, offset);
+    };
+    let Term::When(from) = one_term else {
+        return no_span(ledger, offset);
+    };
+    let Term::When(to) = other_term else {
+        return no_span(ledger, offset);
+    };
+    Span {
+        ledger: ledger,
+        from: from,
+        to: to,
+        next: other.next,
+    }
+}
+
+// What stands there is not two times.
+fn no_span(ledger: Ledger, offset: usize) -> Span
+    ensures { λ r. ⌜ r .ledger ≡ misfitted ledger offset ⌝ }
+{
+    Span {
+        ledger: ledger.misfit(offset),
+        from: Time::Ctime,
+        to: Time::Ctime,
+        next: 0,
+    }
+}
+
+// 2A and 2B: who says, and the formula that is said, on the same interval.
+pub(crate) fn said(bytes: &[u8], offset: usize, judgement: Judgement, ledger: Ledger) -> Inside
+    ensures { λ r. ⌜ TakesSays (now (bytes .entry)) offset judgement ledger r ⌝ }
+{
+    let formula = judgement.formula;
+    let terms = formula.terms;
+    if !is_a(bytes, formula.at, FormulaTag::SaysTag) {
+        return not_inside(judgement, ledger, offset);
+    }
+    let read = place_at(bytes, past(bytes, formula.at), terms, 0);
+    let place = read.place;
+    let Place::Fixed(term) = place else {
+        return not_inside(judgement, ledger, offset);
+    };
+    let Term::Name(principal) = term else {
+        return not_inside(judgement, ledger, offset);
+    };
+    Inside {
+        ledger: ledger,
+        principal: principal as u64,
+        judgement: part_at(judgement, read.next),
+    }
+}
+
+// The judgement is not of the kind that the step needs.
+fn not_inside(judgement: Judgement, ledger: Ledger, offset: usize) -> Inside
+    ensures { λ r. ⌜ r .ledger ≡ misfitted ledger offset ⌝ }
+{
+    Inside {
+        ledger: ledger.misfit(offset),
+        principal: 0,
+        judgement: judgement,
+    }
+}
+
+// 25: the goal must be top.
+pub(crate) fn top(bytes: &[u8], offset: usize, goal: Judgement, ledger: Ledger) -> Ledger
+    ensures { λ r. ⌜ MeetsGoal (now (bytes .entry)) goal ledger («top-goal» offset) r ⌝ }
+{
+    let formula = goal.formula;
+    if is_a(bytes, formula.at, FormulaTag::TopTag) {
+        ledger
+    } else {
+        ledger.misfit(offset)
+    }
+}
+
+// 2C: the goal must be a state fact, and hold.
+pub(crate) fn state_fact(
+    bytes: &[u8],
+    state: &[u8],
+    facts: &mut [u64],
+    offset: usize,
+    goal: Judgement,
+    ledger: Ledger,
+) -> Ledger
+    ensures { λ r. ⌜ MeetsFact (now (bytes .entry)) (now (state .entry)) (now (facts .entry)) offset goal ledger r (now (facts .exit)) ⌝ }
+{
+    let formula = goal.formula;
+    if !is_a(bytes, formula.at, FormulaTag::FactTag) {
+        return ledger.misfit(offset);
+    }
+    let read = fact_at(bytes, formula);
+    if !read.found {
+        return ledger.misfit(offset);
+    }
+    let fact = read.fact;
+    ask_fact(state, facts, ledger, offset, fact)
+}
+
+// 2D: the goal must be an order, and hold.
+pub(crate) fn order(bytes: &[u8], offset: usize, goal: Judgement, ledger: Ledger) -> Ledger
+    ensures { λ r. ⌜ MeetsGoal (now (bytes .entry)) goal ledger («order-goal» offset) r ⌝ }
+{
+    let formula = goal.formula;
+    let terms = formula.terms;
+    if !is_a(bytes, formula.at, FormulaTag::OrderTag) {
+        return ledger.misfit(offset);
+    }
+    let span = span_at(bytes, past(bytes, formula.at), terms, offset, ledger);
+    let after_span = span.ledger;
+    let left = span.from;
+    let right = span.to;
+    ask_order(after_span, offset, left, right)
+}
+
+// An inferring step where one is checked: the same formula, on an interval around the goal's.
+pub(crate) fn within(
+    buffer: &[u8],
+    bytes: &[u8],
+    offset: usize,
+    inferred: Inferred,
+    goal: Judgement,
+) -> Ledger
+    ensures { λ r. ⌜ FitsGoal (now (buffer .entry)) (now (bytes .entry)) offset inferred goal r ⌝ }
+{
+    let ledger = inferred.ledger;
+    let judgement = inferred.judgement;
+    let formula = judgement.formula;
+    let a = judgement.from;
+    let b = judgement.to;
+    let goal_formula = goal.formula;
+    let c = goal.from;
+    let d = goal.to;
+    let compared = same(
+        buffer,
+        formula,
+        bytes,
+        goal_formula,
+        0,
+        offset,
+        ledger,
+        MOST_FORMULA_LEVELS,
+    );
+    let after_compared = compared.ledger;
+    let asked = ask_order(after_compared, offset, a, c);
+    ask_order(asked, offset, d, b)
+}

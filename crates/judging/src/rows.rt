@@ -1,0 +1,195 @@
+// Assumptions and certificates as rows of numbers that are lent through the walk.
+use formula::parts::FormulaAt;
+use formula::parts::Judgement;
+use formula::terms::TERMS_NUMBERS;
+use formula::terms::Terms;
+use ledger::number_in;
+use procap::fact::Term;
+use procap::time::Time;
+ghost use mathlib.Core.Path.{_≡_};
+ghost use mathlib.Core.List.{[], _∷_};
+ghost use Prim.Native.Nat.{ℕ, _+_, _≤_, _<_};
+ghost use lib.ListN.{length};
+ghost use lib.Seq.{sets};
+ghost use Rattle.formula.specs.PutIn.{«terms-numbers»};
+ghost use Rattle.judging.specs.RowsOf.{«row-in», «whose-in», «time-in», «numbers-in», «most-rows», «all-numbers»};
+ghost use Rattle.judging.specs.RowNumbers.{«whose-kind», «whose-value»};
+
+// How many rows there are at the most.
+pub const MOST_ROWS: usize = 32;
+// How many numbers a row takes.
+pub const ROW_NUMBERS: usize = 24;
+// How many numbers all rows take.
+pub const ALL_NUMBERS: usize = 768;
+
+// Whose an assumption is: a plain one, or a claim of this principal.
+pub enum Whose {
+    Plain,
+    Claim(u64),
+}
+
+impl Whose {
+    // Whether it is a claim, as a number.
+    fn kind(self) -> u64
+        ensures { λ r. ⌜ r ≡ «whose-kind» self ⌝ }
+    {
+        match self {
+            Whose::Plain => 0,
+            Whose::Claim(_) => 1,
+        }
+    }
+
+    // The principal that claims it, 0 where none does.
+    fn value(self) -> u64
+        ensures { λ r. ⌜ r ≡ «whose-value» self ⌝ }
+    {
+        match self {
+            Whose::Plain => 0,
+            Whose::Claim(principal) => principal,
+        }
+    }
+}
+
+// An assumption, or a certificate, which is a claim of its principal.
+pub struct Row {
+    pub whose: Whose,
+    pub judgement: Judgement,
+}
+
+// The time that two numbers of the rows stand for.
+fn time_in(rows: &[u64], at: usize) -> Time
+    requires { ⌜ at < 1000 ⌝ }
+    ensures { λ r. ⌜ r ≡ «time-in» (now (rows .entry)) at ⌝ }
+{
+    let term = Term::of_numbers(number_in(rows, at), number_in(rows, at + 1));
+    match term {
+        Term::Name(_) => Time::Ctime,
+        Term::When(time) => time,
+    }
+}
+
+// As many numbers of the rows as terms take.
+fn numbers_in(rows: &[u64], at: usize) -> [u64; TERMS_NUMBERS]
+    requires { ⌜ at < 1000 ⌝ }
+    ensures { λ r. ⌜ r ≡ «numbers-in» (now (rows .entry)) at «terms-numbers» ⌝ }
+{
+    let mut numbers = [0u64; TERMS_NUMBERS];
+    let mut i: usize = 0;
+    while i < TERMS_NUMBERS {
+        numbers[i] = number_in(rows, at + i);
+        i += 1;
+    }
+    numbers
+}
+
+// Whose a row is, from its first two numbers.
+fn whose_in(rows: &[u64], at: usize) -> Whose
+    requires { ⌜ at < 1000 ⌝ }
+    ensures { λ r. ⌜ r ≡ «whose-in» (now (rows .entry)) at ⌝ }
+{
+    if number_in(rows, at) == 0 {
+        Whose::Plain
+    } else {
+        Whose::Claim(number_in(rows, at + 1))
+    }
+}
+
+// The row at an index.
+pub(crate) fn row_at(rows: &[u64], index: usize) -> Row
+    requires { ⌜ index < «most-rows» ⌝ }
+    ensures { λ r. ⌜ r ≡ «row-in» (now (rows .entry)) index ⌝ }
+{
+    let start = index * ROW_NUMBERS;
+    let terms = Terms {
+        count: number_in(rows, start + 7) as usize,
+        numbers: numbers_in(rows, start + 8),
+    };
+    let formula = FormulaAt {
+        at: number_in(rows, start + 6) as usize,
+        terms: terms,
+    };
+    let judgement = Judgement {
+        formula: formula,
+        from: time_in(rows, start + 2),
+        to: time_in(rows, start + 4),
+    };
+    Row {
+        whose: whose_in(rows, start),
+        judgement: judgement,
+    }
+}
+
+// Puts two numbers.
+fn put_two(rows: &mut [u64], at: usize, first: u64, second: u64)
+    requires { ⌜ at + 1 < length (now rows) ⌝ }
+    ensures { λ _. ⌜ now (rows .exit) ≡ sets (now (rows .entry)) at (first ∷ second ∷ []) ⌝ }
+{
+    rows[at] = first;
+    rows[at + 1] = second;
+}
+
+// Puts the numbers of terms.
+fn put_numbers(rows: &mut [u64], at: usize, numbers: [u64; TERMS_NUMBERS])
+    requires { ⌜ at + «terms-numbers» ≤ length (now rows) ⌝ }
+    ensures { λ _. ⌜ now (rows .exit) ≡ sets (now (rows .entry)) at numbers ⌝ }
+{
+    let mut i: usize = 0;
+    while i < TERMS_NUMBERS {
+        rows[at + i] = numbers[i];
+        i += 1;
+    }
+}
+
+// Puts a row at an index; where the rows have none, nothing.
+pub fn put_row(rows: &mut [u64], index: usize, row: Row)
+    ensures there { λ _. ⌜ (length (now (rows .entry)) ≡ «all-numbers» → index < «most-rows» → length (row .judgement .formula .terms .numbers) ≡ «terms-numbers» → «row-in» (now (rows .exit)) index ≡ row) ⌝ }
+    ensures others { λ _. ⌜ ((i : ℕ) → (i ≡ index → ⊥) → «row-in» (now (rows .exit)) i ≡ «row-in» (now (rows .entry)) i) ⌝ }
+{
+    if rows.len() != ALL_NUMBERS {
+        return;
+    }
+    if index < MOST_ROWS {
+        set_row(rows, index, row);
+    }
+}
+
+// Puts a row at an index that the rows have.
+fn set_row(rows: &mut [u64], index: usize, row: Row)
+    requires room { ⌜ length (now rows) ≡ «all-numbers» ⌝ }
+    requires inside { ⌜ index < «most-rows» ⌝ }
+    ensures there { λ _. ⌜ (length (row .judgement .formula .terms .numbers) ≡ «terms-numbers» → «row-in» (now (rows .exit)) index ≡ row) ⌝ }
+    ensures others { λ _. ⌜ ((i : ℕ) → (i ≡ index → ⊥) → «row-in» (now (rows .exit)) i ≡ «row-in» (now (rows .entry)) i) ⌝ }
+{
+    let start = index * ROW_NUMBERS;
+    let whose = row.whose;
+    let judgement = row.judgement;
+    let from = judgement.from;
+    let to = judgement.to;
+    let formula = judgement.formula;
+    let terms = formula.terms;
+    let numbers = terms.numbers;
+    let first = Term::When(from);
+    let last = Term::When(to);
+    put_two(rows, start, whose.kind(), whose.value());
+    put_two(rows, start + 2, first.kind(), first.value());
+    put_two(rows, start + 4, last.kind(), last.value());
+    put_two(rows, start + 6, formula.at as u64, terms.count as u64);
+    put_numbers(rows, start + 8, numbers);
+}
+
+// A copy of the rows below an index, with this row put there.
+pub(crate) fn with_row(rows: &[u64], index: usize, row: Row) -> [u64; ALL_NUMBERS]
+    requires { ⌜ index < «most-rows» ⌝ }
+    ensures there { λ r. ⌜ (length (row .judgement .formula .terms .numbers) ≡ «terms-numbers» → «row-in» r index ≡ row) ⌝ }
+    ensures others { λ r. ⌜ ((i : ℕ) → i < index → «row-in» r i ≡ «row-in» (now (rows .entry)) i) ⌝ }
+{
+    let mut copy = [0u64; ALL_NUMBERS];
+    let end = index * ROW_NUMBERS;
+    let mut i: usize = 0;
+    while i < end {
+        copy[i] = number_in(rows, i);
+        i += 1;
+    }
+    set_row(&mut copy, index, row);
+    copy
+}

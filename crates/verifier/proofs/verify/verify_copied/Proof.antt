@@ -1,0 +1,41 @@
+-- What is malformed refuses with its answer; a case that reads is walked.
+use borrow.Author.Needs.{needs}
+use Rattle.verifier.proofs.Answers.{stopped-with, went-with, verify-stops, verify-goes-on}
+use Rattle.verifier.proofs.verify.verify_copied.Statement.{statement}
+use Rattle.verifier.proofs.verify.verify_copied.Tie as tie
+
+malformed-requires : tie.Need-malformed-requires
+malformed-requires c κs = search needs
+
+enum-known-answer : tie.Need-enum-known-answer
+enum-known-answer c = search needs
+
+refused-requires : tie.Need-refused-requires
+refused-requires c κs = search needs
+
+enum-told : tie.Need-enum-told
+enum-told c = search needs
+
+verify-case-requires : tie.Need-verify-case-requires
+verify-case-requires c κs = search needs
+
+returns : tie.Need-returns
+returns c =
+    verify-stops _ _ _ _ _ _ (stopped-with _ _ _ (c .before .before .answer .given .1) (c .before .before .before .before .malformed .ensures)) (c .refused .ensures)
+
+returns-2 : tie.Need-returns-2
+returns-2 c =
+    let case = went-with _ _ (c .before .enum-told .given .1) (c .before .before .before .malformed .ensures) in
+    verify-goes-on _ _ _ _ _ (case .0) (case .1) (c .verify-case .ensures)
+
+pub verify-copied-spec : {M : Type 1} → statement M
+verify-copied-spec =
+    tie.close
+    (tie.spec
+    malformed-requires
+    enum-known-answer
+    refused-requires
+    enum-told
+    verify-case-requires
+    returns
+    returns-2)
