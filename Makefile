@@ -1,10 +1,14 @@
 # The commands of the project. `make` builds the program bin/check; `make test` is the one test command.
-.PHONY: program run press test layout kit door test-check test-c test-stack
+.PHONY: program run press test layout kit door test-check test-c test-c-memory no-test-c-memory test-stack
 SHELL := /bin/bash
 .SHELLFLAGS := -euo pipefail -c
 
+# The kit compiles for x86-64. On another machine its emulator runs what comes out, and C beside it takes a compiler for x86-64.
+X86_64 := $(filter x86_64,$(shell uname -m))
+C_COMPILER := $(if $(X86_64),$(CC),x86_64-linux-gnu-gcc)
+C := $(C_COMPILER) -std=c11 -Wall -Wextra -Wpedantic -Werror -O2 $(if $(X86_64),,-static)
+C_MISSING := $(if $(shell command -v $(C_COMPILER)),,yes)
 DOOR := target/staticlib/libdoor.a
-C := $(CC) -std=c11 -Wall -Wextra -Wpedantic -Werror -O2
 
 # The program `check`: every crate below it is proved, and then it is compiled and put at bin/check.
 program: kit
@@ -12,6 +16,7 @@ program: kit
 	@[ -f target/bin/check_case ] || echo "proving and building bin/check: from nothing this takes about eight minutes" >&2
 	@rt check check_case 2>&1 | tee bin/check.log | { grep --line-buffered '^rt: .* proved ([0-9]' >&2 || true; } || { cat bin/check.log >&2; exit 1; }
 	@cp target/bin/check_case bin/check
+	@tests/run_here.sh bin/check
 
 # The main job on an example: the proof of case P is checked, and its procap is printed.
 run: program
@@ -24,6 +29,7 @@ press: bin/press
 
 bin/press: door examples/press.c include/procap.h
 	@$(C) -o bin/press examples/press.c $(DOOR)
+	@tests/run_here.sh bin/press
 
 # Everything that a landing must pass: the layout of the files, every proof, then the tests that run. The last line is the count that decides.
 test: kit layout
@@ -44,21 +50,35 @@ door: kit
 	@rt staticlib door > bin/door.log 2>&1 || { cat bin/door.log; exit 1; }
 
 # The program on every example and at the edges of its input and output, and what it prints shown at the door.
-test-check: program bin/press
-	@tests/check.sh bin/check bin/press
+test-check: program $(if $(C_MISSING),,bin/press)
+	@tests/check.sh bin/check $(if $(C_MISSING),,bin/press)
 
 # The door as the desk firmware calls it: presses, damaged inputs, memory and stack.
+ifdef C_MISSING
+test-c:
+	@echo "no $(C_COMPILER) on this machine: the door was not called from C here"
+else
 test-c: door
 	@$(C) -o bin/door_test tests/c/door_test.c tests/c/model.c $(DOOR)
+	@tests/run_here.sh bin/door_test
 	@bin/door_test
+	@$(MAKE) --no-print-directory $(if $(X86_64),test-c-memory,no-test-c-memory)
+	@$(C) -o bin/stack tests/c/stack.c $(DOOR)
+	@tests/run_here.sh bin/stack
+	@bin/stack
+endif
+
+# The same under the sanitizers and valgrind, which look at memory and run on x86-64 alone.
+test-c-memory:
 	@$(C) -g -fsanitize=address,undefined -o bin/door_test_sanitized tests/c/door_test.c tests/c/model.c $(DOOR)
 	@echo "with the address and undefined-behaviour sanitizers:"
 	@bin/door_test_sanitized 50000
 	@if command -v valgrind > /dev/null; then echo "under valgrind, for reads and writes outside of a buffer:"; \
 	valgrind -q --undef-value-errors=no --error-exitcode=9 bin/door_test 2000; \
 	else echo "no valgrind on this machine: the reads past a buffer's end that it would see were not looked for"; fi
-	@$(C) -o bin/stack tests/c/stack.c $(DOOR)
-	@bin/stack
+
+no-test-c-memory:
+	@echo "this machine is not x86-64: the sanitizers and valgrind were left out"
 
 # The program on the deepest proofs that the limits allow, with a stack of 2 MiB and less.
 test-stack: program

@@ -1,8 +1,8 @@
 #!/bin/bash
 # The program `check`, run: every example, the edges of its input and of its output, and what it prints shown at the door.
-# usage: check.sh CHECK PRESS, from the top of the repository
+# usage: check.sh CHECK [PRESS], from the top of the repository; without PRESS nothing is shown at the door
 set -euo pipefail
-check=$1 press=$2
+check=$1 press=${2:-}
 room=$(mktemp -d)
 trap 'rm -rf "$room"' EXIT
 passed=0
@@ -101,6 +101,10 @@ presses() { # CASE MOMENT STATE EXPECTED
     expect "$1 shown at the door at $2" "$room/said" "$room/expected"
 }
 
+if [ -z "$press" ]; then
+    echo "check: $passed runs came out as expected; nothing was shown at the door, which takes a C compiler for x86-64"
+    exit
+fi
 presses p 1000 examples/loaded.state 'open\n'
 presses p 2001 examples/loaded.state 'refused=9\nplace=0\n'
 presses p 1500 /dev/null 'refused=10\nplace=0\n'

@@ -6,9 +6,15 @@ set -euo pipefail
 check=$1 limit=$2
 shift 2
 
+# Runs the program with so much stack: on x86-64 the system keeps to it, elsewhere the emulator that the program runs under.
+with_stack() { # KIB
+    if [ "$(uname -m)" = x86_64 ]; then ulimit -s "$1"; else export QEMU_STACK_SIZE=$(($1 * 1024)); fi
+    "$check"
+}
+
 # Whether a case comes out with so much stack.
 comes_out_with() { # NAME KIB
-    (ulimit -s "$2" && "$check" < "$1.case") 2> /dev/null | cmp -s - "$1.procap"
+    (with_stack "$2" < "$1.case") 2> /dev/null | cmp -s - "$1.procap"
 }
 
 for name; do
