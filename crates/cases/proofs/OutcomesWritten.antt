@@ -9,38 +9,30 @@ use Rattle.procap.specs.Answers.{number-of}
 use Rattle.procap.specs.Outcome.{Outcome, granted, refused, answer-of, procap-handed}
 use Rattle.procap.specs.declared.procap.Procap.{Procap}
 use Rattle.text.specs.Text.{refusal-text}
-use Rattle.text.specs.Calls.{fitting, writing, length-given, buffer-left}
+use Rattle.text.specs.Calls.{fitting, writing, Wrote}
 use Rattle.text.specs.declared.writer.WrittenText.{WrittenText}
 use Rattle.text.proofs.Written.{can-be-written}
 use Rattle.verifier.specs.Verifying.{HandsOver}
 use Rattle.verifier.specs.declared.verify.Verified.{Verified}
 use Rattle.cases.specs.Calls.{printed-of}
-use Rattle.cases.specs.Printing.{Printable, Writes}
-
--- What a writer answers, how much it says to have written, and what it leaves in the buffer.
-abbrev Written : Outcome (List ℕ) → List ℕ → WrittenText → List ℕ → Type 0
-Written o before r after = (r .answer ≡ answer-of o) × ((r .length ≡ length-given o) × (after ≡ buffer-left o before))
-
--- A text that was written is written.
-writes : (text before : List ℕ) (r : WrittenText) (after : List ℕ) → Written (fitting text (length before)) before r after → Writes text before r after
-writes text before r after w = record { answer = w .0; length-written = w .1 .0; buffer = w .1 .1 }
+use Rattle.cases.specs.Printing.{Printable}
 
 module _ (v : Verified) (before : List ℕ) (r : WrittenText) (after : List ℕ) where
   -- With the number 0 a procap is handed over, and its text is what is to be printed.
-  pub text-is-printed : number-of (v .answer) ≡ 0 → Written (writing (v .procap) (length before)) before r after
-      → (o : Outcome Procap) → HandsOver o v → Printable o → Writes (printed-of o) before r after
+  pub text-is-printed : number-of (v .answer) ≡ 0 → Wrote (writing (v .procap) (length before)) before r after
+      → (o : Outcome Procap) → HandsOver o v → Printable o → Wrote (fitting (printed-of o) (length before)) before r after
   unfolding answer-of procap-handed printed-of
   text-is-printed zero written (granted p) hands writable =
       let same : writing (v .procap) (length before) ≡ fitting (printed-of (granted p)) (length before) =
       ap (λ q. writing q (length before)) (hands .procap) ∙ can-be-written p (length before) writable in
-      writes _ before r after (rw same at written)
+      rw same at written
   text-is-printed zero written (refused answer) hands refuses =
       let same : number-of (v .answer) ≡ number-of answer = ap number-of (hands .answer) in
       absurd (omega (arith, refuses))
 
   -- With another number it is a refusal, and its two lines are what is to be printed.
-  pub refusal-is-printed : (number-of (v .answer) ≡ 0 → ⊥) → Written (fitting (refusal-text (v .answer)) (length before)) before r after
-      → (o : Outcome Procap) → HandsOver o v → Printable o → Writes (printed-of o) before r after
+  pub refusal-is-printed : (number-of (v .answer) ≡ 0 → ⊥) → Wrote (fitting (refusal-text (v .answer)) (length before)) before r after
+      → (o : Outcome Procap) → HandsOver o v → Printable o → Wrote (fitting (printed-of o) (length before)) before r after
   unfolding answer-of printed-of
   refusal-is-printed other written (granted p) hands writable = absurd (other (ap number-of (hands .answer)))
-  refusal-is-printed other written (refused answer) hands refuses = writes _ before r after (rw (hands .answer) at written)
+  refusal-is-printed other written (refused answer) hands refuses = rw (hands .answer) at written

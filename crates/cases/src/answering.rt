@@ -11,18 +11,17 @@ use text::writer::write_text;
 use verifier::certificates::MOST_CERTIFICATES;
 use verifier::verify::Verified;
 use verifier::verify::verify;
-ghost use mathlib.Core.Path.{_≡_};
 ghost use Prim.Native.Nat.{_-_, _≤_};
 ghost use lib.ListN.{length, take, drop};
-ghost use Rattle.procap.specs.Outcome.{Outcome, «answer-of»};
+ghost use Rattle.procap.specs.Outcome.{Outcome};
 ghost use Rattle.procap.specs.declared.procap.Procap.{Procap};
 ghost use Rattle.bl.specs.Certificates.{«most-certificates»};
 ghost use Rattle.bl.specs.Calls.{verified};
-ghost use Rattle.text.specs.Calls.{«length-given», «buffer-left»};
+ghost use Rattle.text.specs.Calls.{fitting, Wrote};
 ghost use Rattle.verifier.specs.Verifying.{HandsOver};
 ghost use Rattle.cases.specs.Calls.{«printed-of», answering};
 ghost use Rattle.cases.specs.Found.{«kept-records»};
-ghost use Rattle.cases.specs.Printing.{Printable, Writes};
+ghost use Rattle.cases.specs.Printing.{Printable};
 
 // How many bytes a case may have.
 pub const MOST_INPUT: usize = 65_536;
@@ -31,9 +30,7 @@ const MOST_BYTES: usize = 32_768;
 
 // Puts what is printed for a case at the front of the buffer, the procap's text or the refusal's two lines: 13 for a buffer that is shorter.
 pub fn answer_case(input: &[u8], out: &mut [u8]) -> WrittenText
-    ensures answer { λ r. ⌜ r .answer ≡ «answer-of» (answering (now (input .entry)) (length (now (out .entry)))) ⌝ }
-    ensures length { λ r. ⌜ r .length ≡ «length-given» (answering (now (input .entry)) (length (now (out .entry)))) ⌝ }
-    ensures buffer { λ _. ⌜ now (out .exit) ≡ «buffer-left» (answering (now (input .entry)) (length (now (out .entry)))) (now (out .entry)) ⌝ }
+    ensures { λ r. ⌜ Wrote (answering (now (input .entry)) (length (now (out .entry)))) (now (out .entry)) r (now (out .exit)) ⌝ }
 {
     if MOST_INPUT < input.len() {
         return write_refusal(Answer::InputMalformed(0), out);
@@ -86,7 +83,7 @@ fn verify_lent(
 
 // Puts what is printed for what verify answers at the front of the buffer.
 fn write_verified(verified: Verified, out: &mut [u8]) -> WrittenText
-    ensures { λ r. ⌜ ((o : Outcome Procap) → HandsOver o verified → Printable o → Writes («printed-of» o) (now (out .entry)) r (now (out .exit))) ⌝ }
+    ensures { λ r. ⌜ ((o : Outcome Procap) → HandsOver o verified → Printable o → Wrote (fitting («printed-of» o) (length (now (out .entry)))) (now (out .entry)) r (now (out .exit))) ⌝ }
 {
     let answer = verified.answer;
     let procap = verified.procap;

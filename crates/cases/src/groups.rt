@@ -8,11 +8,11 @@ use procap::bytes::NumberRead;
 use procap::time::Time;
 use procap::writable::LARGEST_NAME;
 use verifier::certificates::MOST_CERTIFICATES;
-use verifier::certificates::no_record;
 ghost use mathlib.Core.Path.{_≡_};
 ghost use Prim.Native.Nat.{_*_, _≤_};
 ghost use lib.ListN.{length};
 ghost use Rattle.bl.specs.Certificates.{«most-certificates»};
+ghost use Rattle.verifier.specs.Verifying.{«no-record»};
 ghost use Rattle.cases.specs.Case.{«first-group-line», heading, group, groups};
 ghost use Rattle.cases.specs.Found.{HeadingReads, GroupReads, GroupsReads};
 
@@ -194,5 +194,18 @@ pub(crate) fn no_certificates() -> Records
     Records {
         count: 0,
         records: [none; MOST_CERTIFICATES],
+    }
+}
+
+// A record of zeros.
+fn no_record() -> Certificate
+    ensures { λ r. ⌜ r ≡ «no-record» ⌝ }
+{
+    Certificate {
+        principal: 0,
+        from: Time::Moment(0),
+        to: Time::Moment(0),
+        start: 0,
+        length: 0,
     }
 }

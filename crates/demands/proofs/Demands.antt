@@ -24,6 +24,7 @@ use Rattle.bl.specs.Calls.{directly}
 use Rattle.bl.specs.Accepting.{AreBytes, Derivable}
 use Rattle.bl.proofs.Theorems.{direct-accepts-exactly-derivations, issued-exactly-where-some-press-is-accepted, issued-can-be-written}
 use Rattle.text.specs.Buffers.{most-text}
+use Rattle.text.specs.Calls.{Wrote}
 use Rattle.text.specs.declared.reader.ReadText.{ReadText}
 use Rattle.text.specs.declared.writer.WrittenText.{WrittenText}
 use Rattle.text.proofs.Theorems.{written-is-read, read-is-written}
@@ -32,7 +33,7 @@ use Rattle.verifier.specs.declared.verify.Verified.{Verified}
 use Rattle.cases.specs.Case.{Case, case-in, buffer-of, records-from}
 use Rattle.cases.specs.Calls.{printed}
 use Rattle.cases.proofs.AlwaysPrinted.{always-printed}
-use Rattle.demands.specs.Gives.{VerifyGives, DirectGives, OpenGives, DoorGives, ReadGives, Wrote, WriteGives, PrintGives, AnsweredSomewhere}
+use Rattle.demands.specs.Gives.{VerifyGives, DirectGives, OpenGives, DoorGives, ReadGives, WriteGives, PrintGives, AnsweredSomewhere}
 use Rattle.demands.proofs.Telling.{answer-granted, in-front, handed-of-grant, handed-of-refusal, left-of-refusal, accepts-exactly, issues-exactly, somewhere-exactly, reads-exactly, writes-exactly, opens-exactly, lets-in-exactly}
 use Rattle.demands.proofs.Opening.{issued-opens-the-door-exactly-where-direct-accepts, issued-is-written, its-text-opens-the-door-exactly-where-direct-accepts}
 use Rattle.demands.proofs.Printed.{printed-opens-exactly}

@@ -28,7 +28,7 @@ use Rattle.bl.specs.Accepting.{AcceptedSomewhere}
 use Rattle.bl.proofs.CallRefusals.{case-refused, run-refused}
 use Rattle.text.specs.Text.{text-of}
 use Rattle.text.specs.Reader.{text-in}
-use Rattle.text.specs.Calls.{reading, fitting, writing, length-given, buffer-left}
+use Rattle.text.specs.Calls.{reading, fitting, writing, length-given, buffer-left, Wrote}
 use Rattle.text.specs.declared.reader.ReadText.{ReadText}
 use Rattle.text.specs.declared.writer.WrittenText.{WrittenText}
 use Rattle.text.proofs.Written.{is-written}
@@ -37,7 +37,7 @@ use Rattle.door.specs.Door.{opening, opening-text, packed}
 use Rattle.door.proofs.Answering.{zero-exactly-when-open}
 use Rattle.verifier.specs.declared.verify.Verified.{Verified}
 use Rattle.cases.proofs.Refusals.{Refuses, verified-refuses}
-use Rattle.demands.specs.Gives.{VerifyGives, DirectGives, OpenGives, DoorGives, ReadGives, Wrote, WriteGives, AnsweredSomewhere}
+use Rattle.demands.specs.Gives.{VerifyGives, DirectGives, OpenGives, DoorGives, ReadGives, WriteGives, AnsweredSomewhere}
 
 -- ── Outcomes ──
 

@@ -6,7 +6,7 @@ use mathlib.Core.Option.{some}
 use lib.ListN.{length}
 use Rattle.procap.specs.Times.{latest}
 use Rattle.procap.specs.Facts.{Spelled}
-use Rattle.procap.specs.Outcome.{Outcome, answer-of, procap-handed}
+use Rattle.procap.specs.Outcome.{answer-of, procap-handed}
 use Rattle.procap.specs.States.{stated}
 use Rattle.procap.specs.declared.answer.Answer.{Answer}
 use Rattle.procap.specs.declared.answer.Answer.the-variants.{Granted}
@@ -16,7 +16,7 @@ use Rattle.bl.specs.declared.Certificate.{Certificate}
 use Rattle.bl.specs.Calls.{verified, directly}
 use Rattle.bl.specs.Accepting.{AreBytes}
 use Rattle.text.specs.Text.{refusal-text}
-use Rattle.text.specs.Calls.{reading, fitting, writing, length-given, buffer-left}
+use Rattle.text.specs.Calls.{reading, fitting, writing, Wrote}
 use Rattle.text.specs.declared.reader.ReadText.{ReadText}
 use Rattle.text.specs.declared.writer.WrittenText.{WrittenText}
 use Rattle.door.specs.Door.{opening, opening-text, packed}
@@ -44,12 +44,6 @@ DoorGives text r m state number = number ≡ packed (answer-of (opening-text tex
 pub record ReadGives (text : List ℕ) (v : ReadText) : Type 0 where
   pub answer : v .answer ≡ answer-of (reading text)
   pub procap : v .procap ≡ procap-handed (reading text)
-
--- A call that writes gives the answer and the length of what it came to, and leaves the lent buffer `before` as `after`.
-pub record Wrote (o : Outcome (List ℕ)) (before : List ℕ) (w : WrittenText) (after : List ℕ) : Type 0 where
-  pub answer : w .answer ≡ answer-of o
-  pub length-told : w .length ≡ length-given o
-  pub buffer : after ≡ buffer-left o before
 
 -- `write_text` writes a procap's text.
 abbrev pub WriteGives : Procap → List ℕ → WrittenText → List ℕ → Type 0

@@ -1,16 +1,18 @@
 -- What the reader and the writer of the text answer, and what the writer leaves in the buffer.
 use Prim.Native.Nat.{ℕ}
+use mathlib.Core.Path.{_≡_}
 use mathlib.Core.List.{List, _++_}
 use mathlib.Core.Option.{Option}
 use native.Mathlib.Decide.{decLe}
 use lib.ListN.{length, drop}
-use Rattle.procap.specs.Outcome.{Outcome, granted, refused, go-on, or-else, require}
+use Rattle.procap.specs.Outcome.{Outcome, granted, refused, go-on, or-else, require, answer-of}
 use Rattle.procap.specs.Bytes.{to-the-end}
 use Rattle.procap.specs.Deciding.{writable?}
 use Rattle.procap.specs.declared.answer.Answer.the-variants.{ProcapMalformed, BufferShort}
 use Rattle.procap.specs.declared.procap.Procap.{Procap}
 use Rattle.text.specs.Text.{text-of}
 use Rattle.text.specs.Reader.{text-in}
+use Rattle.text.specs.declared.writer.WrittenText.{WrittenText}
 
 -- [Numbers 12] The procap that was read, if it ends where the bytes do.
 abbrev pub read-to-the-end : List ℕ → Option (Procap × ℕ) → Outcome Procap
@@ -37,3 +39,9 @@ length-given (refused answer) = 0
 unfoldable pub buffer-left : Outcome (List ℕ) → List ℕ → List ℕ
 buffer-left (granted text) buffer = text ++ drop (length text) buffer
 buffer-left (refused answer) buffer = buffer
+
+-- A call that writes gives the answer and the length of what it came to, and leaves the lent buffer `before` as `after`.
+pub record Wrote (o : Outcome (List ℕ)) (before : List ℕ) (w : WrittenText) (after : List ℕ) : Type 0 where
+  pub answer : w .answer ≡ answer-of o
+  pub length-told : w .length ≡ length-given o
+  pub buffer : after ≡ buffer-left o before

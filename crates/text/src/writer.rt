@@ -8,9 +8,8 @@ ghost use mathlib.Core.Path.{_≡_};
 ghost use mathlib.Core.List.{_++_};
 ghost use Prim.Native.Nat.{_≤_};
 ghost use lib.ListN.{length, take, drop};
-ghost use Rattle.procap.specs.Outcome.{«answer-of»};
 ghost use Rattle.text.specs.Text.{«refusal-text»};
-ghost use Rattle.text.specs.Calls.{fitting, writing, «length-given», «buffer-left»};
+ghost use Rattle.text.specs.Calls.{fitting, writing, Wrote};
 
 // How long a text is at the most.
 pub const MOST_TEXT: usize = 1_223;
@@ -25,9 +24,7 @@ pub struct WrittenText {
 
 // Writes the procap's text at the front of the buffer: 12 for a value that cannot be written, then 13 for a buffer that is shorter than the text.
 pub fn write_text(procap: Procap, out: &mut [u8]) -> WrittenText
-    ensures answer { λ r. ⌜ r .answer ≡ «answer-of» (writing procap (length (now (out .entry)))) ⌝ }
-    ensures length { λ r. ⌜ r .length ≡ «length-given» (writing procap (length (now (out .entry)))) ⌝ }
-    ensures buffer { λ _. ⌜ now (out .exit) ≡ «buffer-left» (writing procap (length (now (out .entry)))) (now (out .entry)) ⌝ }
+    ensures { λ r. ⌜ Wrote (writing procap (length (now (out .entry)))) (now (out .entry)) r (now (out .exit)) ⌝ }
 {
     if !can_be_written(procap) {
         return refused(Answer::ProcapMalformed);
@@ -39,9 +36,7 @@ pub fn write_text(procap: Procap, out: &mut [u8]) -> WrittenText
 
 // Writes the two lines of a refusal at the front of the buffer: 13 for a buffer that is shorter than they are.
 pub fn write_refusal(answer: Answer, out: &mut [u8]) -> WrittenText
-    ensures answer { λ r. ⌜ r .answer ≡ «answer-of» (fitting («refusal-text» answer) (length (now (out .entry)))) ⌝ }
-    ensures length { λ r. ⌜ r .length ≡ «length-given» (fitting («refusal-text» answer) (length (now (out .entry)))) ⌝ }
-    ensures buffer { λ _. ⌜ now (out .exit) ≡ «buffer-left» (fitting («refusal-text» answer) (length (now (out .entry)))) (now (out .entry)) ⌝ }
+    ensures { λ r. ⌜ Wrote (fitting («refusal-text» answer) (length (now (out .entry)))) (now (out .entry)) r (now (out .exit)) ⌝ }
 {
     let mut text = [0u8; MOST_REFUSAL];
     let length = spell_refusal(&mut text, answer);
@@ -51,9 +46,7 @@ pub fn write_refusal(answer: Answer, out: &mut [u8]) -> WrittenText
 // Copies the first so many bytes of a text to the front of the buffer: 13 where they do not fit.
 fn hand_over(out: &mut [u8], text: &[u8], count: usize) -> WrittenText
     requires { ⌜ count ≤ length (now text) ⌝ }
-    ensures answer { λ r. ⌜ r .answer ≡ «answer-of» (fitting (take count (now (text .entry))) (length (now (out .entry)))) ⌝ }
-    ensures length { λ r. ⌜ r .length ≡ «length-given» (fitting (take count (now (text .entry))) (length (now (out .entry)))) ⌝ }
-    ensures buffer { λ _. ⌜ now (out .exit) ≡ «buffer-left» (fitting (take count (now (text .entry))) (length (now (out .entry)))) (now (out .entry)) ⌝ }
+    ensures { λ r. ⌜ Wrote (fitting (take count (now (text .entry))) (length (now (out .entry)))) (now (out .entry)) r (now (out .exit)) ⌝ }
 {
     if out.len() < count {
         return refused(Answer::BufferShort);

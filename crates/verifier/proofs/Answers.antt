@@ -27,7 +27,6 @@ use Rattle.bl.specs.Walk.{walk}
 use Rattle.bl.specs.Readings.{start, office, press, run}
 use Rattle.bl.specs.Calls.{read-case, issue, verified, directly}
 use Rattle.bl.proofs.Called.{case-read}
-use Rattle.verifier.specs.declared.certificates.Certificates.{Certificates}
 use Rattle.ledger.specs.declared.Reading.{Reading}
 use Rattle.ledger.specs.declared.Reading.the-variants.{Office, Press}
 use Rattle.ledger.specs.declared.Stop.{Stop}
@@ -36,7 +35,7 @@ use Rattle.ledger.specs.declared.Ledger.{Ledger}
 use Rattle.verifier.specs.declared.verify.Verified.{Verified}
 use Rattle.ledger.specs.Books.{Book, book, list-numbers, Sound, facts-in, kept-of, facts-said, reading-of, resume}
 use Rattle.ledger.proofs.Giving.{stop-refused, stop-going}
-use Rattle.verifier.specs.Verifying.{records-of, RowsAre, Walked, Stops, CaseReads, verified-case, checked-case, HandsOver}
+use Rattle.verifier.specs.Verifying.{Taken, Walked, Stops, CaseReads, verified-case, checked-case, HandsOver}
 use Rattle.verifier.proofs.CertificateLaws.{statements-count}
 
 -- ── Outcomes that are handed over ──
@@ -104,10 +103,12 @@ module _ (records : List Certificate) (buffer proof : List ℕ) where
 
 -- ── The calls ──
 
-module _ (r : Request) (records : List Certificate) (buffer proof : List ℕ) where
-  -- A case that reads, in the words of the calls.
-  reads-so : (x : List Statement × Check) → read-case records buffer proof ≡ granted x → CaseReads records buffer proof (x .0) (x .1)
-  reads-so x e = case-read r records buffer proof (x .0) (x .1) e (λ e₁ e₂. record { certificates-read = e₁; proof-reads = e₂ })
+module _ (r : Request) (records : List Certificate) (buffer proof : List ℕ) {stop : Stop} {rows : List ℕ} (taken : Taken records buffer stop rows) where
+  -- A case that reads, once its records are taken.
+  reads-so : (x : List Statement × Check) → read-case records buffer proof ≡ granted x → CaseReads rows buffer proof (x .0) (x .1)
+  reads-so x e =
+      case-read r records buffer proof (x .0) (x .1) e
+      (λ e₁ e₂. record { certified = taken .rows-are (x .0) e₁; proof-reads = rw (statements-count buffer records (x .0) e₁) e₂ })
 
   module _ (v : Verified) where
     abbrev Answered : Type 0
@@ -118,7 +119,7 @@ module _ (r : Request) (records : List Certificate) (buffer proof : List ℕ) wh
     verify-stops answer e f = hands-refusal _ answer v (refused-on _ _ answer e) f
 
     pub verify-goes-on : (x : List Statement × Check) → read-case records buffer proof ≡ granted x
-        → ((cs : List Statement) (N : Check) → CaseReads records buffer proof cs N → HandsOver (verified-case r cs N) v) → Answered
+        → ((cs : List Statement) (N : Check) → CaseReads rows buffer proof cs N → HandsOver (verified-case r cs N) v) → Answered
     unfolding verified verified-case
     verify-goes-on x e k = rw (goes-on (read-case records buffer proof) (λ y. verified-case r (y .0) (y .1)) x e) (k (x .0) (x .1) (reads-so x e))
 
@@ -128,7 +129,7 @@ module _ (r : Request) (records : List Certificate) (buffer proof : List ℕ) wh
     direct-stops e = sym (ap answer-of (refused-on (read-case records buffer proof) (λ y. checked-case r (y .0) (y .1) m state) a e))
 
     pub direct-goes-on : (x : List Statement × Check) → read-case records buffer proof ≡ granted x
-        → ((cs : List Statement) (N : Check) → CaseReads records buffer proof cs N → a ≡ answer-of (checked-case r cs N m state))
+        → ((cs : List Statement) (N : Check) → CaseReads rows buffer proof cs N → a ≡ answer-of (checked-case r cs N m state))
         → a ≡ answer-of (directly r records buffer proof m state)
     unfolding directly checked-case
     direct-goes-on x e k = k (x .0) (x .1) (reads-so x e) ∙ sym (ap answer-of (goes-on (read-case records buffer proof) (λ y. checked-case r (y .0) (y .1) m state) x e))
@@ -144,11 +145,11 @@ resume-going : (state : List ℕ) (b : Book) → b .ledger .stop ≡ Going → r
 unfolding resume run
 resume-going state b e = stop-going _ _ e
 
-module _ (r : Request) (records : Certificates) (buffer proof state rows : List ℕ) (reading : Reading) (list : List ℕ) (l : Ledger) (list′ : List ℕ)
-    (room : length list ≡ list-numbers) (rows-are : RowsAre records rows) (walked : Walked r buffer proof state rows reading list l list′)
-    (cs : List Statement) (N : Check) (reads : CaseReads (records-of records) buffer proof cs N) where
+module _ (r : Request) (buffer proof state rows : List ℕ) (reading : Reading) (list : List ℕ) (l : Ledger) (list′ : List ℕ)
+    (room : length list ≡ list-numbers) (walked : Walked r buffer proof state rows reading list l list′)
+    (cs : List Statement) (N : Check) (reads : CaseReads rows buffer proof cs N) where
   came : Sound (book l list′) × (resume state (book l list′) (done (tt {0})) ≡ run (reading-of state reading) (walk r cs N) start)
-  came = walked cs N room (rows-are buffer cs (reads .certificates-read)) (rw (statements-count buffer (records-of records) cs (reads .certificates-read)) (reads .proof-reads))
+  came = walked cs N room (reads .certified) (reads .proof-reads)
 
   walk-stopped : (answer : Answer) → l .stop ≡ Stopped answer → run (reading-of state reading) (walk r cs N) start ≡ refused answer
   walk-stopped answer e = sym (came .1) ∙ resume-stopped state (book l list′) answer e

@@ -6,14 +6,15 @@ use mathlib.Core.List.{List, [], _∷_}
 use mathlib.Core.Option.{Option, some, none, Option·none-ne-some}
 use native.Mathlib.Nat.{add-zero, zero-add, add-suc, suc-add}
 use native.Mathlib.Omega.{arith}
+use native.Mathlib.Decide.{decLe}
 use borrow.Author.Tests.{leb-true, le-leb, lt-leb, not-true, not-false}
 use borrow.Author.Count.{below-more}
-use lib.ListN.{length, getD, take, drop, length-take, length-append, length-replicate, List·getD-append}
-use lib.Seq.{getD-take}
+use lib.ListN.{length, getD, take, drop}
 use lib.Dec.{leb}
-use Rattle.procap.specs.Lists.{nth, pad}
+use Rattle.procap.specs.Lists.{nth}
 use Rattle.procap.specs.Tells.{Tells}
 use Rattle.procap.specs.Outcome.{Outcome, granted, refused, go-on}
+use Rattle.procap.specs.declared.answer.Answer.{Answer}
 use Rattle.procap.specs.declared.answer.Answer.the-variants.{CertificateMalformed}
 use Rattle.procap.proofs.Telling.{tells-by, picked}
 use Rattle.procap.proofs.Granted.{same-grant, no-grant, went-on}
@@ -21,11 +22,11 @@ use Rattle.bl.specs.declared.Certificate.{Certificate}
 use Rattle.bl.specs.Trees.{Formula}
 use Rattle.bl.specs.Formulas.{most-formula-levels, formula-in}
 use Rattle.bl.specs.Certificates.{Statement, most-certificates, most-part-bytes, fixed-time, part-of, formula-of, statement-by, statement-of, and-then, statements-from, statements}
-use Rattle.verifier.specs.declared.certificates.Certificates.{Certificates}
-use Rattle.judging.specs.declared.rows.Row.{Row}
+use Rattle.ledger.specs.declared.Stop.{Stop}
+use Rattle.ledger.specs.declared.Stop.the-variants.{Going, Stopped}
 use Rattle.formula.specs.PutIn.{terms-numbers, terms-of, stack}
-use Rattle.judging.specs.RowsOf.{row-in, most-rows, all-numbers, Certifies}
-use Rattle.verifier.specs.Verifying.{no-record, records-of, row-of, WellFormedRecord, RowsAre}
+use Rattle.judging.specs.RowsOf.{row-in, Certifies, Certified}
+use Rattle.verifier.specs.Verifying.{no-record, row-of, WellFormedRecord, TakenTo, SoFar, Taken}
 use Rattle.formula.proofs.Filling.{fill-nothing}
 use Rattle.formula.proofs.Shifted.{formula-in-shifted}
 
@@ -160,54 +161,29 @@ module _ (buffer : List ℕ) where
         stated = λ k. elim k [ zero ↦ λ t h. (omega arith, e₁ ∙ h) | suc k ↦ λ t h. (let r = rest .stated k t h in (omega arith, r .1)) ];
       })
 
--- ── The records handed over ──
+-- ── The records that are lent ──
 
--- There are as many as the count says.
-pub records-count : (cs : Certificates) → length (records-of cs) ≡ cs .count
-unfolding records-of pad
-records-count cs = simp (length-take, length-append, length-replicate) (omega arith)
-
--- Below the count and inside of the array stand the records of the array.
-record-at : (cs : Certificates) (k : ℕ) → k < cs .count → k < length (cs .records)
-    → getD (records-of cs) k no-record ≡ getD (cs .records) k no-record
-unfolding records-of pad
-record-at cs k l m = getD-take (cs .count) _ k no-record l ∙ List·getD-append (cs .records) _ no-record k m
-
--- Too many are refused.
-pub many-refused : (buffer : List ℕ) (records : List Certificate) → most-certificates < length records
-    → statements buffer records ≡ refused (CertificateMalformed 0)
-unfolding statements
-many-refused buffer records many = rw (lt-leb (length records) most-certificates many)
-
-module _ (buffer : List ℕ) (cs : Certificates) where
-  pub too-many : most-certificates < cs .count → statements buffer (records-of cs) ≡ refused (CertificateMalformed 0)
-  too-many many = many-refused buffer (records-of cs) (omega (arith, records-count cs))
-
-  -- Few are read in a row.
-  few-read : cs .count ≤ most-certificates → statements buffer (records-of cs) ≡ statements-from buffer 0 (records-of cs)
+module _ (buffer : List ℕ) (records : List Certificate) where
+  -- Too many are refused.
+  pub many-refused : most-certificates < length records → statements buffer records ≡ refused (CertificateMalformed 0)
   unfolding statements
-  few-read few = rw (records-count cs, le-leb (cs .count) most-certificates few)
+  many-refused many = rw (lt-leb (length records) most-certificates many)
 
-  module _ (room : length (cs .records) ≡ most-certificates) where
-    -- Records of the array that are well formed are so among those handed over.
-    handed-over : (n : ℕ) → n ≤ cs .count → n ≤ most-certificates → ((k : ℕ) → k < n → WellFormedRecord buffer (getD (cs .records) k no-record))
-        → (k : ℕ) → k < n → WellFormedRecord buffer (getD (records-of cs) k no-record)
-    handed-over n l m h k b = rw (record-at cs k (omega arith) (omega arith)) (h k b)
+  module _ (few : length records ≤ most-certificates) where
+    -- Few are read in a row.
+    few-read : statements buffer records ≡ statements-from buffer 0 records
+    unfolding statements
+    few-read = rw (le-leb (length records) most-certificates few)
 
-    module _ (few : cs .count ≤ most-certificates) where
-      pub none-malformed : ((k : ℕ) → k < cs .count → WellFormedRecord buffer (getD (cs .records) k no-record))
-          → (ss : List Statement) × (statements buffer (records-of cs) ≡ granted ss)
-      none-malformed h =
-          let (ss, e) = all-granted buffer 0 (records-of cs) (λ k l. handed-over (cs .count) (omega arith) few h k (omega (arith, records-count cs))) in
-          (ss, few-read few ∙ e)
+    -- All of them are granted where none is malformed.
+    none-malformed : ((k : ℕ) → k < length records → WellFormedRecord buffer (getD records k no-record))
+        → (ss : List Statement) × (statements buffer records ≡ granted ss)
+    none-malformed h = let (ss, e) = all-granted buffer 0 records h in (ss, few-read ∙ e)
 
-      pub malformed-at : (n : ℕ) → n < cs .count → ((k : ℕ) → k < n → WellFormedRecord buffer (getD (cs .records) k no-record))
-          → (WellFormedRecord buffer (getD (cs .records) n no-record) → ⊥) → statements buffer (records-of cs) ≡ refused (CertificateMalformed n)
-      malformed-at n l h bad =
-          few-read few
-          ∙ first-refuses buffer 0 n (records-of cs) (omega (arith, records-count cs)) (handed-over n (omega arith) (omega arith) h)
-          (λ w. bad (rw (record-at cs n l (omega arith)) at w))
-          ∙ ap (λ k. refused (CertificateMalformed k)) (zero-add n)
+    -- The first malformed one is refused.
+    malformed-at : (n : ℕ) → n < length records → ((k : ℕ) → k < n → WellFormedRecord buffer (getD records k no-record))
+        → (WellFormedRecord buffer (getD records n no-record) → ⊥) → statements buffer records ≡ refused (CertificateMalformed n)
+    malformed-at n l h bad = few-read ∙ first-refuses buffer 0 n records l h bad ∙ ap (λ k. refused (CertificateMalformed k)) (zero-add n)
 
 -- ── The rows of the records ──
 
@@ -248,39 +224,59 @@ granted-few buffer cs ss e k =
 pub statements-count : (buffer : List ℕ) (cs : List Certificate) (ss : List Statement) → statements buffer cs ≡ granted ss → length ss ≡ length cs
 statements-count buffer cs ss e = granted-few buffer cs ss e λ few e₁. each-granted buffer 0 cs ss e₁ .as-many
 
--- The rows below an index are those of the records.
-pub record RowsPut (cs : Certificates) (rows : List ℕ) (i : ℕ) : Type 0 where
-  pub room : length rows ≡ all-numbers
-  pub below : (k : ℕ) → k < i → k < cs .count → row-in rows k ≡ row-of (getD (cs .records) k no-record)
+-- ── Taking them ──
 
-module _ {cs : Certificates} {rows : List ℕ} where
-  pub no-rows-put : length rows ≡ all-numbers → RowsPut cs rows 0
-  no-rows-put e = record { room = e; below = λ k l. absurd (omega arith) }
+module _ (records : List Certificate) (buffer : List ℕ) (rows : List ℕ) where
+  -- Nothing is taken yet, or they are too many.
+  pub none-taken : (stop : Stop) → (length records ≤ most-certificates → stop ≡ Going)
+      → (most-certificates < length records → stop ≡ Stopped (CertificateMalformed 0)) → SoFar records buffer 0 stop rows
+  none-taken stop few many =
+      elim (decLe (length records) most-certificates) [
+        | yes l ↦ rw (few l) (record { few = l; well-formed = λ k h. absurd (omega arith); put = λ k h. absurd (omega arith) })
+        | no n ↦ rw (many (omega arith)) (many-refused buffer records (omega arith))
+      ]
 
-  -- One row more, or none where no record is left.
-  module _ {i : ℕ} (h : RowsPut cs rows i) where
-    pub one-row-put : {after : List ℕ} {row : Row} → length after ≡ length rows → row ≡ row-of (getD (cs .records) i no-record)
-        → (length (row .judgement .formula .terms .numbers) ≡ terms-numbers → row-in after i ≡ row)
-        → ((k : ℕ) → (k ≡ i → ⊥) → row-in after k ≡ row-in rows k) → RowsPut cs after (i + 1)
-    one-row-put kept e there others = record {
-      room = kept ∙ h .room;
-      below = below-more _ i (λ k b m. others k (omega arith) ∙ h .below k b m) (λ m. there (ap (λ r. length (r .judgement .formula .terms .numbers)) e) ∙ e);
-    }
+  module _ (i : ℕ) (l : i < length records) where
+    -- What was refused stays so.
+    pub stays-refused : (answer : Answer) (stop : Stop) → stop ≡ Stopped answer → SoFar records buffer i stop rows → statements buffer records ≡ refused answer
+    stays-refused answer stop e h = rw e at h
 
-    pub no-row-put : cs .count ≤ i → RowsPut cs rows (i + 1)
-    no-row-put end = record { room = h .room; below = below-more _ i (h .below) (λ m. absurd (omega arith)) }
+    -- Where nothing has stopped it, those before are taken.
+    pub taken-going : (stop : Stop) → stop ≡ Going → SoFar records buffer i stop rows → TakenTo records buffer i rows
+    taken-going stop e h = rw e at h
 
--- All rows are what the records state.
-pub rows-certified : (cs : Certificates) (rows : List ℕ) → length (cs .records) ≡ most-rows → {i : ℕ} → most-rows ≤ i → RowsPut cs rows i
-    → RowsAre cs rows
-rows-certified cs rows room end h buffer ss e =
-    granted-few buffer (records-of cs) ss e λ few e₁.
-    let count = records-count cs in
-    let all = each-granted buffer 0 (records-of cs) ss e₁ in
+    module _ (h : TakenTo records buffer i rows) where
+      -- A malformed record refuses them.
+      pub taken-malformed : (WellFormedRecord buffer (getD records i no-record) → ⊥) → statements buffer records ≡ refused (CertificateMalformed i)
+      taken-malformed bad = malformed-at buffer records (h .few) i l (h .well-formed) bad
+
+      -- A well formed one is taken, once its row is put.
+      pub one-taken : {after : List ℕ} → WellFormedRecord buffer (getD records i no-record)
+          → row-in after i ≡ row-of (getD records i no-record) → ((k : ℕ) → (k ≡ i → ⊥) → row-in after k ≡ row-in rows k)
+          → TakenTo records buffer (i + 1) after
+      one-taken w there others = record {
+        few = h .few;
+        well-formed = below-more _ i (h .well-formed) w;
+        put = below-more _ i (λ k b. others k (omega arith) ∙ h .put k b) there;
+      }
+
+-- The rows of records that are granted are what they state.
+rows-certified : (records : List Certificate) (buffer rows : List ℕ) → TakenTo records buffer (length records) rows
+    → (ss : List Statement) → statements buffer records ≡ granted ss → Certified buffer rows ss
+rows-certified records buffer rows h ss e =
+    granted-few buffer records ss e λ few e₁.
+    let all = each-granted buffer 0 records ss e₁ in
     record {
-      few = omega (arith, all .as-many);
+      few = omega (arith, all .as-many, h .few);
       each = λ k s there.
           let (inside, states) = all .stated k s there in
-          let row = h .below k (omega arith) (omega arith) ∙ ap row-of (sym (record-at cs k (omega arith) (omega arith))) in
-          rw row (row-certifies buffer (getD (records-of cs) k no-record) s states);
+          rw (h .put k inside) (row-certifies buffer (getD records k no-record) s states);
     }
+
+-- Once all are taken, the stop is what they come to, and the rows are what they state.
+pub all-taken : (records : List Certificate) (buffer : List ℕ) (stop : Stop) (rows : List ℕ) (i : ℕ)
+    → (length records ≤ most-certificates → i ≡ length records) → SoFar records buffer i stop rows → Taken records buffer stop rows
+all-taken records buffer Going rows i all h =
+    let taken : TakenTo records buffer (length records) rows = rw (all (h .few)) at h in
+    record { stops = none-malformed buffer records (h .few) (taken .well-formed); rows-are = rows-certified records buffer rows taken }
+all-taken records buffer (Stopped answer) rows i all h = record { stops = h; rows-are = λ ss e. no-grant (sym h ∙ e) }

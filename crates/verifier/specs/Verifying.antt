@@ -1,10 +1,9 @@
--- What is copied of the lent records, and what the parts of verify and of the direct check promise.
-use Prim.Native.Nat.{ℕ}
+-- What the parts of verify and of the direct check promise.
+use Prim.Native.Nat.{ℕ, _+_, _≤_, _<_}
 use mathlib.Core.Path.{_≡_}
 use mathlib.Core.List.{List}
 use mathlib.Core.Option.{some}
-use lib.ListN.{length, take}
-use Rattle.procap.specs.Lists.{pad}
+use lib.ListN.{length, getD}
 use Rattle.procap.specs.Desk.{read-press}
 use Rattle.procap.specs.Outcome.{Outcome, granted, refused, go-on, answer-of, procap-handed}
 use Rattle.procap.specs.declared.time.Time.the-variants.{Moment}
@@ -18,7 +17,6 @@ use Rattle.bl.specs.Steps.{proof-in}
 use Rattle.bl.specs.Readings.{start, office, press, run}
 use Rattle.bl.specs.Walk.{walk}
 use Rattle.bl.specs.Calls.{issue}
-use Rattle.verifier.specs.declared.certificates.Certificates.{Certificates}
 use Rattle.ledger.specs.declared.Reading.{Reading}
 use Rattle.ledger.specs.declared.Stop.{Stop}
 use Rattle.ledger.specs.declared.Stop.the-variants.{Going, Stopped}
@@ -28,19 +26,11 @@ use Rattle.ledger.specs.Books.{book, list-numbers, Sound, reading-of, resume}
 use Rattle.judging.specs.declared.rows.Row.{Row}
 use Rattle.judging.specs.declared.rows.Whose.the-variants.{Claim}
 use Rattle.formula.specs.PutIn.{no-terms}
-use Rattle.judging.specs.RowsOf.{Certified}
+use Rattle.judging.specs.RowsOf.{row-in, all-numbers, Certified}
 
--- A record of zeros.
+-- A record of zeros, which stands past the end of a list of records.
 abbrev pub no-record : Certificate
 no-record = record { principal = 0; from = Moment 0; to = Moment 0; start = 0; length = 0 }
-
--- What is copied of lent records: how many they are, and the first of them, with zeros past the last.
-abbrev pub copy-of : List Certificate → Certificates
-copy-of cs = record { count = length cs; records = pad most-certificates no-record (take most-certificates cs) }
-
--- The records that a copy stands for: as many as its count says, and zeros where it says more than there are.
-unfoldable pub records-of : Certificates → List Certificate
-records-of cs = take (cs .count) (pad (cs .count) no-record (cs .records))
 
 -- The row of a record: a claim of its principal, with no terms put in.
 abbrev pub row-of : Certificate → Row
@@ -53,10 +43,6 @@ row-of c = record {
 abbrev pub WellFormedRecord : List ℕ → Certificate → Type 0
 WellFormedRecord buffer c = (s : Statement) × (statement-of buffer c ≡ some s)
 
--- The rows are the statements of the records.
-abbrev pub RowsAre : Certificates → List ℕ → Type 0
-RowsAre records rows = (buffer : List ℕ) (cs : List Statement) → statements buffer (records-of records) ≡ granted cs → Certified buffer rows cs
-
 -- The ledger and the list at the end are what the walk of the proof comes to.
 abbrev pub Walked : Request → List ℕ → List ℕ → List ℕ → List ℕ → Reading → List ℕ → Ledger → List ℕ → Type 0
 Walked r buffer proof state rows reading list l list′ =
@@ -68,10 +54,32 @@ abbrev pub Stops : {A : Type 0} → Outcome A → Stop → Type 0
 Stops {A} o Going = (a : A) × (o ≡ granted a)
 Stops o (Stopped answer) = o ≡ refused answer
 
--- Certificates and proof are well formed.
-pub record CaseReads (records : List Certificate) (buffer proof : List ℕ) (cs : List Statement) (N : Check) : Type 0 where
-  pub certificates-read : statements buffer records ≡ granted cs
-  pub proof-reads : proof-in (length records) proof ≡ some N
+-- The rows are the certificates cs, and the proof reads over them.
+pub record CaseReads (rows buffer proof : List ℕ) (cs : List Statement) (N : Check) : Type 0 where
+  pub certified : Certified buffer rows cs
+  pub proof-reads : proof-in (length cs) proof ≡ some N
+
+-- The records before the i-th are taken: there are not too many in all, each is well formed, and its row is put.
+pub record TakenTo (records : List Certificate) (buffer : List ℕ) (i : ℕ) (rows : List ℕ) : Type 0 where
+  pub few : length records ≤ most-certificates
+  pub well-formed : (k : ℕ) → k < i → WellFormedRecord buffer (getD records k no-record)
+  pub put : (k : ℕ) → k < i → row-in rows k ≡ row-of (getD records k no-record)
+
+-- They are taken, or the records are refused.
+abbrev pub SoFar : List Certificate → List ℕ → ℕ → Stop → List ℕ → Type 0
+SoFar records buffer i Going rows = TakenTo records buffer i rows
+SoFar records buffer i (Stopped answer) rows = statements buffer records ≡ refused answer
+
+-- The i-th record c is taken too.
+abbrev pub Takes : List ℕ → Certificate → ℕ → Stop → List ℕ → Stop → List ℕ → Type 0
+Takes buffer c i stop rows stop′ rows′ =
+    (records : List Certificate) → i < length records → getD records i no-record ≡ c → length rows ≡ all-numbers
+    → SoFar records buffer i stop rows → SoFar records buffer (i + 1) stop′ rows′
+
+-- All are taken: the stop is what the records come to, and where they are granted, the rows are what they state.
+pub record Taken (records : List Certificate) (buffer : List ℕ) (stop : Stop) (rows : List ℕ) : Type 0 where
+  pub stops : Stops (statements buffer records) stop
+  pub rows-are : (cs : List Statement) → statements buffer records ≡ granted cs → Certified buffer rows cs
 
 -- What verify comes to from there on.
 unfoldable pub verified-case : Request → List Statement → Check → Outcome Procap

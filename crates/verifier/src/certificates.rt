@@ -1,10 +1,9 @@
-// The certificate records: whether each is well formed, and their rows.
+// The lent certificate records: whether each is well formed, and their rows.
 use bl::Certificate;
 use formula::ends::holds_formula;
 use formula::parts::FormulaAt;
 use formula::parts::Judgement;
 use formula::terms::Terms;
-use judging::rows::ALL_NUMBERS;
 use judging::rows::Row;
 use judging::rows::Whose;
 use judging::rows::put_row;
@@ -14,88 +13,63 @@ use procap::time::LATEST_SECOND;
 use procap::time::Time;
 ghost use mathlib.Core.Path.{_≡_};
 ghost use Prim.Native.Nat.{_≤_, _<_};
-ghost use lib.ListN.{replicate};
+ghost use lib.ListN.{length};
 ghost use Rattle.procap.specs.Tells.{Tells};
-ghost use Rattle.bl.specs.Certificates.{statements, «fixed-time», «most-certificates»};
-ghost use Rattle.verifier.specs.Verifying.{«no-record», «records-of», «copy-of», «row-of», WellFormedRecord, RowsAre, Stops};
+ghost use Rattle.bl.specs.Certificates.{«fixed-time», «most-certificates»};
+ghost use Rattle.judging.specs.RowsOf.{«all-numbers»};
+ghost use Rattle.verifier.specs.Verifying.{«row-of», WellFormedRecord, Taken, Takes};
 
 // How many records are taken.
 pub const MOST_CERTIFICATES: usize = 32;
 // How many bytes a part may have.
 pub const MOST_PART_BYTES: usize = 256;
 
-// What is copied of lent records: how many they are, and the first of them.
-pub struct Certificates {
-    pub count: usize,
-    pub records: [Certificate; MOST_CERTIFICATES],
-}
-
-// What is copied of lent records.
-pub(crate) fn copied(certificates: &[Certificate]) -> Certificates
-    ensures { λ r. ⌜ r ≡ «copy-of» (now (certificates .entry)) ⌝ }
+// Whether to go on, from the lent records: too many of them stop, and so does the first malformed one. The rows of those before it are put.
+pub(crate) fn taken(certificates: &[Certificate], buffer: &[u8], rows: &mut [u64]) -> Stop
+    ensures { λ r. ⌜ (length (now (rows .entry)) ≡ «all-numbers» → Taken (now (certificates .entry)) (now (buffer .entry)) r (now (rows .exit))) ⌝ }
 {
-    let mut records = no_records();
     let count = certificates.len();
-    let most = most_copied(count);
+    let all = how_many(count);
+    let mut stop = begun(count);
     let mut i: usize = 0;
-    while i < most {
-        records[i] = certificates[i];
+    while i < all {
+        stop = take(certificates[i], i, buffer, rows, stop);
         i = i + 1;
     }
-    Certificates {
-        count: count,
-        records: records,
-    }
+    stop
 }
 
-// How many of so many records are copied.
-fn most_copied(count: usize) -> usize
-    ensures { λ r. ⌜ (r ≤ count) × (r ≤ «most-certificates») × (r < count → r ≡ «most-certificates») ⌝ }
+// How many of so many records are looked at: all, or none where they are too many.
+fn how_many(count: usize) -> usize
+    ensures few { λ r. ⌜ (count ≤ «most-certificates» → r ≡ count) ⌝ }
+    ensures many { λ r. ⌜ («most-certificates» < count → r ≡ 0) ⌝ }
 {
-    if count < MOST_CERTIFICATES {
-        count
+    if count <= MOST_CERTIFICATES { count } else { 0 }
+}
+
+// Whether to go on with so many records.
+fn begun(count: usize) -> Stop
+    ensures few { λ r. ⌜ (count ≤ «most-certificates» → r ≡ Stop.Going) ⌝ }
+    ensures many { λ r. ⌜ («most-certificates» < count → r ≡ Stop.Stopped (Answer.CertificateMalformed 0)) ⌝ }
+{
+    if count <= MOST_CERTIFICATES {
+        Stop::Going
     } else {
-        MOST_CERTIFICATES
+        Stop::Stopped(Answer::CertificateMalformed(0))
     }
 }
 
-// No record yet.
-fn no_records() -> [Certificate; MOST_CERTIFICATES]
-    ensures { λ r. ⌜ r ≡ replicate «most-certificates» «no-record» ⌝ }
+// Whether to go on after one more record: a malformed one stops, and the row of any other is put at its index.
+fn take(certificate: Certificate, index: usize, buffer: &[u8], rows: &mut [u64], stop: Stop) -> Stop
+    ensures { λ r. ⌜ Takes (now (buffer .entry)) certificate index stop (now (rows .entry)) r (now (rows .exit)) ⌝ }
 {
-    let none = no_record();
-    [none; MOST_CERTIFICATES]
-}
-
-// A record of zeros.
-pub fn no_record() -> Certificate
-    ensures { λ r. ⌜ r ≡ «no-record» ⌝ }
-{
-    Certificate {
-        principal: 0,
-        from: Time::Moment(0),
-        to: Time::Moment(0),
-        start: 0,
-        length: 0,
+    if let Stop::Stopped(answer) = stop {
+        return Stop::Stopped(answer);
     }
-}
-
-// Whether to go on: the first malformed record stops.
-pub(crate) fn first_malformed(certificates: Certificates, buffer: &[u8]) -> Stop
-    ensures { λ r. ⌜ Stops (statements (now (buffer .entry)) («records-of» certificates)) r ⌝ }
-{
-    let count = certificates.count;
-    if MOST_CERTIFICATES < count {
-        return Stop::Stopped(Answer::CertificateMalformed(0));
+    if !well_formed(certificate, buffer) {
+        return Stop::Stopped(Answer::CertificateMalformed(index));
     }
-    let mut i: usize = 0;
-    while i < count {
-        let record = certificates.records[i];
-        if !well_formed(record, buffer) {
-            return Stop::Stopped(Answer::CertificateMalformed(i));
-        }
-        i += 1;
-    }
+    put_row(rows, index, row_of(certificate));
     Stop::Going
 }
 
@@ -135,23 +109,6 @@ fn may_stand(time: Time) -> bool
         Time::PlusInfinity => true,
         Time::Ctime => false,
     }
-}
-
-// The rows of the records.
-pub(crate) fn rows_of(certificates: Certificates) -> [u64; ALL_NUMBERS]
-    ensures { λ r. ⌜ RowsAre certificates r ⌝ }
-{
-    let count = certificates.count;
-    let mut rows = [0u64; ALL_NUMBERS];
-    let mut i: usize = 0;
-    while i < MOST_CERTIFICATES {
-        if i < count {
-            let record = certificates.records[i];
-            put_row(&mut rows, i, row_of(record));
-        }
-        i += 1;
-    }
-    rows
 }
 
 // The row of one record: a claim of its principal.

@@ -1,12 +1,10 @@
 // Verify, and the direct check.
-use crate::certificates::Certificates;
-use crate::certificates::copied;
-use crate::certificates::first_malformed;
-use crate::certificates::rows_of;
+use crate::certificates::taken;
 use bl::Certificate;
 use formula::parts::Judgement;
 use judging::judge::Scope;
 use judging::judge::View;
+use judging::rows::ALL_NUMBERS;
 use judging::walk::check;
 use ledger::LIST_NUMBERS;
 use ledger::Ledger;
@@ -20,17 +18,20 @@ use procap::time::LATEST_SECOND;
 use steps::MOST_PROOF_LEVELS;
 ghost use mathlib.Core.Path.{_≡_};
 ghost use mathlib.Core.List.{List};
+ghost use Prim.Native.Nat.{ℕ};
+ghost use lib.ListN.{length};
 ghost use Rattle.procap.specs.Procaps.{«empty-procap»};
 ghost use Rattle.procap.specs.Outcome.{«answer-of», «procap-handed», «or-else»};
 ghost use Rattle.bl.specs.Trees.{Check};
-ghost use Rattle.bl.specs.Certificates.{Statement};
+ghost use Rattle.bl.specs.declared.Certificate.{Certificate};
+ghost use Rattle.bl.specs.Certificates.{Statement, statements};
 ghost use Rattle.bl.specs.Steps.{«proof-in»};
 ghost use Rattle.bl.specs.Rules.{goal};
 ghost use Rattle.bl.specs.Calls.{verified, directly, «read-case», issue};
 ghost use Rattle.ledger.specs.Books.{book, Sound, «kept-of»};
 ghost use Rattle.formula.specs.PutIn.{«no-terms»};
 ghost use Rattle.formula.specs.Meaning.{Means};
-ghost use Rattle.verifier.specs.Verifying.{«records-of», Walked, Stops, CaseReads, HandsOver, «verified-case», «checked-case»};
+ghost use Rattle.verifier.specs.Verifying.{Taken, Walked, Stops, CaseReads, HandsOver, «verified-case», «checked-case»};
 
 // How many bytes the goal of a request takes.
 pub const GOAL_BYTES: usize = 17;
@@ -51,41 +52,39 @@ pub fn verify(
     ensures answer { λ r. ⌜ r .answer ≡ «answer-of» (verified request (now (certificates .entry)) (now (buffer .entry)) (now (proof .entry))) ⌝ }
     ensures procap { λ r. ⌜ r .procap ≡ «procap-handed» (verified request (now (certificates .entry)) (now (buffer .entry)) (now (proof .entry))) ⌝ }
 {
-    verify_copied(request, copied(certificates), buffer, proof)
+    let mut rows = [0u64; ALL_NUMBERS];
+    let stop = taken(certificates, buffer, &mut rows);
+    verify_taken(request, stop, certificates.len(), &rows, buffer, proof)
 }
 
-// What verify answers to records that were copied.
-fn verify_copied(
+// What verify answers once so many records are taken.
+fn verify_taken(
     request: Request,
-    certificates: Certificates,
+    stop: Stop,
+    certificates: usize,
+    rows: &[u64],
     buffer: &[u8],
     proof: &[u8],
 ) -> Verified
-    ensures { λ r. ⌜ HandsOver (verified request («records-of» certificates) (now (buffer .entry)) (now (proof .entry))) r ⌝ }
+    ensures { λ r. ⌜ ((records : List Certificate) → length records ≡ certificates → Taken records (now (buffer .entry)) stop (now (rows .entry)) → HandsOver (verified request records (now (buffer .entry)) (now (proof .entry))) r) ⌝ }
 {
-    match malformed(certificates, buffer, proof) {
+    match malformed(stop, proof, certificates) {
         Stop::Stopped(answer) => refused(answer),
-        Stop::Going => verify_case(request, certificates, buffer, proof),
+        Stop::Going => verify_case(request, rows, buffer, proof),
     }
 }
 
 // What verify answers to certificates and a proof that are well formed.
-fn verify_case(
-    request: Request,
-    certificates: Certificates,
-    buffer: &[u8],
-    proof: &[u8],
-) -> Verified
-    ensures { λ r. ⌜ ((cs : List Statement) (N : Check) → CaseReads («records-of» certificates) (now (buffer .entry)) (now (proof .entry)) cs N → HandsOver («verified-case» request cs N) r) ⌝ }
+fn verify_case(request: Request, rows: &[u64], buffer: &[u8], proof: &[u8]) -> Verified
+    ensures { λ r. ⌜ ((cs : List Statement) (N : Check) → CaseReads (now (rows .entry)) (now (buffer .entry)) (now (proof .entry)) cs N → HandsOver («verified-case» request cs N) r) ⌝ }
 {
     let mut facts = [0u64; LIST_NUMBERS];
-    let rows = rows_of(certificates);
     let ledger = walked(
         request,
         buffer,
         proof,
         b"",
-        &rows,
+        rows,
         &mut facts,
         Reading::Office,
     );
@@ -130,36 +129,49 @@ pub fn direct(
 ) -> Answer
     ensures { λ r. ⌜ r ≡ «answer-of» (directly request (now (certificates .entry)) (now (buffer .entry)) (now (proof .entry)) moment (now (state .entry))) ⌝ }
 {
-    direct_copied(request, copied(certificates), buffer, proof, moment, state)
+    let mut rows = [0u64; ALL_NUMBERS];
+    let stop = taken(certificates, buffer, &mut rows);
+    direct_taken(
+        request,
+        stop,
+        certificates.len(),
+        &rows,
+        buffer,
+        proof,
+        moment,
+        state,
+    )
 }
 
-// What the direct check answers to records that were copied.
-fn direct_copied(
+// What the direct check answers once so many records are taken.
+fn direct_taken(
     request: Request,
-    certificates: Certificates,
+    stop: Stop,
+    certificates: usize,
+    rows: &[u64],
     buffer: &[u8],
     proof: &[u8],
     moment: u64,
     state: &[u8],
 ) -> Answer
-    ensures { λ r. ⌜ r ≡ «answer-of» (directly request («records-of» certificates) (now (buffer .entry)) (now (proof .entry)) moment (now (state .entry))) ⌝ }
+    ensures { λ r. ⌜ ((records : List Certificate) → length records ≡ certificates → Taken records (now (buffer .entry)) stop (now (rows .entry)) → r ≡ «answer-of» (directly request records (now (buffer .entry)) (now (proof .entry)) moment (now (state .entry)))) ⌝ }
 {
-    match malformed(certificates, buffer, proof) {
+    match malformed(stop, proof, certificates) {
         Stop::Stopped(answer) => answer,
-        Stop::Going => check_case(request, certificates, buffer, proof, moment, state),
+        Stop::Going => check_case(request, rows, buffer, proof, moment, state),
     }
 }
 
 // What the direct check answers to certificates and a proof that are well formed.
 fn check_case(
     request: Request,
-    certificates: Certificates,
+    rows: &[u64],
     buffer: &[u8],
     proof: &[u8],
     moment: u64,
     state: &[u8],
 ) -> Answer
-    ensures { λ r. ⌜ ((cs : List Statement) (N : Check) → CaseReads («records-of» certificates) (now (buffer .entry)) (now (proof .entry)) cs N → r ≡ «answer-of» («checked-case» request cs N moment (now (state .entry)))) ⌝ }
+    ensures { λ r. ⌜ ((cs : List Statement) (N : Check) → CaseReads (now (rows .entry)) (now (buffer .entry)) (now (proof .entry)) cs N → r ≡ «answer-of» («checked-case» request cs N moment (now (state .entry)))) ⌝ }
 {
     if LATEST_SECOND < moment {
         return Answer::MomentAboveLatest;
@@ -168,13 +180,12 @@ fn check_case(
         return Answer::StateMalformed;
     }
     let mut facts = [0u64; LIST_NUMBERS];
-    let rows = rows_of(certificates);
     let ledger = walked(
         request,
         buffer,
         proof,
         state,
-        &rows,
+        rows,
         &mut facts,
         Reading::Press(moment),
     );
@@ -185,13 +196,13 @@ fn check_case(
     }
 }
 
-// Whether to go on: what is malformed stops, the first certificate before the proof.
-fn malformed(certificates: Certificates, buffer: &[u8], proof: &[u8]) -> Stop
-    ensures { λ r. ⌜ Stops («read-case» («records-of» certificates) (now (buffer .entry)) (now (proof .entry))) r ⌝ }
+// Whether to go on: what is malformed stops, the records, of which there are so many, before the proof.
+fn malformed(stop: Stop, proof: &[u8], certificates: usize) -> Stop
+    ensures { λ r. ⌜ ((records : List Certificate) (buffer : List ℕ) → length records ≡ certificates → Stops (statements buffer records) stop → Stops («read-case» records buffer (now (proof .entry))) r) ⌝ }
 {
-    match first_malformed(certificates, buffer) {
+    match stop {
         Stop::Stopped(answer) => Stop::Stopped(answer),
-        Stop::Going => proof_malformed(proof, certificates.count),
+        Stop::Going => proof_malformed(proof, certificates),
     }
 }
 

@@ -37,7 +37,7 @@ answer-case-requires c κs = search needs
 array-share-prefix-out : tie.Need-array-share-prefix-out
 array-share-prefix-out c =
     let answered = c .before .answer-case in
-    fits-again _ _ (answered .result .length) (answered .last .1 .0) (answered .ensures .1 .0) (omega arith)
+    fits-again _ _ (answered .result .length) (answered .last .1 .0) (answered .ensures .length-told) (omega arith)
 
 slice-aggregate-write-all : tie.Need-slice-aggregate-write-all
 slice-aggregate-write-all c =

@@ -84,7 +84,7 @@ returns-3 c =
     let reads = lines-say-case input (past .if1 .left) (f .found) (f .line) (f .next) (f .reads) in
     let hands = hands-over-case _ _ _ f (parts .verify-parts .result) (parts .verify-parts .ensures) in
     let written = c .before .before .write-verified .ensures (verified-of (f .found)) hands (case-is-printable input (f .found) reads) in
-    rw (case-answered input (length (args .out .now)) (f .found) reads) (written .answer, (written .length-written, written .buffer))
+    rw (case-answered input (length (args .out .now)) (f .found) reads) written
 
 pub answer-case-spec : {M : Type 1} → statement M
 answer-case-spec =

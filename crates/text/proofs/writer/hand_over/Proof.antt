@@ -7,7 +7,7 @@ use lib.ListN.{length, take, drop}
 use lib.Seq.{length-take-le}
 use Rattle.procap.specs.Outcome.{answer-of}
 use Rattle.text.specs.Calls.{length-given, buffer-left}
-use Rattle.text.proofs.Written.{too-long, fits}
+use Rattle.text.proofs.Written.{too-long, fits, wrote-nothing}
 use Rattle.text.proofs.writer.hand_over.Statement.{statement}
 use Rattle.text.proofs.writer.hand_over.Tie as tie
 
@@ -19,12 +19,11 @@ refused-requires : tie.Need-refused-requires
 refused-requires c κs = search needs
 
 returns : tie.Need-returns
-unfolding answer-of length-given buffer-left
 returns c =
     let start = c .before .before .before .before in
     let args = start .args in
     rw (too-long (take (args .count) (args .text .now)) (length (args .out .now)) (omega (arith, counted start)))
-    (ap (λ r. r .answer) (c .refused .ensures), (ap (λ r. r .length) (c .refused .ensures), refl))
+    (wrote-nothing _ (args .out .now) (c .refused .result) (c .refused .ensures))
 
 copy-requires : tie.Need-copy-requires
 copy-requires c κs = search needs
@@ -38,13 +37,11 @@ returns-2 c =
     let start = c .before .before .before .before .before .before .before in
     let args = start .args in
     let text = take (args .count) (args .text .now) in
-    rw (fits text (length (args .out .now)) (omega (arith, counted start))) (
-      refl,
-      (
-        sym (counted start),
-        c .before .before .copy .ensures ∙ ap (λ k. text ++ drop k (args .out .now)) (sym (counted start)),
-      ),
-    )
+    rw (fits text (length (args .out .now)) (omega (arith, counted start))) (record {
+      answer = refl;
+      length-told = sym (counted start);
+      buffer = c .before .before .copy .ensures ∙ ap (λ k. text ++ drop k (args .out .now)) (sym (counted start));
+    })
 
 pub hand-over-spec : {M : Type 1} → statement M
 hand-over-spec = tie.close (tie.spec refused-requires returns copy-requires same-length returns-2)

@@ -1,16 +1,13 @@
 -- A value that cannot be written is refused first. Of one that can, the text is spelled into an array with room for every text,
 -- and handed over from there.
 use borrow.Author.Needs.{needs}
-use mathlib.Core.Path.{refl, ap}
 use native.Mathlib.Omega.{arith}
 use lib.ListN.{length}
-use Rattle.procap.specs.Outcome.{answer-of}
 use Rattle.procap.specs.Writable.{Writable}
 use Rattle.procap.proofs.Telling.{holds-else, fails-where}
-use Rattle.text.specs.Calls.{length-given, buffer-left}
 use Rattle.text.proofs.Putting.{front-taken}
 use Rattle.text.proofs.Longest.{at-most-1223}
-use Rattle.text.proofs.Written.{cannot-be-written, can-be-written}
+use Rattle.text.proofs.Written.{cannot-be-written, can-be-written, wrote-nothing}
 use Rattle.text.proofs.writer.write_text.Statement.{statement}
 use Rattle.text.proofs.writer.write_text.Tie as tie
 
@@ -25,12 +22,11 @@ refused-requires : tie.Need-refused-requires
 refused-requires c κs = search needs
 
 returns : tie.Need-returns
-unfolding answer-of length-given buffer-left
 returns c =
     let told = c .before .before .can-be-written in
     let args = c .before .before .before .before .args in
     rw (cannot-be-written (args .procap) (length (args .out .now)) (fails-where (told .result) (c .before .if1 .taken) (told .ensures)))
-    (ap (λ r. r .answer) (c .refused .ensures), (ap (λ r. r .length) (c .refused .ensures), refl))
+    (wrote-nothing _ (args .out .now) (c .refused .result) (c .refused .ensures))
 
 slice-aggregate-spell : tie.Need-slice-aggregate-spell
 slice-aggregate-spell c = search needs

@@ -18,18 +18,12 @@ returns-2 : tie.Need-returns-2
 returns-2 c =
     let told = c .before .well-formed in
     let moment = c .before .before in
-    let state = moment .before .before .before .before .args .state .now in
+    let state = moment .before .before .before .before .before .args .state .now in
     λ cs N reads.
     state-says-nothing _ cs N _ _ (moment .if1 .left) (fails-where (told .result) {P = WellFormed state} (c .if2 .taken) (told .ensures))
 
-rows-of-requires : tie.Need-rows-of-requires
-rows-of-requires c κs = search needs
-
 slice-aggregate-walked : tie.Need-slice-aggregate-walked
 slice-aggregate-walked c = search needs
-
-slice-aggregate-walked-2 : tie.Need-slice-aggregate-walked-2
-slice-aggregate-walked-2 c = search needs
 
 walked-requires : tie.Need-walked-requires
 walked-requires c κs = search needs
@@ -43,25 +37,25 @@ enum-told c = search needs
 returns-3 : tie.Need-returns-3
 returns-3 c =
     let walk = c .before .before .before .before in
-    let rows = walk .before .before .before in
-    let told = rows .before .before .well-formed in
-    let moment = rows .before .before .before in
-    let state = moment .before .before .before .before .args .state .now in
-    let says : WellFormed state = holds-else (told .result) (rows .before .if2 .left) (told .ensures) in
+    let formed = walk .before .before in
+    let told = formed .before .well-formed in
+    let moment = formed .before .before in
+    let state = moment .before .before .before .before .before .args .state .now in
+    let says : WellFormed state = holds-else (told .result) (formed .if2 .left) (told .ensures) in
     λ cs N reads.
-    check-stopped _ _ _ _ _ _ _ (replicate 160 0) _ _ refl (rows .rows-of .ensures) (walk .walked .ensures) cs N reads _ refl (moment .if1 .left)
+    check-stopped _ _ _ _ _ _ (replicate 160 0) _ _ refl (walk .walked .ensures) cs N reads _ refl (moment .if1 .left)
     (says .0) (says .1) _ (c .before .stop .given .1)
 
 returns-4 : tie.Need-returns-4
 returns-4 c =
     let walk = c .before .before .before in
-    let rows = walk .before .before .before in
-    let told = rows .before .before .well-formed in
-    let moment = rows .before .before .before in
-    let state = moment .before .before .before .before .args .state .now in
-    let says : WellFormed state = holds-else (told .result) (rows .before .if2 .left) (told .ensures) in
+    let formed = walk .before .before in
+    let told = formed .before .well-formed in
+    let moment = formed .before .before in
+    let state = moment .before .before .before .before .before .args .state .now in
+    let says : WellFormed state = holds-else (told .result) (formed .if2 .left) (told .ensures) in
     λ cs N reads.
-    check-accepted _ _ _ _ _ _ _ (replicate 160 0) _ _ refl (rows .rows-of .ensures) (walk .walked .ensures) cs N reads _ refl (moment .if1 .left)
+    check-accepted _ _ _ _ _ _ (replicate 160 0) _ _ refl (walk .walked .ensures) cs N reads _ refl (moment .if1 .left)
     (says .0) (says .1) (c .enum-told .given .1)
 
 pub check-case-spec : {M : Type 1} → statement M
@@ -71,9 +65,7 @@ check-case-spec =
     returns
     well-formed-requires
     returns-2
-    rows-of-requires
     slice-aggregate-walked
-    slice-aggregate-walked-2
     walked-requires
     enum-known-stop
     enum-told

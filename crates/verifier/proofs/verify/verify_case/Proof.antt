@@ -6,17 +6,11 @@ use lib.ListN.{replicate}
 use Rattle.verifier.proofs.verify.verify_case.Statement.{statement}
 use Rattle.verifier.proofs.verify.verify_case.Tie as tie
 
-rows-of-requires : tie.Need-rows-of-requires
-rows-of-requires c κs = search needs
-
 slice-aggregate-walked : tie.Need-slice-aggregate-walked
 slice-aggregate-walked c = search needs
 
 slice-aggregate-walked-2 : tie.Need-slice-aggregate-walked-2
 slice-aggregate-walked-2 c = search needs
-
-slice-aggregate-walked-3 : tie.Need-slice-aggregate-walked-3
-slice-aggregate-walked-3 c = search needs
 
 walked-requires : tie.Need-walked-requires
 walked-requires c κs = search needs
@@ -40,28 +34,24 @@ returns : tie.Need-returns
 returns c =
     let stopped = c .before .before in
     let walk = stopped .before .before .before in
-    let rows = walk .before .before .before .before in
     λ cs N reads.
-    verify-stopped _ _ _ _ _ _ _ (replicate 160 0) _ _ refl (rows .rows-of .ensures) (walk .walked .ensures) cs N reads refl _ _
+    verify-stopped _ _ _ _ _ _ (replicate 160 0) _ _ refl (walk .walked .ensures) cs N reads refl _ _
     (stopped .stop .given .1) (c .refused .ensures)
 
 returns-2 : tie.Need-returns-2
 returns-2 c =
     let going = c .before .before in
     let walk = going .before .before .before in
-    let rows = walk .before .before .before .before in
     λ cs N reads.
-    verify-issued _ _ _ _ _ _ _ (replicate 160 0) _ _ refl (rows .rows-of .ensures) (walk .walked .ensures) cs N reads refl _
+    verify-issued _ _ _ _ _ _ (replicate 160 0) _ _ refl (walk .walked .ensures) cs N reads refl _
     (going .enum-told .given .1) (c .issued .ensures)
 
 pub verify-case-spec : {M : Type 1} → statement M
 verify-case-spec =
     tie.close
     (tie.spec
-    rows-of-requires
     slice-aggregate-walked
     slice-aggregate-walked-2
-    slice-aggregate-walked-3
     walked-requires
     enum-known-stop
     refused-requires

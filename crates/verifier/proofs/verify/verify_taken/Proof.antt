@@ -1,8 +1,8 @@
 -- What is malformed refuses with its answer; a case that reads is walked.
 use borrow.Author.Needs.{needs}
 use Rattle.verifier.proofs.Answers.{stopped-with, went-with, verify-stops, verify-goes-on}
-use Rattle.verifier.proofs.verify.verify_copied.Statement.{statement}
-use Rattle.verifier.proofs.verify.verify_copied.Tie as tie
+use Rattle.verifier.proofs.verify.verify_taken.Statement.{statement}
+use Rattle.verifier.proofs.verify.verify_taken.Tie as tie
 
 malformed-requires : tie.Need-malformed-requires
 malformed-requires c κs = search needs
@@ -21,15 +21,18 @@ verify-case-requires c κs = search needs
 
 returns : tie.Need-returns
 returns c =
-    verify-stops _ _ _ _ _ _ (stopped-with _ _ _ (c .before .before .answer .given .1) (c .before .before .before .before .malformed .ensures)) (c .refused .ensures)
+    λ records many taken.
+    verify-stops _ records _ _ taken _ _ (stopped-with _ _ _ (c .before .before .answer .given .1) (c .before .before .before .before .malformed .ensures records _ many (taken .stops)))
+    (c .refused .ensures)
 
 returns-2 : tie.Need-returns-2
 returns-2 c =
-    let case = went-with _ _ (c .before .enum-told .given .1) (c .before .before .before .malformed .ensures) in
-    verify-goes-on _ _ _ _ _ (case .0) (case .1) (c .verify-case .ensures)
+    λ records many taken.
+    let case = went-with _ _ (c .before .enum-told .given .1) (c .before .before .before .malformed .ensures records _ many (taken .stops)) in
+    verify-goes-on _ records _ _ taken _ (case .0) (case .1) (c .verify-case .ensures)
 
-pub verify-copied-spec : {M : Type 1} → statement M
-verify-copied-spec =
+pub verify-taken-spec : {M : Type 1} → statement M
+verify-taken-spec =
     tie.close
     (tie.spec
     malformed-requires

@@ -1,8 +1,8 @@
 -- What is malformed stops the direct check with its answer; a case that reads is checked.
 use borrow.Author.Needs.{needs}
 use Rattle.verifier.proofs.Answers.{stopped-with, went-with, direct-stops, direct-goes-on}
-use Rattle.verifier.proofs.verify.direct_copied.Statement.{statement}
-use Rattle.verifier.proofs.verify.direct_copied.Tie as tie
+use Rattle.verifier.proofs.verify.direct_taken.Statement.{statement}
+use Rattle.verifier.proofs.verify.direct_taken.Tie as tie
 
 malformed-requires : tie.Need-malformed-requires
 malformed-requires c κs = search needs
@@ -18,14 +18,16 @@ check-case-requires c κs = search needs
 
 returns : tie.Need-returns
 returns c =
-    direct-stops _ _ _ _ _ _ _ (stopped-with _ _ _ (c .before .answer .given .1) (c .before .before .before .malformed .ensures))
+    λ records many taken.
+    direct-stops _ records _ _ taken _ _ _ (stopped-with _ _ _ (c .before .answer .given .1) (c .before .before .before .malformed .ensures records _ many (taken .stops)))
 
 returns-2 : tie.Need-returns-2
 returns-2 c =
-    let case = went-with _ _ (c .before .enum-told .given .1) (c .before .before .before .malformed .ensures) in
-    direct-goes-on _ _ _ _ _ _ _ (case .0) (case .1) (c .check-case .ensures)
+    λ records many taken.
+    let case = went-with _ _ (c .before .enum-told .given .1) (c .before .before .before .malformed .ensures records _ many (taken .stops)) in
+    direct-goes-on _ records _ _ taken _ _ _ (case .0) (case .1) (c .check-case .ensures)
 
-pub direct-copied-spec : {M : Type 1} → statement M
-direct-copied-spec =
+pub direct-taken-spec : {M : Type 1} → statement M
+direct-taken-spec =
     tie.close
     (tie.spec malformed-requires enum-known-answer enum-told check-case-requires returns returns-2)

@@ -1,0 +1,64 @@
+-- What has stopped stays so. A malformed record is the first, since those before it were taken; a well formed one is taken with its row.
+use borrow.Author.Needs.{needs}
+use mathlib.Core.Path.{refl, sym, ap, _∙_}
+use lib.ListN.{length}
+use native.Mathlib.Omega.{arith}
+use Rattle.procap.proofs.Telling.{holds-else, fails-where}
+use Rattle.verifier.specs.Verifying.{row-of}
+use Rattle.verifier.proofs.CertificateLaws.{stays-refused, taken-going, taken-malformed, one-taken}
+use Rattle.verifier.proofs.certificates.take.Statement.{statement}
+use Rattle.verifier.proofs.certificates.take.Tie as tie
+
+enum-known-stop : tie.Need-enum-known-stop
+enum-known-stop c = search needs
+
+returns : tie.Need-returns
+returns c = λ records l here room so-far. stays-refused records _ _ _ l _ _ (c .before .stop .given .1) so-far
+
+enum-told : tie.Need-enum-told
+enum-told c = search needs
+
+well-formed-requires : tie.Need-well-formed-requires
+well-formed-requires c κs = search needs
+
+returns-2 : tie.Need-returns-2
+returns-2 c =
+    let told = c .before .well-formed in
+    λ records l here room so-far.
+    taken-malformed records _ _ _ l (taken-going records _ _ _ l _ (c .before .before .enum-told .given .1) so-far)
+    (rw here (fails-where (told .result) (c .if1 .taken) (told .ensures)))
+
+row-of-requires : tie.Need-row-of-requires
+row-of-requires c κs = search needs
+
+put-row-requires : tie.Need-put-row-requires
+put-row-requires c κs = search needs
+
+same-length : tie.Need-same-length
+same-length c = search needs
+
+returns-3 : tie.Need-returns-3
+returns-3 c =
+    let put = c .before .before .put-row in
+    let row = c .before .before .before .row-of in
+    let formed = c .before .before .before .before .before in
+    let told = formed .before .well-formed in
+    λ records l here room so-far.
+    let going = taken-going records _ _ _ l _ (formed .before .before .enum-told .given .1) so-far in
+    one-taken records _ _ _ l going (rw here (holds-else (told .result) (formed .if1 .left) (told .ensures)))
+    (put .ensures .0 room (omega (arith, going .few)) (ap (λ r. length (r .judgement .formula .terms .numbers)) (row .ensures)) ∙ row .ensures ∙ ap row-of (sym here))
+    (put .ensures .1)
+
+pub take-spec : {M : Type 1} → statement M
+take-spec =
+    tie.close
+    (tie.spec
+    enum-known-stop
+    returns
+    enum-told
+    well-formed-requires
+    returns-2
+    row-of-requires
+    put-row-requires
+    same-length
+    returns-3)
