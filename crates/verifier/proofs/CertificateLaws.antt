@@ -165,7 +165,7 @@ module _ (buffer : List ℕ) where
 
 module _ (buffer : List ℕ) (records : List Certificate) where
   -- Too many are refused.
-  pub many-refused : most-certificates < length records → statements buffer records ≡ refused (CertificateMalformed 0)
+  many-refused : most-certificates < length records → statements buffer records ≡ refused (CertificateMalformed 0)
   unfolding statements
   many-refused many = rw (lt-leb (length records) most-certificates many)
 

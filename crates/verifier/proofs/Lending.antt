@@ -1,4 +1,4 @@
--- What `verify` and `direct` do alike. Each takes a request, lent records, a lent buffer and other parameters, and makes an array of rows. The rows are lent to `taken` to be filled,
+-- What `verify` and `direct` do alike. Each takes a request, lent records, a lent buffer and other parameters, and makes an array of rows. The rows are lent to `take_records` to be filled,
 -- and then lent as they stand to the function that goes on from there, each time for a lifetime that begins just before the call and ends just after it.
 -- All parameters are Copy: each call has its own of what it takes, and what they own is kept whole for the exit. `rest` is what the other parameters own, and `more` the tokens of their lifetimes.
 use mathlib.Core.Path.{_≡_, refl}
@@ -51,8 +51,8 @@ use Rattle.ledger.proofs.Stop as St
 use Rattle.ledger.proofs.Stop.Laws as St′
 use Rattle.judging.specs.RowsOf.{all-numbers}
 use Rattle.verifier.specs.Verifying.{Taken}
-use Rattle.verifier.proofs.certificates.taken as taken
-use Rattle.verifier.proofs.certificates.taken.Symbol.{name as #verifier·certificates·taken}
+use Rattle.verifier.proofs.certificates.take_records as taken
+use Rattle.verifier.proofs.certificates.take_records.Symbol.{name as #verifier·certificates·take-records}
 
 -- The machine values of a request, of a lent slice, and of all the rows lent.
 abbrev pub request-val : Request → Val
@@ -72,7 +72,7 @@ rows-at l γ zs = record { ptr = (l, 0); name = γ; now = zs }
 abbrev pub Rows : ℕ → Val → Fml
 Rows l v = fat fullShare (tyArray (tyInt w64) all-numbers) l 0 v
 
-abbrev pub Room-for-rows : ℕ → Fml
+abbrev Room-for-rows : ℕ → Fml
 Room-for-rows l = froom (tyArray (tyInt w64) all-numbers) l 0
 
 -- Where they begin: zeros.
@@ -109,7 +109,7 @@ rows-room = (omega arith, omega arith)
 nothing-more : {M : Type 1} (𝓤 : URA M) (P : SProp 𝓤) → ent 𝓤 P (sep 𝓤 P (emp 𝓤))
 nothing-more 𝓤 P = via 𝓤 (sep 𝓤 (emp 𝓤) P) (emp∗ 𝓤 P) (comm∗ 𝓤 (emp 𝓤) P)
 
--- The contract of `taken`.
+-- The contract of `take_records`.
 abbrev pub Taking : {M : Type 1} (𝓤 : URA M) (H : Heap 𝓤) (A : Atoms 𝓤) → (Memory → SProp 𝓤) → (Routine → Fun 𝓤) → Contract 𝓤
 Taking 𝓤 H A mem run = tripleOf 𝓤 H A taken.signature (taken.spec 𝓤 H A mem run)
 
@@ -134,7 +134,7 @@ module _ {M : Type 1} (𝓤 : URA M) (H : Heap 𝓤) (A : Atoms 𝓤) (W : Given
 
   -- ── The rows at l are filled from the records ──
   module _ (mem : Memory → SProp 𝓤) (run : Routine → Fun 𝓤) (l : ℕ) where
-    -- They are lent to `taken` for the lifetime α under the name γ.
+    -- They are lent to `take_records` for the lifetime α under the name γ.
     module _ (xs : List ℕ) (α : ℕ) (γ : GName) where
       abbrev Filling : Fml
       Filling = MutSlice erased (α ∷ []) u64 .own (rows-at l γ xs) (rows-val l ∷ [])
@@ -151,7 +151,7 @@ module _ {M : Type 1} (𝓤 : URA M) (H : Heap 𝓤) (A : Atoms 𝓤) (W : Given
         tt,
       )
 
-      -- What `taken` asks, and what is kept meanwhile.
+      -- What `take_records` asks, and what is kept meanwhile.
       asks-taken : ent 𝓤 (⋆ 𝓤 H A (Toks ∷ ‵ All ∷ (‵ (flft (α ∷ []) fullShare) ⊛ ‵ Filling) ∷ [])) (sep 𝓤 (Taking 𝓤 H A mem run .pre to-taken) (sep 𝓤 more (sem 𝓤 H A All)))
       asks-taken =
           qed W (Toks ∷ ‵ All ∷ (‵ (flft (α ∷ []) fullShare) ⊛ ‵ Filling) ∷ []) ∵ move ! (1 ∷ []) $ fsplit ! $ move ! (1 ∷ []) $ fsplit ! $ move ! (1 ∷ []) $ fsplit ! $
@@ -176,13 +176,13 @@ module _ {M : Type 1} (𝓤 : URA M) (H : Heap 𝓤) (A : Atoms 𝓤) (W : Given
 
     -- The call: the rows come back, and they are taken from the records.
     module _ {K : Type 0} {Γ : List (Item 𝓤)} {E : Env 𝓤 H} {C : Calls 𝓤 H} {Λ : Loops 𝓤 H} {after : Post 𝓤 H} {d : Place} {os : List Operand} {body : Body} where
-      pub takes : K → FmC 𝓤 H (W .laws) C → Triple 𝓤 (C #verifier·certificates·taken) (Taking 𝓤 H A mem run)
+      pub takes : K → FmC 𝓤 H (W .laws) C → Triple 𝓤 (C #verifier·certificates·take-records) (Taking 𝓤 H A mem run)
           → (xs : List ℕ) (v : Val) → Is (Array u64 all-numbers) xs (v ∷ [])
           → ((α : ℕ) (γ : GName)
           → Opds K W (raw (Taking 𝓤 H A mem run .pre (to-taken xs α γ)) ∷ (raw more ⊛ ‵ All) ∷ ‵ (Held-back u64 (α ∷ []) all-numbers l γ) ∷ Γ) E os (lent-val s ∷ lent-val b ∷ rows-val l ∷ []))
           → ((w : Val) (stop : Stop) (zs : List ℕ) (u : Val) → Taken (s .now) (b .now) stop zs → Is St.the-row stop (w ∷ []) → Is (Array u64 all-numbers) zs (u ∷ [])
           → Seq K W (‵ (Rows l u) ∷ Toks ∷ ‵ All ∷ Γ) (lands C Λ E d w body after))
-          → Seq K W (‵ (Rows l v) ∷ Toks ∷ ‵ All ∷ Γ) (runs C Λ E (seq (call #verifier·certificates·taken os d) body) after)
+          → Seq K W (‵ (Rows l v) ∷ Toks ∷ ‵ All ∷ Γ) (runs C Λ E (seq (call #verifier·certificates·take-records os d) body) after)
       takes z fm known xs v is ops k =
           lft-new z tt (λ α. move z (1 ∷ []) $
           use1 W (later (some (λ (γ : GName). ‵ (Filling xs α γ) ⊛ ‵ (Held-back u64 (α ∷ []) all-numbers l γ))))

@@ -25,7 +25,7 @@ pub const MOST_CERTIFICATES: usize = 32;
 pub const MOST_PART_BYTES: usize = 256;
 
 // Whether to go on, from the lent records: too many of them stop, and so does the first malformed one. The rows of those before it are put.
-pub(crate) fn taken(certificates: &[Certificate], buffer: &[u8], rows: &mut [u64]) -> Stop
+pub(crate) fn take_records(certificates: &[Certificate], buffer: &[u8], rows: &mut [u64]) -> Stop
     ensures { λ r. ⌜ (length (now (rows .entry)) ≡ «all-numbers» → Taken (now (certificates .entry)) (now (buffer .entry)) r (now (rows .exit))) ⌝ }
 {
     let count = certificates.len();
@@ -33,7 +33,7 @@ pub(crate) fn taken(certificates: &[Certificate], buffer: &[u8], rows: &mut [u64
     let mut stop = begun(count);
     let mut i: usize = 0;
     while i < all {
-        stop = take(certificates[i], i, buffer, rows, stop);
+        stop = take_record(certificates[i], i, buffer, rows, stop);
         i = i + 1;
     }
     stop
@@ -60,7 +60,13 @@ fn begun(count: usize) -> Stop
 }
 
 // Whether to go on after one more record: a malformed one stops, and the row of any other is put at its index.
-fn take(certificate: Certificate, index: usize, buffer: &[u8], rows: &mut [u64], stop: Stop) -> Stop
+fn take_record(
+    certificate: Certificate,
+    index: usize,
+    buffer: &[u8],
+    rows: &mut [u64],
+    stop: Stop,
+) -> Stop
     ensures { λ r. ⌜ Takes (now (buffer .entry)) certificate index stop (now (rows .entry)) r (now (rows .exit)) ⌝ }
 {
     if let Stop::Stopped(answer) = stop {

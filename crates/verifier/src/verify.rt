@@ -1,5 +1,5 @@
 // Verify, and the direct check.
-use crate::certificates::taken;
+use crate::certificates::take_records;
 use bl::Certificate;
 use formula::parts::Judgement;
 use judging::judge::Scope;
@@ -53,7 +53,7 @@ pub fn verify(
     ensures procap { λ r. ⌜ r .procap ≡ «procap-handed» (verified request (now (certificates .entry)) (now (buffer .entry)) (now (proof .entry))) ⌝ }
 {
     let mut rows = [0u64; ALL_NUMBERS];
-    let stop = taken(certificates, buffer, &mut rows);
+    let stop = take_records(certificates, buffer, &mut rows);
     verify_taken(request, stop, certificates.len(), &rows, buffer, proof)
 }
 
@@ -130,7 +130,7 @@ pub fn direct(
     ensures { λ r. ⌜ r ≡ «answer-of» (directly request (now (certificates .entry)) (now (buffer .entry)) (now (proof .entry)) moment (now (state .entry))) ⌝ }
 {
     let mut rows = [0u64; ALL_NUMBERS];
-    let stop = taken(certificates, buffer, &mut rows);
+    let stop = take_records(certificates, buffer, &mut rows);
     direct_taken(
         request,
         stop,

@@ -58,9 +58,9 @@ use Rattle.ledger.proofs.Stop.Laws as St′
 use Rattle.judging.specs.RowsOf.{all-numbers}
 use Rattle.verifier.specs.Verifying.{Taken}
 use Rattle.verifier.proofs.Lending.{request-val, lent-val, rows-val, rows-at, zeros, zeros-val, zeros-are, zeros-typed, Owned, Tokens, Taking, takes, lends-rows, rows-back, ends}
-use Rattle.verifier.proofs.certificates.taken.Symbol as taken-def
-use Rattle.verifier.proofs.certificates.taken.Symbol.{name as #verifier·certificates·taken}
-use Rattle.verifier.proofs.certificates.taken.Met as taken-thm
+use Rattle.verifier.proofs.certificates.take_records.Symbol as taken-def
+use Rattle.verifier.proofs.certificates.take_records.Symbol.{name as #verifier·certificates·take-records}
+use Rattle.verifier.proofs.certificates.take_records.Met as taken-thm
 use Rattle.verifier.proofs.verify.direct_taken as onward
 use Rattle.verifier.proofs.verify.direct_taken.Symbol as onward-def
 use Rattle.verifier.proofs.verify.direct_taken.Symbol.{name as #verifier·verify·direct-taken}
@@ -158,7 +158,7 @@ module _ {M : Type 1} (𝓤 : URA M) (H : Heap 𝓤) (A : Atoms 𝓤) (mem : Mem
         (ends-at 𝓤 H A direct.ended stayed clauses W y u r (tt, (tt, (tt, (tt, (tt, (tt, tt)))))) (tt, (tt, (tt, (tt, (tt, (tt, tt)))))))
 
     module _ (C : Calls 𝓤 H) (Λ : Loops 𝓤 H) (fm : FmC 𝓤 H (W .laws) C)
-        (known-taken : Triple 𝓤 (C #verifier·certificates·taken) (Taking 𝓤 H A mem run)) (known-onward : Triple 𝓤 (C #verifier·verify·direct-taken) Onward)
+        (known-taken : Triple 𝓤 (C #verifier·certificates·take-records) (Taking 𝓤 H A mem run)) (known-onward : Triple 𝓤 (C #verifier·verify·direct-taken) Onward)
         (are : Are (typesAt (direct.signature .params) κs) (Ises (typesAt (direct.signature .params) κs)) a at) where
       copyable : Copies 𝓤 H A others
       copyable = (shr-slice-copy 𝓤 H A W (named 2) (κs .1 .1 .0) u8, (uint-copy 𝓤 H A W w64, (shr-slice-copy 𝓤 H A W (named 3) (κs .1 .1 .1 .0) u8, tt)))
@@ -209,7 +209,7 @@ module _ {M : Type 1} (𝓤 : URA M) (H : Heap 𝓤) (A : Atoms 𝓤) (mem : Mem
           free0 ! $ by ! (exits r u (h (s .now) refl took) is-r)))))))))))))))))))
 
 module _ {M : Type 1} (𝓤 : URA M) (H : Heap 𝓤) (A : Atoms 𝓤) (W : Given 𝓤 H A) (mem : Memory → SProp 𝓤) (run : Routine → Fun 𝓤) (𝓣 : Tables 𝓤 H)
-    (known-taken : Triple 𝓤 (𝓣 .C #verifier·certificates·taken) (Taking 𝓤 H A mem run)) (known-onward : Triple 𝓤 (𝓣 .C #verifier·verify·direct-taken) (Onward 𝓤 H A mem run)) where
+    (known-taken : Triple 𝓤 (𝓣 .C #verifier·certificates·take-records) (Taking 𝓤 H A mem run)) (known-onward : Triple 𝓤 (𝓣 .C #verifier·verify·direct-taken) (Onward 𝓤 H A mem run)) where
   direct-walks : Walks 𝓤 H A direct.ended stayed (WpFn 𝓤 H (𝓣 .C) (𝓣 .Λ) code.function) (clauses 𝓤 H A mem run)
   direct-walks =
       walked 𝓤 H A direct.ended stayed (clauses 𝓤 H A mem run) (WpFn 𝓤 H (𝓣 .C) (𝓣 .Λ) code.function)
@@ -255,5 +255,5 @@ direct-spec 𝓤 H 𝓜 𝓖 𝓡 =
     entered 𝓤 H (tripleOf 𝓤 H (𝓖 .A) direct.signature (direct.spec 𝓤 H (𝓖 .A) (𝓜 .mem) (𝓡 .run)))
     (tables 𝓤 H 𝓜 𝓡 code.env .C) (tables 𝓤 H 𝓜 𝓡 code.env .Λ) #verifier·verify·direct code.function (code.unfolded 𝓤 H 𝓜 𝓡)
     (direct-meets 𝓤 H (𝓖 .A) (givenOf 𝓤 H 𝓜 𝓖) (𝓜 .mem) (𝓡 .run) (tablesOf 𝓤 H 𝓜 (tables 𝓤 H 𝓜 𝓡 code.env))
-    (cited 𝓤 H (Taking 𝓤 H (𝓖 .A) (𝓜 .mem) (𝓡 .run)) 𝓜 𝓡 code.env #verifier·certificates·taken taken-def.routine code.calls-verifier·certificates·taken (taken-thm.met 𝓤 H 𝓜 𝓖 𝓡))
+    (cited 𝓤 H (Taking 𝓤 H (𝓖 .A) (𝓜 .mem) (𝓡 .run)) 𝓜 𝓡 code.env #verifier·certificates·take-records taken-def.routine code.calls-verifier·certificates·take-records (taken-thm.met 𝓤 H 𝓜 𝓖 𝓡))
     (cited 𝓤 H (Onward 𝓤 H (𝓖 .A) (𝓜 .mem) (𝓡 .run)) 𝓜 𝓡 code.env #verifier·verify·direct-taken onward-def.routine code.calls-verifier·verify·direct-taken (onward-thm.met 𝓤 H 𝓜 𝓖 𝓡)))

@@ -54,9 +54,9 @@ use Rattle.judging.specs.RowsOf.{all-numbers}
 use Rattle.verifier.specs.Verifying.{Taken, HandsOver}
 use Rattle.verifier.specs.declared.verify.Verified.{Verified}
 use Rattle.verifier.proofs.Lending.{request-val, lent-val, rows-val, rows-at, zeros, zeros-val, zeros-are, zeros-typed, Owned, Tokens, Taking, takes, lends-rows, rows-back, ends}
-use Rattle.verifier.proofs.certificates.taken.Symbol as taken-def
-use Rattle.verifier.proofs.certificates.taken.Symbol.{name as #verifier·certificates·taken}
-use Rattle.verifier.proofs.certificates.taken.Met as taken-thm
+use Rattle.verifier.proofs.certificates.take_records.Symbol as taken-def
+use Rattle.verifier.proofs.certificates.take_records.Symbol.{name as #verifier·certificates·take-records}
+use Rattle.verifier.proofs.certificates.take_records.Met as taken-thm
 use Rattle.verifier.proofs.verify.Verified as Vd
 use Rattle.verifier.proofs.verify.Verified.Laws as Vd′
 use Rattle.verifier.proofs.verify.verify_taken as onward
@@ -145,7 +145,7 @@ module _ {M : Type 1} (𝓤 : URA M) (H : Heap 𝓤) (A : Atoms 𝓤) (mem : Mem
         (ends-at 𝓤 H A verify.ended stayed clauses W y u r (tt, (tt, (tt, (tt, tt)))) (tt, (tt, (tt, (tt, tt)))))
 
     module _ (C : Calls 𝓤 H) (Λ : Loops 𝓤 H) (fm : FmC 𝓤 H (W .laws) C)
-        (known-taken : Triple 𝓤 (C #verifier·certificates·taken) (Taking 𝓤 H A mem run)) (known-onward : Triple 𝓤 (C #verifier·verify·verify-taken) Onward)
+        (known-taken : Triple 𝓤 (C #verifier·certificates·take-records) (Taking 𝓤 H A mem run)) (known-onward : Triple 𝓤 (C #verifier·verify·verify-taken) Onward)
         (are : Are (typesAt (verify.signature .params) κs) (Ises (typesAt (verify.signature .params) κs)) a at) where
       copyable : Copies 𝓤 H A others
       copyable = (shr-slice-copy 𝓤 H A W (named 2) (κs .1 .1 .0) u8, tt)
@@ -193,7 +193,7 @@ module _ {M : Type 1} (𝓤 : URA M) (H : Heap 𝓤) (A : Atoms 𝓤) (mem : Mem
           free0 ! $ by ! (exits r u (h (s .now) refl took) is-r)))))))))))))))))
 
 module _ {M : Type 1} (𝓤 : URA M) (H : Heap 𝓤) (A : Atoms 𝓤) (W : Given 𝓤 H A) (mem : Memory → SProp 𝓤) (run : Routine → Fun 𝓤) (𝓣 : Tables 𝓤 H)
-    (known-taken : Triple 𝓤 (𝓣 .C #verifier·certificates·taken) (Taking 𝓤 H A mem run)) (known-onward : Triple 𝓤 (𝓣 .C #verifier·verify·verify-taken) (Onward 𝓤 H A mem run)) where
+    (known-taken : Triple 𝓤 (𝓣 .C #verifier·certificates·take-records) (Taking 𝓤 H A mem run)) (known-onward : Triple 𝓤 (𝓣 .C #verifier·verify·verify-taken) (Onward 𝓤 H A mem run)) where
   verify-walks : Walks 𝓤 H A verify.ended stayed (WpFn 𝓤 H (𝓣 .C) (𝓣 .Λ) code.function) (clauses 𝓤 H A mem run)
   verify-walks =
       walked 𝓤 H A verify.ended stayed (clauses 𝓤 H A mem run) (WpFn 𝓤 H (𝓣 .C) (𝓣 .Λ) code.function)
@@ -221,5 +221,5 @@ verify-spec 𝓤 H 𝓜 𝓖 𝓡 =
     entered 𝓤 H (tripleOf 𝓤 H (𝓖 .A) verify.signature (verify.spec 𝓤 H (𝓖 .A) (𝓜 .mem) (𝓡 .run)))
     (tables 𝓤 H 𝓜 𝓡 code.env .C) (tables 𝓤 H 𝓜 𝓡 code.env .Λ) #verifier·verify·verify code.function (code.unfolded 𝓤 H 𝓜 𝓡)
     (verify-meets 𝓤 H (𝓖 .A) (givenOf 𝓤 H 𝓜 𝓖) (𝓜 .mem) (𝓡 .run) (tablesOf 𝓤 H 𝓜 (tables 𝓤 H 𝓜 𝓡 code.env))
-    (cited 𝓤 H (Taking 𝓤 H (𝓖 .A) (𝓜 .mem) (𝓡 .run)) 𝓜 𝓡 code.env #verifier·certificates·taken taken-def.routine code.calls-verifier·certificates·taken (taken-thm.met 𝓤 H 𝓜 𝓖 𝓡))
+    (cited 𝓤 H (Taking 𝓤 H (𝓖 .A) (𝓜 .mem) (𝓡 .run)) 𝓜 𝓡 code.env #verifier·certificates·take-records taken-def.routine code.calls-verifier·certificates·take-records (taken-thm.met 𝓤 H 𝓜 𝓖 𝓡))
     (cited 𝓤 H (Onward 𝓤 H (𝓖 .A) (𝓜 .mem) (𝓡 .run)) 𝓜 𝓡 code.env #verifier·verify·verify-taken onward-def.routine code.calls-verifier·verify·verify-taken (onward-thm.met 𝓤 H 𝓜 𝓖 𝓡)))

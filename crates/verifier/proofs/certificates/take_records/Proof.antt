@@ -1,5 +1,5 @@
--- The walk of `taken`. The loop keeps that the records before i are taken, or that the records are refused. A turn looks into the slice of records, copies record i out,
--- and passes it to `take` with a copy of the buffer's slice and with the rows, which are lent on for the time of the call: they come back at the list that `take` left.
+-- The walk of `take_records`. The loop keeps that the records before i are taken, or that the records are refused. A turn looks into the slice of records, copies record i out,
+-- and passes it to `take_record` with a copy of the buffer's slice and with the rows, which are lent on for the time of the call: they come back at the list that `take_record` left.
 use mathlib.Core.Path.{_≡_, refl, sym, _∙_, ap}
 use Prim.Native.Nat.{ℕ, _+_, _-_, _*_, _≤_, _<_, _^_, zero-le}
 use native.Mathlib.Nat.{le-antisymm, lt-of-lt-of-le}
@@ -72,15 +72,15 @@ use Rattle.verifier.proofs.certificates.begun as begun
 use Rattle.verifier.proofs.certificates.begun.Symbol as begun-def
 use Rattle.verifier.proofs.certificates.begun.Symbol.{name as #begun}
 use Rattle.verifier.proofs.certificates.begun.Met as begun-thm
-use Rattle.verifier.proofs.certificates.take as take
-use Rattle.verifier.proofs.certificates.take.Symbol as take-def
-use Rattle.verifier.proofs.certificates.take.Symbol.{name as #take}
-use Rattle.verifier.proofs.certificates.take.Met as take-thm
-use Rattle.verifier.proofs.certificates.taken.Key.{name as #taken}
-use Rattle.verifier.proofs.certificates.taken as taken
-use Rattle.verifier.proofs.certificates.taken.Statement as stated
-use Rattle.verifier.proofs.certificates.taken.Code as code
-use Rattle.verifier.proofs.certificates.taken.Code.Mir as body
+use Rattle.verifier.proofs.certificates.take_record as take
+use Rattle.verifier.proofs.certificates.take_record.Symbol as take-def
+use Rattle.verifier.proofs.certificates.take_record.Symbol.{name as #take}
+use Rattle.verifier.proofs.certificates.take_record.Met as take-thm
+use Rattle.verifier.proofs.certificates.take_records.Key.{name as #taken}
+use Rattle.verifier.proofs.certificates.take_records as taken
+use Rattle.verifier.proofs.certificates.take_records.Statement as stated
+use Rattle.verifier.proofs.certificates.take_records.Code as code
+use Rattle.verifier.proofs.certificates.take_records.Code.Mir as body
 
 -- ── Machine values and types of the locals ──
 
@@ -254,7 +254,7 @@ module _ {M : Type 1} (𝓤 : URA M) (H : Heap 𝓤) (A : Atoms 𝓤) (W : Given
   asks-count : ent 𝓤 (emp 𝓤) (HowMany 𝓤 H A mem run .pre counted)
   asks-count = asks-none 𝓤 H A W (usize ∷ []) (uint-makes 𝓤 H A W w64, tt) (n, tt) _ ((refl, room .0), tt)
 
-  -- `take` is passed record i, the buffer and the stop r, and the rows for the lifetime ν under the name δ.
+  -- `take_record` is passed record i, the buffer and the stop r, and the rows for the lifetime ν under the name δ.
   module _ (i : ℕ) (r : Stop) (v : Val) (zs : List ℕ) (ν : ℕ) (δ : GName) where
     abbrev taking : Certificate × (ℕ × (RefT (List ℕ) × (RefT (List ℕ) × (Stop × Unit {0}))))
     taking = (nth i, (i, (s₂, (rows-at δ zs, (r, tt)))))
@@ -401,7 +401,7 @@ module _ {M : Type 1} (𝓤 : URA M) (H : Heap 𝓤) (A : Atoms 𝓤) (W : Given
         -- [Lent₃; what is kept of Own₃; the token ν; Own₂; Own₂; the token κ₁; Own₁; the token κ₂; _13; …]
         move ! (7 ∷ 2 ∷ 3 ∷ 0 ∷ []) $ group ! 4 $
         use1 W (raw (Take 𝓤 H A mem run .pre (to-take (x .i) (x .r) (x .v) (x .zs) ν δ))) (asks-take (x .i) (x .r) (x .v) (x .zs) ν δ is (index-fits x less) (x .is)) $
-        -- [what `take` asks; what is kept of Own₃; Own₂; the token κ₁; Own₁; _13; …]
+        -- [what `take_record` asks; what is kept of Own₃; Own₂; the token κ₁; Own₁; _13; …]
         calls-at ! (fmOf 𝓤 H (W .laws) 𝓣) (Take 𝓤 H A mem run) known-take (to-take (x .i) (x .r) (x .v) (x .zs) ν δ)
         (and-then ! (load ! (from ! (stop !)) (look ! 9 refl)) (and-then ! (load ! (from ! (stop !)) (look ! 17 refl)) (and-then ! (load ! (from ! (stop !)) (look ! 27 refl))
         (and-then ! (load ! (from ! (stop !)) (look ! 5 refl)) (and-then ! (load ! (from ! (stop !)) (look ! 19 refl)) (no-more !)))))) (λ w.
@@ -490,9 +490,9 @@ module _ {M : Type 1} (𝓤 : URA M) (H : Heap 𝓤) (A : Atoms 𝓤) (W : Given
       )
       (taken.clauses 𝓤 H A mem run) (WpFn 𝓤 H (𝓣 .C) (𝓣 .Λ) code.function) (WpFn-mono 𝓤 H (W .laws) 𝓣 code.function) taken-walks
 
-pub taken-spec : {M : Type 1} → stated.statement M
+pub take-records-spec : {M : Type 1} → stated.statement M
 unfolding code.routine tablesOf
-taken-spec 𝓤 H 𝓜 𝓖 𝓡 =
+take-records-spec 𝓤 H 𝓜 𝓖 𝓡 =
     entered 𝓤 H (tripleOf 𝓤 H (𝓖 .A) taken.signature (taken.spec 𝓤 H (𝓖 .A) (𝓜 .mem) (𝓡 .run)))
     (tables 𝓤 H 𝓜 𝓡 code.env .C) (tables 𝓤 H 𝓜 𝓡 code.env .Λ) #taken code.function (code.unfolded 𝓤 H 𝓜 𝓡)
     (taken-meets 𝓤 H (𝓖 .A) (givenOf 𝓤 H 𝓜 𝓖) (𝓜 .mem) (𝓡 .run) (tablesOf 𝓤 H 𝓜 (tables 𝓤 H 𝓜 𝓡 code.env))
@@ -501,4 +501,4 @@ taken-spec 𝓤 H 𝓜 𝓖 𝓡 =
     (cited 𝓤 H (Begins 𝓤 H (𝓖 .A) (𝓜 .mem) (𝓡 .run)) 𝓜 𝓡 code.env #begun begun-def.routine
     code.calls-verifier·certificates·begun (begun-thm.met 𝓤 H 𝓜 𝓖 𝓡))
     (cited 𝓤 H (Take 𝓤 H (𝓖 .A) (𝓜 .mem) (𝓡 .run)) 𝓜 𝓡 code.env #take take-def.routine
-    code.calls-verifier·certificates·take (take-thm.met 𝓤 H 𝓜 𝓖 𝓡)))
+    code.calls-verifier·certificates·take-record (take-thm.met 𝓤 H 𝓜 𝓖 𝓡)))

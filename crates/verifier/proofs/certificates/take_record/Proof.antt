@@ -6,8 +6,8 @@ use native.Mathlib.Omega.{arith}
 use Rattle.procap.proofs.Telling.{holds-else, fails-where}
 use Rattle.verifier.specs.Verifying.{row-of}
 use Rattle.verifier.proofs.CertificateLaws.{stays-refused, taken-going, taken-malformed, one-taken}
-use Rattle.verifier.proofs.certificates.take.Statement.{statement}
-use Rattle.verifier.proofs.certificates.take.Tie as tie
+use Rattle.verifier.proofs.certificates.take_record.Statement.{statement}
+use Rattle.verifier.proofs.certificates.take_record.Tie as tie
 
 enum-known-stop : tie.Need-enum-known-stop
 enum-known-stop c = search needs
@@ -49,8 +49,8 @@ returns-3 c =
     (put .ensures .0 room (omega (arith, going .few)) (ap (λ r. length (r .judgement .formula .terms .numbers)) (row .ensures)) ∙ row .ensures ∙ ap row-of (sym here))
     (put .ensures .1)
 
-pub take-spec : {M : Type 1} → statement M
-take-spec =
+pub take-record-spec : {M : Type 1} → statement M
+take-record-spec =
     tie.close
     (tie.spec
     enum-known-stop
