@@ -13,7 +13,6 @@ use Rattle.bl.specs.Rules as rules
 use Rattle.bl.specs.Rules.{Assumption, claim}
 use Rattle.bl.specs.Questions.{_>>=_, need}
 use Rattle.bl.specs.Walk.{assumed, need-view}
-use Rattle.steps.specs.StepEnds.{IndexAt}
 use Rattle.ledger.specs.declared.Ledger.{Ledger}
 use Rattle.judging.specs.declared.rows.Row.{Row}
 use Rattle.judging.specs.declared.rows.Whose.the-variants.{Plain, Claim}
@@ -27,9 +26,13 @@ use Rattle.judging.proofs.PartsTaken.{After}
 
 -- ── The index ──
 
--- The byte after the tag at q, as the code reads it, and the place after it.
+-- The byte after the tag at q, if one is read there, is the index.
+pub index-is : (bytes : List ℕ) (q i e : ℕ) → byte bytes (q + 1) ≡ some (i, e) → getD bytes (q + 1) 0 ≡ i
+index-is bytes q i e read = byte-at bytes (q + 1) i e read .1
+
+-- The place after it, as the code comes to it.
 module _ (bytes : List ℕ) {q at i e : ℕ} (after : After bytes q at) (read : byte bytes (q + 1) ≡ some (i, e)) where
-  -- It is the index, it stands where the code comes to, and the place after it is where the step ends.
+  -- The byte stands where the code comes to, and the place after it is where the step ends.
   there : at ≡ q + 1
   there =
       let (inside, _, _) = byte-at bytes (q + 1) i e read in
@@ -103,18 +106,18 @@ module _ {state buffer list : List ℕ} {l : Ledger} {row : Row} {index below ne
 module _ {state buffer list : List ℕ} {b : Book} {r : Inferred} (proof rows : List ℕ) (q at : ℕ) (v : rules.View) {e next below : ℕ}
     (after : After proof q at) (next-after : After proof at next) where
   -- 20: the assumption that the index names is used as it stands.
-  pub local-used : (count index back : ℕ) (Γ : List Assumption) {i : ℕ} → index ≡ count - back - 1 → IndexAt proof q back
+  pub local-used : (count index back : ℕ) (Γ : List Assumption) {i : ℕ} → index ≡ count - back - 1 → back ≡ getD proof (q + 1) 0
       → ((x : Assumption) → index < most-rows → RowIs buffer (row-in rows index) index below x → Yields state buffer b (assumed q v x) next r list)
       → Assumed buffer rows below count Γ → count ≤ most-rows → byte proof (q + 1) ≡ some (i, e) → i < count
       → Yields state buffer b (use-local q v Γ i) e r list
   unfolding use-local need _>>=_
   local-used count index back Γ {i} k told used assumptions few read l =
       let named = assumed-at buffer rows below count Γ i assumptions l in
-      let same : index ≡ count - i - 1 = rw (told i e read) at k in
+      let same : index ≡ count - i - 1 = rw (told ∙ index-is proof q i e read) at k in
       rw (named .named) (rw (next-is proof after read next-after) at (used (named .assumption) (omega arith) (rw same (named .row))))
 
   -- 21: the certificate that the index names is used as a claim of its principal.
-  pub certificate-used : (index : ℕ) {cs : List Statement} {i : ℕ} → IndexAt proof q index
+  pub certificate-used : (index : ℕ) {cs : List Statement} {i : ℕ} → index ≡ getD proof (q + 1) 0
       → ((x : Assumption) → index < most-rows → RowIs buffer (row-in rows index) index below x → Yields state buffer b (assumed q v x) next r list)
       → Certified buffer rows cs → byte proof (q + 1) ≡ some (i, e) → i < length cs
       → Yields state buffer b (use-certificate q v cs i) e r list
@@ -122,7 +125,7 @@ module _ {state buffer list : List ℕ} {b : Book} {r : Inferred} (proof rows : 
   certificate-used index {cs} {i} told used certified read l =
       let (c, named) = nth-there cs i l in
       let row = certified .each i c named in
-      let same : index ≡ i = told i e read in
+      let same : index ≡ i = told ∙ index-is proof q i e read in
       let few = certified .few in
       let claimed : RowIs buffer (row-in rows index) index below (claim (c .by) (c .says) (c .from) (c .to)) = rw same (is-claim (row .whose) (row .on)) in
       rw named (rw (next-is proof after read next-after) at (used _ (omega arith) claimed))

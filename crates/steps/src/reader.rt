@@ -8,7 +8,6 @@ ghost use Prim.Native.Nat.{_+_, _≤_, _<_};
 ghost use lib.ListN.{length, getD};
 ghost use Rattle.procap.specs.Bytes.{term};
 ghost use Rattle.procap.specs.Reading.{TermReads};
-ghost use Rattle.steps.specs.StepEnds.{IndexAt};
 
 // The lent bytes of a proof and a place in them.
 pub struct Reader<'a> {
@@ -54,9 +53,9 @@ pub(crate) fn byte_or_zero(proof: &[u8], at: usize) -> u8
     }.byte()
 }
 
-// The index after the tag at a place of the proof; where there is none, this says nothing.
+// The byte after the one at a place of the proof, which is the index of a step 20 or 21 there; 0 past the end.
 pub fn index_at(proof: &[u8], at: usize) -> u8
-    ensures { λ r. ⌜ IndexAt (now (proof .entry)) at r ⌝ }
+    ensures { λ r. ⌜ r ≡ getD (now (proof .entry)) (at + 1) 0 ⌝ }
 {
     Reader {
         proof: proof,

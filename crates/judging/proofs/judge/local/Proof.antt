@@ -1,8 +1,8 @@
 -- The index counts back from the latest assumption; its row is that assumption, used as it stands.
 use borrow.Author.Needs.{needs}
 use native.Mathlib.Omega.{arith}
-use mathlib.Core.Path.{refl}
-use Rattle.judging.proofs.RowsUsed.{local-used}
+use mathlib.Core.Path.{refl, _∙_}
+use Rattle.judging.proofs.RowsUsed.{index-is, local-used}
 use Rattle.judging.proofs.judge.local.Statement.{statement}
 use Rattle.judging.proofs.judge.local.Tie as tie
 
@@ -22,7 +22,7 @@ returns : tie.Need-returns
 returns c =
     let read = c .before .before .before in
     λ state buffer list Γ i e s assumed few byte below.
-    absurd (omega (arith, read .index-at .ensures i e byte, c .before .before .if1 .taken))
+    absurd (omega (arith, read .index-at .ensures ∙ index-is _ _ i e byte, c .before .before .if1 .taken))
 
 past-requires : tie.Need-past-requires
 past-requires c κs = search needs
