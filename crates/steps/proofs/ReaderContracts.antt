@@ -49,19 +49,15 @@ pub record Answer : Type 2 where
       → Holds (hasTy mir v) × WT v
   pub makes : {M : Type 1} (𝓤 : URA M) (H : Heap 𝓤) (A : Atoms 𝓤) → Given 𝓤 H A → Makes 𝓤 H A type (Is type)
 
--- A byte of which something is said.
-abbrev pub byte-with : (List ℕ → ℕ → ℕ → Type 0) → Answer
-byte-with says = record {
+-- The byte at the place, 0 past the end.
+abbrev pub a-byte : Answer
+a-byte = record {
   type = u8;
   mir = tyInt w8;
-  says = says;
+  says = λ proof at r. r ≡ getD proof at 0;
   typed = λ 𝓤 H A W r v is. uint-lawful 𝓤 H A W w8 .typed r _ is .0;
   makes = λ 𝓤 H A W. uint-makes 𝓤 H A W w8;
 }
-
--- The byte at the place, 0 past the end.
-abbrev pub a-byte : Answer
-a-byte = byte-with (λ proof at r. r ≡ getD proof at 0)
 
 -- The term at the place and the place after it, or none.
 abbrev pub a-term : Answer

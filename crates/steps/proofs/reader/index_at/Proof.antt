@@ -31,7 +31,7 @@ use Rattle.by_hand.proofs.Calls.{answers, hands}
 use Rattle.by_hand.proofs.Clauses.{three-said}
 use Rattle.steps.specs.declared.reader.Reader.{Reader}
 use Rattle.steps.proofs.ReaderOwns.{bytes-of, lent, asks-bytes, asked, together}
-use Rattle.steps.proofs.ReaderContracts.{Answer, byte-with, a-byte, reader-ended, bytes-clauses, reader-clauses, Reads}
+use Rattle.steps.proofs.ReaderContracts.{a-byte, reader-ended, reader-clauses, Reads}
 use Rattle.steps.proofs.ReaderWalks.{answer-ends, bytes-exit, bytes-end, bytes-meet}
 use Rattle.steps.proofs.reader.Reader as T
 use Rattle.steps.proofs.reader.Reader.Laws as T′
@@ -65,10 +65,6 @@ index-there d r b (same, (there, stays)) is =
       | no inside ↦ stands ∙ ap (λ k. getD bytes k 0) (there (omega arith))
     ]
 
--- The byte after the place.
-abbrev an-index : Answer
-an-index = byte-with (λ proof at r. r ≡ getD proof (at + 1) 0)
-
 module _ {M : Type 1} (𝓤 : URA M) (H : Heap 𝓤) (A : Atoms 𝓤) (mem : Memory → SProp 𝓤) (run : Routine → Fun 𝓤) where
   -- The contract of `Reader::past`.
   abbrev Past : Contract 𝓤
@@ -90,7 +86,7 @@ module _ {M : Type 1} (𝓤 : URA M) (H : Heap 𝓤) (A : Atoms 𝓤) (mem : Mem
 
       walk : WT (T′.lowered d)
           → ent 𝓤 (sem 𝓤 H A (asks-bytes κ q d)) (WpFn 𝓤 H (𝓣 .C) (𝓣 .Λ) code.function (bytes-of d ∷ vint w64 (d .at) ∷ [])
-          (bytes-exit 𝓤 H A W (bytes-clauses an-index 𝓤) κ q d tt))
+          (bytes-exit 𝓤 H A W (index.clauses 𝓤 H A mem run) κ q d tt))
       walk wt =
           qed W (‵ (asks-bytes κ q d) ∷ []) ∵ enter ! (𝓣 .C) (𝓣 .Λ) code.function (bytes-of d ∷ vint w64 (d .at) ∷ []) _ $
           alloc1 ! (λ l₀. alloc1 ! (λ l₁. alloc1 ! (λ l₂. alloc1 ! (λ l₃. alloc1 ! (λ l₄. alloc0 ! $ params1 ! $
@@ -114,11 +110,11 @@ module _ {M : Type 1} (𝓤 : URA M) (H : Heap 𝓤) (A : Atoms 𝓤) (mem : Mem
           returns ! (look ! 10 refl) $ forget ! 2 refl $ forget ! 4 refl $ forget ! 6 refl $ forget ! 8 refl $ forget ! 10 refl $
           move ! (10 ∷ 11 ∷ []) $ free1 ! $ move ! (8 ∷ 9 ∷ []) $ free1 ! $ move ! (6 ∷ 7 ∷ []) $ free1 ! $
           move ! (4 ∷ 5 ∷ []) $ free1 ! $ move ! (2 ∷ 3 ∷ []) $ free1 ! $ free0 ! $
-          by ! (answer-ends 𝓤 H A W an-index (lent κ d) b u′ (index-there d r b moved stands) is′
-          (bytes-end 𝓤 H A W (bytes-clauses an-index 𝓤) κ q d tt b u′)))))))))))
+          by ! (answer-ends 𝓤 H A W a-byte (lent κ d) b u′ (index-there d r b moved stands) is′
+          (bytes-end 𝓤 H A W (index.clauses 𝓤 H A mem run) κ q d tt b u′)))))))))))
 
     index-meets : Meets 𝓤 H A index.signature (WpFn 𝓤 H (𝓣 .C) (𝓣 .Λ) code.function) (index.spec 𝓤 H A mem run)
-    index-meets = bytes-meet 𝓤 H A W (bytes-clauses an-index 𝓤) code.function 𝓣 (λ κ q d g. walk κ q d)
+    index-meets = bytes-meet 𝓤 H A W (index.clauses 𝓤 H A mem run) code.function 𝓣 (λ κ q d g. walk κ q d)
 
 pub index-at-spec : {M : Type 1} → stated.statement M
 unfolding code.routine tablesOf
