@@ -1,5 +1,5 @@
 # The commands of the project. `make` builds the program bin/check; `make test` is the one test command.
-.PHONY: program run press test layout kit door test-check test-c test-c-memory no-test-c-memory test-stack
+.PHONY: program run press test layout kit door test-check test-c test-c-memory test-stack
 SHELL := /bin/bash
 .SHELLFLAGS := -euo pipefail -c
 
@@ -62,7 +62,7 @@ test-c: door
 	@$(C) -o bin/door_test tests/c/door_test.c tests/c/model.c $(DOOR)
 	@tests/run_here.sh bin/door_test
 	@bin/door_test
-	@$(MAKE) --no-print-directory $(if $(X86_64),test-c-memory,no-test-c-memory)
+	@$(if $(X86_64),$(MAKE) --no-print-directory test-c-memory,echo "this machine is not x86-64: the sanitizers and valgrind were left out")
 	@$(C) -o bin/stack tests/c/stack.c $(DOOR)
 	@tests/run_here.sh bin/stack
 	@bin/stack
@@ -76,9 +76,6 @@ test-c-memory:
 	@if command -v valgrind > /dev/null; then echo "under valgrind, for reads and writes outside of a buffer:"; \
 	valgrind -q --undef-value-errors=no --error-exitcode=9 bin/door_test 2000; \
 	else echo "no valgrind on this machine: the reads past a buffer's end that it would see were not looked for"; fi
-
-no-test-c-memory:
-	@echo "this machine is not x86-64: the sanitizers and valgrind were left out"
 
 # The program on the deepest proofs that the limits allow, with a stack of 2 MiB and less.
 test-stack: program

@@ -148,18 +148,9 @@ pub fn put_row(rows: &mut [u64], index: usize, row: Row)
     if rows.len() != ALL_NUMBERS {
         return;
     }
-    if index < MOST_ROWS {
-        set_row(rows, index, row);
+    if MOST_ROWS <= index {
+        return;
     }
-}
-
-// Puts a row at an index that the rows have.
-fn set_row(rows: &mut [u64], index: usize, row: Row)
-    requires room { ⌜ length (now rows) ≡ «all-numbers» ⌝ }
-    requires inside { ⌜ index < «most-rows» ⌝ }
-    ensures there { λ _. ⌜ (length (row .judgement .formula .terms .numbers) ≡ «terms-numbers» → «row-in» (now (rows .exit)) index ≡ row) ⌝ }
-    ensures others { λ _. ⌜ ((i : ℕ) → (i ≡ index → ⊥) → «row-in» (now (rows .exit)) i ≡ «row-in» (now (rows .entry)) i) ⌝ }
-{
     let start = index * ROW_NUMBERS;
     let whose = row.whose;
     let judgement = row.judgement;
@@ -190,6 +181,6 @@ pub(crate) fn with_row(rows: &[u64], index: usize, row: Row) -> [u64; ALL_NUMBER
         copy[i] = number_in(rows, i);
         i += 1;
     }
-    set_row(&mut copy, index, row);
+    put_row(&mut copy, index, row);
     copy
 }

@@ -38,17 +38,17 @@ loop-less c = omega arith
 loop-again : tie.Need-loop-again Inv-loop μ-loop
 loop-again c = one-copied _ 0 (omega arith) (rw zero-add (c .number-in .ensures)) (c .before .before .loop .inv)
 
-slice-aggregate-set-row : tie.Need-slice-aggregate-set-row Inv-loop μ-loop
-slice-aggregate-set-row c = sym (c .before .before .loop .inv .room)
+slice-aggregate-put-row : tie.Need-slice-aggregate-put-row Inv-loop μ-loop
+slice-aggregate-put-row c = sym (c .before .before .loop .inv .room)
 
-set-row-requires : tie.Need-set-row-requires Inv-loop μ-loop
-set-row-requires c κs = (c .before .before .loop .inv .room, omega arith)
+put-row-requires : tie.Need-put-row-requires Inv-loop μ-loop
+put-row-requires c κs = tt
 
 returns : tie.Need-returns Inv-loop μ-loop
 returns c =
-    let put = c .before .set-row .ensures in
+    let put = c .before .put-row .ensures in
     let at-loop = c .before .before .before .before in
-    (put .0, λ i below. put .1 i (omega arith) ∙ row-copied _ (at-loop .loop .inv) i (omega arith))
+    (put .0 (at-loop .loop .inv .room) (omega arith), λ i below. put .1 i (omega arith) ∙ row-copied _ (at-loop .loop .inv) i (omega arith))
 
 pub with-row-spec : {M : Type 1} → statement M
 with-row-spec =
@@ -64,6 +64,6 @@ with-row-spec =
     add-i
     loop-less
     loop-again
-    slice-aggregate-set-row
-    set-row-requires
+    slice-aggregate-put-row
+    put-row-requires
     returns)
