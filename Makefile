@@ -1,5 +1,5 @@
 # The commands of the project. `make` builds the program bin/check; `make test` is the one test command.
-.PHONY: program run press test layout kit door test-check test-c test-c-memory test-stack
+.PHONY: program run press test layout kit door archives test-check test-c test-c-memory test-stack test-rust soak fuzz bench bench-instructions
 SHELL := /bin/bash
 .SHELLFLAGS := -euo pipefail -c
 
@@ -9,6 +9,19 @@ C_COMPILER := $(if $(X86_64),$(CC),x86_64-linux-gnu-gcc)
 C := $(C_COMPILER) -std=c11 -Wall -Wextra -Wpedantic -Werror -O2 $(if $(X86_64),,-static)
 C_MISSING := $(if $(shell command -v $(C_COMPILER)),,yes)
 DOOR := target/staticlib/libdoor.a
+
+# Programs of this machine link these: the door, and the crate from_c, which has every call on numbers and byte slices.
+NATIVE := target/native
+CARGO := CARGO_TARGET_DIR=$(CURDIR)/target/rust RATTLE_ARCHIVES=$(CURDIR)/$(NATIVE) cargo
+CARGO_MISSING := $(if $(shell command -v cargo),,yes)
+COMPARE := target/rust/release/compare
+BENCH := target/rust/release/bench
+# The deepest proofs that the limits allow.
+DEEPEST := examples/thirty_assumptions examples/thirty_implications examples/sixteen_facts
+# How many cases `make test` compares, and from which seed; how long `make fuzz` runs.
+CASES ?= 100000
+SEED ?= 1
+FUZZ_SECONDS ?= 60
 
 # The program `check`: every crate below it is proved, and then it is compiled and put at bin/check.
 program: kit
@@ -38,6 +51,7 @@ test: kit layout
 	@$(MAKE) --no-print-directory test-check
 	@$(MAKE) --no-print-directory test-stack
 	@$(MAKE) --no-print-directory test-c
+	@$(MAKE) --no-print-directory test-rust
 	@tail -n 1 bin/proofs.log
 
 # Every source and proof file stands as `rt fmt` would write it.
@@ -58,14 +72,17 @@ ifdef C_MISSING
 test-c:
 	@echo "no $(C_COMPILER) on this machine: the door was not called from C here"
 else
-test-c: door
+test-c: door archives
 	@$(C) -o bin/door_test tests/c/door_test.c tests/c/model.c $(DOOR)
 	@tests/run_here.sh bin/door_test
 	@bin/door_test
 	@$(if $(X86_64),$(MAKE) --no-print-directory test-c-memory,echo "this machine is not x86-64: the sanitizers and valgrind were left out")
-	@$(C) -o bin/stack tests/c/stack.c $(DOOR)
+	@$(C) -o bin/stack tests/c/stack.c tests/c/own_stack.c $(DOOR)
 	@tests/run_here.sh bin/stack
 	@bin/stack
+	@$(C) -o bin/office_stack tests/c/office_stack.c tests/c/own_stack.c tests/c/case_bytes.c target/staticlib/libfrom_c.a
+	@tests/run_here.sh bin/office_stack
+	@bin/office_stack $(DEEPEST:%=%.case)
 endif
 
 # The same under the sanitizers and valgrind, which look at memory and run on x86-64 alone.
@@ -77,9 +94,52 @@ test-c-memory:
 	valgrind -q --undef-value-errors=no --error-exitcode=9 bin/door_test 2000; \
 	else echo "no valgrind on this machine: the reads past a buffer's end that it would see were not looked for"; fi
 
+# The archives of the proved code that programs of this machine can link, plain and with counters for a fuzzer.
+archives: $(NATIVE)/libfrom_c.a $(NATIVE)/libdoor.a
+
+$(NATIVE)/lib%.a: tests/archive_here.sh $(shell find crates -name '*.rt') | kit
+	@mkdir -p bin
+	@tests/archive_here.sh $* > bin/archive_$*.log 2>&1 || { cat bin/archive_$*.log; exit 1; }
+
+# The second implementation: its own tests, and both implementations on the same cases, with the program on some of them.
+ifdef CARGO_MISSING
+test-rust soak bench bench-instructions:
+	@echo "no cargo on this machine: the second implementation was not built, and nothing was compared with it"
+else
+test-rust: program $(COMPARE)
+	@$(CARGO) test --quiet --release --offline --manifest-path tests/rust/Cargo.toml 2>&1 | grep -E "^test result|FAILED|panicked|error"
+	@$(COMPARE) --cases $(CASES) --seed $(SEED) --program bin/check
+
+# The same until it is stopped, with new seeds, which are printed.
+soak: $(COMPARE)
+	@$(COMPARE) --forever
+
+# The proved checker and the second implementation on the same inputs: a table of times and ratios.
+bench: $(BENCH)
+	@$(BENCH)
+
+# The same as instructions for each call, which do not depend on what else the machine does.
+bench-instructions: $(BENCH)
+	@bench/instructions.sh $(BENCH)
+
+$(COMPARE): archives $(shell find tests/rust/src tests/rust/Cargo.toml -type f)
+	@$(CARGO) build --quiet --release --offline --manifest-path tests/rust/Cargo.toml --features archive --bin compare
+
+$(BENCH): archives $(shell find bench tests/rust/src -type f)
+	@$(CARGO) build --quiet --release --offline --manifest-path bench/Cargo.toml
+endif
+
+# A fuzzer on the calls as C makes them, started from the examples: clang's libFuzzer, for a bounded time. What it finds stays in target/fuzz.
+fuzz: archives
+	@mkdir -p target/fuzz/seeds target/fuzz/corpus
+	@$(CC) -O1 -Wall -Wextra -Werror -o target/fuzz/make_seeds tests/fuzz/seeds.c tests/c/case_bytes.c
+	@target/fuzz/make_seeds target/fuzz/seeds examples/*.case examples/*.procap
+	@clang -g -O1 -Wall -Wextra -Werror -fsanitize=fuzzer -o target/fuzz/fuzz tests/fuzz/fuzz.c $(NATIVE)/libfrom_c_covered.a $(NATIVE)/libdoor_covered.a
+	@cd target/fuzz && ./fuzz -max_total_time=$(FUZZ_SECONDS) -max_len=20000 -print_final_stats=1 corpus seeds 2>&1 | grep -E "broken|ERROR|SUMMARY|stat::|^Done|INITED|Test unit written"
+
 # The program on the deepest proofs that the limits allow, with a stack of 2 MiB and less.
 test-stack: program
-	@tests/stack.sh bin/check 2048 examples/thirty_assumptions examples/thirty_implications examples/sixteen_facts
+	@tests/stack.sh bin/check 2048 $(DEEPEST)
 
 # Says what is missing where the Rattle kit is not on the machine.
 kit:

@@ -1,19 +1,13 @@
 /*
- * How much stack the door takes: the call runs on a stack of our own that was filled with a pattern, and what is no longer
- * the pattern afterwards was used. Fails above 64 KiB.
+ * How much stack the door takes. Fails above 64 KiB.
  */
-#define _XOPEN_SOURCE 700
 #include "../../include/procap.h"
+#include "own_stack.h"
 #include <stdio.h>
 #include <string.h>
-#include <ucontext.h>
 
-#define SIZE (256 * 1024)
 #define LIMIT (64 * 1024)
-#define PATTERN 0xa5
 
-static uint8_t stack[SIZE];
-static ucontext_t back, there;
 static char text[2048];
 static size_t text_length;
 static uint8_t state[4096];
@@ -25,32 +19,11 @@ static void ask(void)
     answer = procap_door((uint8_t *)text, text_length, 2, 7, 9, 1500, state, state_length);
 }
 
-static void ask_nothing(void)
-{
-    answer = 0;
-}
-
-/* The bytes of stack that a call leaves marks in. */
-static size_t used_by(void (*call)(void))
-{
-    size_t i = 0;
-    memset(stack, PATTERN, SIZE);
-    getcontext(&there);
-    there.uc_stack.ss_sp = stack;
-    there.uc_stack.ss_size = SIZE;
-    there.uc_link = &back;
-    makecontext(&there, call, 0);
-    swapcontext(&back, &there);
-    while (i < SIZE && stack[i] == PATTERN)
-        i++;
-    return SIZE - i;
-}
-
 /* Prints what one press takes; gives 1 where that is too much or the answer is another. */
 static int measure(const char *name, uint64_t wanted)
 {
-    size_t used = used_by(ask) - used_by(ask_nothing);
-    used_by(ask);
+    size_t used = stack_of(ask);
+    ask();
     printf("stack of the door, %s: %zu bytes\n", name, used);
     return used > LIMIT || answer != wanted;
 }

@@ -114,9 +114,16 @@ fn moment_at(bytes: &[u8], at: usize) -> TermRead
     }
 }
 
-// The number of so many bytes, five at the most, at a place.
+// The number of eight bytes at a place.
+pub fn eight_bytes_at(bytes: &[u8], at: usize) -> NumberRead
+    ensures { λ r. ⌜ NumberReads (number (now (bytes .entry)) 8 at) r ⌝ }
+{
+    number_at(bytes, at, 8)
+}
+
+// The number of so many bytes, eight at the most, at a place.
 fn number_at(bytes: &[u8], at: usize, count: usize) -> NumberRead
-    requires { ⌜ count ≤ 5 ⌝ }
+    requires { ⌜ count ≤ 8 ⌝ }
     ensures reads { λ r. ⌜ NumberReads (number (now (bytes .entry)) count at) r ⌝ }
     ensures bound { λ r. ⌜ AtMostRead (256 ^ count - 1) r ⌝ }
 {

@@ -89,7 +89,7 @@ pub zeros-typed : {M : Type 1} (𝓤 : URA M) (H : Heap 𝓤) (A : Atoms 𝓤) �
 zeros-typed 𝓤 H A W = array-lawful 𝓤 H A W u64 (uint-lawful 𝓤 H A W w64) all-numbers .typed zeros (zeros-val ∷ []) zeros-are .0
 
 -- What a request owns, what lent records own, what a lent buffer owns, and what all the parameters own.
-abbrev Asked : Request → Fml
+abbrev pub Asked : Request → Fml
 Asked rq = Rq.the-row .own rq (request-val rq ∷ [])
 
 abbrev Records : Lft → RefT (List Certificate) → Fml

@@ -1,0 +1,45 @@
+// Records that are lent on to verify and to the direct check.
+use crate::records::LENT_AT_MOST;
+use bl::Certificate;
+use procap::answer::Answer;
+use procap::procap::Request;
+use verifier::verify::Verified;
+use verifier::verify::direct;
+use verifier::verify::verify;
+ghost use mathlib.Core.Path.{_≡_};
+ghost use Prim.Native.Nat.{_≤_};
+ghost use lib.ListN.{take};
+ghost use Rattle.procap.specs.Outcome.{«answer-of»};
+ghost use Rattle.bl.specs.Calls.{verified, directly};
+ghost use Rattle.verifier.specs.Verifying.{HandsOver};
+ghost use Rattle.from_c.specs.Records.{«lent-at-most»};
+
+// What verify answers to the first `count` of the records, which are lent to it.
+pub(crate) fn verify_lent(
+    request: Request,
+    records: [Certificate; LENT_AT_MOST],
+    count: usize,
+    buffer: &[u8],
+    proof: &[u8],
+) -> Verified
+    requires { ⌜ count ≤ «lent-at-most» ⌝ }
+    ensures { λ r. ⌜ HandsOver (verified request (take count records) (now (buffer .entry)) (now (proof .entry))) r ⌝ }
+{
+    verify(request, &records[..count], buffer, proof)
+}
+
+// What the direct check answers to the first `count` of the records, which are lent to it.
+pub(crate) fn direct_lent(
+    request: Request,
+    records: [Certificate; LENT_AT_MOST],
+    count: usize,
+    buffer: &[u8],
+    proof: &[u8],
+    moment: u64,
+    state: &[u8],
+) -> Answer
+    requires { ⌜ count ≤ «lent-at-most» ⌝ }
+    ensures { λ r. ⌜ r ≡ «answer-of» (directly request (take count records) (now (buffer .entry)) (now (proof .entry)) moment (now (state .entry))) ⌝ }
+{
+    direct(request, &records[..count], buffer, proof, moment, state)
+}

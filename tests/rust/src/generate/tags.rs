@@ -1,0 +1,34 @@
+//! The tags of terms, formulas and proof steps.
+
+pub const NAME: u8 = 0x00;
+pub const MOMENT: u8 = 0x01;
+pub const MINUS_INFINITY: u8 = 0x02;
+pub const PLUS_INFINITY: u8 = 0x03;
+pub const CTIME: u8 = 0x04;
+pub const BOUND: u8 = 0x05;
+
+pub const TOP: u8 = 0x10;
+pub const BOTH: u8 = 0x11;
+pub const IMPLIES: u8 = 0x12;
+pub const ALL_NAMES: u8 = 0x13;
+pub const ALL_TIMES: u8 = 0x14;
+pub const SAYS: u8 = 0x15;
+pub const AT: u8 = 0x16;
+pub const ATOM: u8 = 0x17;
+pub const FACT: u8 = 0x18;
+pub const ORDER: u8 = 0x19;
+
+pub const LOCAL: u8 = 0x20;
+pub const CERTIFICATE: u8 = 0x21;
+pub const PAIR: u8 = 0x22;
+pub const FIRST: u8 = 0x23;
+pub const SECOND: u8 = 0x24;
+pub const TRIVIAL: u8 = 0x25;
+pub const APPLY: u8 = 0x26;
+pub const INSTANCE: u8 = 0x27;
+pub const AT_IN: u8 = 0x28;
+pub const AT_OUT: u8 = 0x29;
+pub const SAYS_IN: u8 = 0x2a;
+pub const SAYS_OUT: u8 = 0x2b;
+pub const STATE: u8 = 0x2c;
+pub const COMPARE: u8 = 0x2d;

@@ -1,0 +1,123 @@
+//! The clauses of the rules, by name, and who may watch them being tried.
+
+/// One clause of one rule: a test that can hold or fail.
+#[derive(Clone, Copy, Debug, PartialEq, Eq, PartialOrd, Ord, Hash)]
+pub enum Clause {
+    /// 20: whoever claims the assumption is the principal of the view.
+    ClaimInItsView,
+    /// 20: a plain assumption was made inside of the innermost says-in.
+    PlainFromInside,
+    /// 21: the certificate's principal is the principal of the view.
+    CertificateInItsView,
+    /// 23: a conjunction was inferred.
+    FirstOfConjunction,
+    /// 24: a conjunction was inferred.
+    SecondOfConjunction,
+    /// 26: an implication was inferred.
+    ApplyImplication,
+    /// 26: the step's first time is not before the inferred interval.
+    ApplyNotBefore,
+    /// 26: the step's second time is not after the inferred interval.
+    ApplyNotAfter,
+    /// 27: a for-all was inferred.
+    InstanceForAll,
+    /// 27: the term is of the sort that the for-all ranges over.
+    InstanceSort,
+    /// 22: the goal is a conjunction.
+    PairGoal,
+    /// 25: the goal is top.
+    TopGoal,
+    /// 28: the goal is a formula at an interval.
+    AtInGoal,
+    /// 29: a formula at an interval was inferred.
+    AtOutInferred,
+    /// 2A: in the goal a principal says something.
+    SaysInGoal,
+    /// 2B: in what was inferred a principal says something.
+    SaysOutInferred,
+    /// 2C: the goal is a state fact.
+    StateGoal,
+    /// 2C at the office: the fact is on the list already, or the list has room for it.
+    FactListed,
+    /// 2C at a press: the fact stands in the state.
+    FactStands,
+    /// 2D: the goal is an order of two times.
+    OrderGoal,
+    /// 2D: the goal's first time is not after its second.
+    OrderHolds,
+    /// Comparing: both formulas begin with the same tag.
+    SameKind,
+    /// Comparing: both facts or atoms have the same predicate.
+    SamePredicate,
+    /// Comparing: both facts or atoms have equally many terms.
+    SameCount,
+    /// Comparing: two terms are both names, both times or both variables.
+    SameSort,
+    /// Comparing: two names are the same.
+    SameName,
+    /// Comparing: two variables have the same binder.
+    SameVariable,
+    /// Comparing: the inferred formula's time is not after the goal's.
+    TimeNotAfter,
+    /// Comparing: the goal's time is not after the inferred formula's.
+    TimeNotBefore,
+    /// Comparing: the inferred interval begins no later than the goal's.
+    CoversBeginning,
+    /// Comparing: the goal's interval ends no later than the inferred one.
+    CoversEnd,
+    /// After the walk at the office: some moment is left.
+    MomentLeft,
+}
+
+impl Clause {
+    /// Every clause there is.
+    pub const ALL: &'static [Clause] = &[
+        Clause::ClaimInItsView,
+        Clause::PlainFromInside,
+        Clause::CertificateInItsView,
+        Clause::FirstOfConjunction,
+        Clause::SecondOfConjunction,
+        Clause::ApplyImplication,
+        Clause::ApplyNotBefore,
+        Clause::ApplyNotAfter,
+        Clause::InstanceForAll,
+        Clause::InstanceSort,
+        Clause::PairGoal,
+        Clause::TopGoal,
+        Clause::AtInGoal,
+        Clause::AtOutInferred,
+        Clause::SaysInGoal,
+        Clause::SaysOutInferred,
+        Clause::StateGoal,
+        Clause::FactListed,
+        Clause::FactStands,
+        Clause::OrderGoal,
+        Clause::OrderHolds,
+        Clause::SameKind,
+        Clause::SamePredicate,
+        Clause::SameCount,
+        Clause::SameSort,
+        Clause::SameName,
+        Clause::SameVariable,
+        Clause::TimeNotAfter,
+        Clause::TimeNotBefore,
+        Clause::CoversBeginning,
+        Clause::CoversEnd,
+        Clause::MomentLeft,
+    ];
+}
+
+/// Watches a walk: which clauses were tried and how they came out, which steps and formulas were met.
+pub trait Watch {
+    /// A clause was tried, and held or not.
+    fn clause(&mut self, _clause: Clause, _held: bool) {}
+    /// A step with this tag was walked.
+    fn step(&mut self, _tag: u8) {}
+    /// A formula with this tag was read from a certificate.
+    fn formula(&mut self, _tag: u8) {}
+}
+
+/// Watches nothing.
+pub struct NoWatch;
+
+impl Watch for NoWatch {}

@@ -1,0 +1,153 @@
+//! The generator keeps its promises: same seed, same cases; valid cases are within the limits and mostly issued; valid
+//! and damaged cases together try every clause both ways.
+
+use second_opinion::data::{Case, Time, LATEST};
+use second_opinion::generate::{at_a_limit, damaged, damaged_bytes, input_of, raw, valid, Random};
+use second_opinion::second::{self, Clause, NoWatch, Watch};
+use std::collections::BTreeSet;
+
+/// How many seeds are tried.
+const SEEDS: u64 = 2000;
+
+/// One case of each kind from a seed.
+fn one_of_each(seed: u64) -> [Case; 4] {
+    let mut random = Random::new(seed);
+    let shown = valid(&mut random);
+    let hurt = damaged(&mut random, &shown);
+    [shown, hurt, raw(&mut random), at_a_limit(&mut random)]
+}
+
+/// The number that verify answers a case with.
+fn number(case: &Case, watch: &mut impl Watch) -> u64 {
+    match second::verify(case, watch) {
+        Ok(_) => 0,
+        Err(refusal) => refusal.number,
+    }
+}
+
+/// Whether a record may have the time.
+fn in_range(time: Time) -> bool {
+    match time {
+        Time::Moment(moment) => moment <= LATEST,
+        Time::Ctime => false,
+        _ => true,
+    }
+}
+
+/// What came up in walks.
+#[derive(Default)]
+struct Seen {
+    clauses: BTreeSet<(Clause, bool)>,
+    steps: BTreeSet<u8>,
+    formulas: BTreeSet<u8>,
+    numbers: BTreeSet<u64>,
+}
+
+impl Watch for Seen {
+    fn clause(&mut self, clause: Clause, held: bool) {
+        self.clauses.insert((clause, held));
+    }
+    fn step(&mut self, tag: u8) {
+        self.steps.insert(tag);
+    }
+    fn formula(&mut self, tag: u8) {
+        self.formulas.insert(tag);
+    }
+}
+
+/// What valid and damaged cases must bring up: a full list of facts cannot overflow, and verify asks no state.
+fn wanted() -> Vec<(Clause, bool)> {
+    let mut all = Vec::new();
+    for clause in Clause::ALL {
+        if *clause != Clause::FactStands {
+            all.push((*clause, true));
+        }
+        if !matches!(clause, Clause::FactStands | Clause::FactListed) {
+            all.push((*clause, false));
+        }
+    }
+    all
+}
+
+#[test]
+fn same_seed_same_cases() {
+    for seed in 0..SEEDS {
+        assert_eq!(one_of_each(seed), one_of_each(seed), "seed {seed}");
+    }
+}
+
+#[test]
+fn valid_cases_are_within_the_limits() {
+    for seed in 0..SEEDS {
+        let case = valid(&mut Random::new(seed));
+        assert!(case.proof.len() <= 4096 && case.records.len() <= 32);
+        for record in &case.records {
+            assert!(record.length <= 256 && in_range(record.from) && in_range(record.to));
+            assert!(record.start + record.length <= case.buffer.len() as u64);
+        }
+        let answer = number(&case, &mut NoWatch);
+        assert!(answer != 1 && answer != 2, "seed {seed} gives {answer}");
+    }
+}
+
+#[test]
+fn most_valid_cases_are_issued() {
+    let issued = (0..SEEDS)
+        .filter(|seed| number(&valid(&mut Random::new(*seed)), &mut NoWatch) == 0)
+        .count() as u64;
+    assert!(issued * 10 > SEEDS * 8, "{issued} of {SEEDS}");
+}
+
+#[test]
+fn every_clause_comes_up_both_ways() {
+    let mut seen = Seen::default();
+    for seed in 0..100_000 {
+        let [shown, hurt, ..] = one_of_each(seed);
+        for case in [shown, hurt] {
+            let answer = number(&case, &mut seen);
+            seen.numbers.insert(answer);
+        }
+        if seed % 1000 == 999 && wanted().iter().all(|one| seen.clauses.contains(one)) {
+            break;
+        }
+    }
+    let missing: Vec<_> = (wanted().into_iter())
+        .filter(|one| !seen.clauses.contains(one))
+        .collect();
+    assert!(missing.is_empty(), "{missing:?}");
+    assert!(seen.steps.iter().copied().eq(0x20..=0x2d));
+    assert!(seen.formulas.iter().copied().eq(0x10..=0x19));
+    assert!(seen.numbers.iter().copied().eq(0..=5));
+}
+
+#[test]
+fn damage_changes_something() {
+    for seed in 0..SEEDS {
+        let mut random = Random::new(seed);
+        let case = valid(&mut random);
+        assert_ne!(damaged(&mut random, &case), case);
+        assert_ne!(damaged_bytes(&mut random, &case.proof), case.proof);
+    }
+}
+
+#[test]
+fn inputs_say_their_cases() {
+    let mut said = 0;
+    for seed in 0..SEEDS {
+        for case in one_of_each(seed) {
+            let Some(input) = input_of(&case) else {
+                continue;
+            };
+            said += 1;
+            let printed = match second::verify(&case, &mut NoWatch) {
+                Ok(procap) => second::text_of(&procap).expect("an issued procap has a text"),
+                Err(refusal) => {
+                    let (number, place) = (refusal.number, refusal.place);
+                    format!("refused={number}\nplace={place}\n").into_bytes()
+                }
+            };
+            assert_eq!(second::printed(&input), printed, "seed {seed}");
+        }
+    }
+    assert!(said > SEEDS);
+}
