@@ -34,9 +34,9 @@ use Rattle.judging.specs.declared.walk.Checked.{Checked}
 use Rattle.ledger.specs.Books.{Book, book, Sound, Gives}
 use Rattle.formula.specs.PutIn.{terms-numbers}
 use Rattle.formula.specs.Meaning.{Means, On}
-use Rattle.judging.specs.RowsOf.{row-in, RowIs, is-plain, is-claim, most-rows}
+use Rattle.judging.specs.RowsOf.{row-in, RowIs, is-plain, is-claim, most-rows, all-numbers}
 use Rattle.judging.specs.Judging.{view-in, and-then, sides, TwoSided, and-sides, at-parts, says-parts, top-goal, fact-goal, order-goal, fits-goal, Takes, Yields}
-use Rattle.judging.specs.Walking.{Around, Passes, Infers, Checks, ChecksBy, ChecksAssuming}
+use Rattle.judging.specs.Walking.{Around, Keeps, Passes, Infers, Checks, ChecksBy, ChecksAssuming}
 use Rattle.steps.proofs.StepsRead.{check-read, pair-read, trivial-read, state-read, compare-read, at-in-read, says-in-read, at-out-read, says-out-read, no-check-read, inferred-read, begins-there}
 use Rattle.judging.proofs.StepWalks.{pair-walk, trivial-walk, state-walk, compare-walk, at-in-walk, says-in-walk, at-out-walk, says-out-walk, inferred-walk}
 use Rattle.judging.proofs.Coming.{Comes, comes-taken, comes-inferred, comes-checked, passes-on, passes-halted, passes-then}
@@ -121,13 +121,13 @@ module _ (buffer proof state certificates assumptions : List ℕ) (scope : Scope
   check-full left row next r list′ full cs Γ x N e G sound around is reads means = let room = around .room in absurd (omega arith)
 
   pub check-assuming : (left : ℕ) (row : Row) (more : List ℕ)
-      → (length (row .judgement .formula .terms .numbers) ≡ terms-numbers → row-in more (scope .count) ≡ row)
-      → ((i : ℕ) → i < scope .count → row-in more i ≡ row-in assumptions i)
+      → (length assumptions ≡ all-numbers → scope .count < most-rows → length (row .judgement .formula .terms .numbers) ≡ terms-numbers → row-in more (scope .count) ≡ row)
+      → Keeps (scope .count) assumptions more
       → (next : ℕ) (r : Checked) (list′ : List ℕ)
       → Checks buffer proof state certificates more (record { count = scope .count + 1; shut = scope .shut; view = scope .view }) ledger list left goal-bytes goal next r list′
       → ChecksAssuming buffer proof state certificates assumptions scope ledger list left goal-bytes goal row next r list′
-  check-assuming left row more there others next r list′ checks cs Γ x N e G sound around is reads means =
-      checks cs (x ∷ Γ) N e sound (around-more buffer certificates assumptions scope left cs Γ around more row x is there others) (rw (add-one (scope .count)) reads) G means
+  check-assuming left row more there keeps next r list′ checks cs Γ x N e G sound around is reads means =
+      checks cs (x ∷ Γ) N e sound (around-more buffer certificates assumptions scope left cs Γ around more row x is there keeps) (rw (add-one (scope .count)) reads) G means
 
   module _ (left at : ℕ) where
     -- The step here, by its tag.

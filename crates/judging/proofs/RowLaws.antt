@@ -142,12 +142,6 @@ rows-alike xs ys i j same =
       };
     }
 
--- A row of which all numbers are copied is the same.
-pub row-copied : (rows : List ℕ) {n : ℕ} {copy : List ℕ} {i : ℕ} → Copied rows 0 n copy i → (j : ℕ) → j * row-numbers + row-numbers ≤ i
-    → row-in copy j ≡ row-in rows j
-row-copied rows {copy = copy} c j below =
-    rows-alike copy rows j j (λ k inside. c .same (j * row-numbers + k) (omega arith) ∙ ap (λ m. getD rows m 0) (zero-add (j * row-numbers + k)))
-
 -- Whose a row is, by its first number.
 module _ (rows : List ℕ) (at : ℕ) {kind : ℕ} (e : kind ≡ getD rows at 0) where
   pub whose-plain : kind ≡ 0 → Plain ≡ whose-in rows at

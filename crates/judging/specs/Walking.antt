@@ -1,5 +1,5 @@
 -- What the walk over the bytes promises: the walk of the tree that the bytes read as.
-use Prim.Native.Nat.{ℕ, suc, _+_, _≤_}
+use Prim.Native.Nat.{ℕ, suc, _+_, _≤_, _<_}
 use mathlib.Core.Path.{_≡_}
 use mathlib.Core.List.{List, _∷_}
 use mathlib.Core.Option.{some}
@@ -22,15 +22,21 @@ use Rattle.judging.specs.declared.judge.Inferred.{Inferred}
 use Rattle.judging.specs.declared.walk.Checked.{Checked}
 use Rattle.ledger.specs.Books.{Book, book, Sound, Gives}
 use Rattle.formula.specs.Meaning.{Means}
-use Rattle.judging.specs.RowsOf.{RowIs, Assumed, Certified}
+use Rattle.judging.specs.RowsOf.{RowIs, Assumed, Certified, row-in, all-numbers}
 use Rattle.judging.specs.Judging.{view-in, Yields}
 
--- What stands around a step: rows that are the certificates cs and the assumptions Γ, none shut out that is yet to come, with room for one more at each level left.
+-- What stands around a step: rows that are the certificates cs and the assumptions Γ, none shut out that is yet to come, with room for one more at each level left, in as many numbers as all rows take.
 pub record Around (buffer certificates assumptions : List ℕ) (scope : Scope) (left : ℕ) (cs : List Statement) (Γ : List Assumption) : Type 0 where
   pub certified : Certified buffer certificates cs
   pub assumed : Assumed buffer assumptions (scope .shut) (scope .count) Γ
   pub shut-inside : scope .shut ≤ scope .count
   pub room : scope .count + left ≤ most-proof-levels
+  pub all-there : length assumptions ≡ all-numbers
+
+-- The rows below a count are as they were, and as many numbers are there.
+pub record Keeps (count : ℕ) (before after : List ℕ) : Type 0 where
+  pub rows : (i : ℕ) → i < count → row-in after i ≡ row-in before i
+  pub all : length after ≡ length before
 
 -- The walk w, from the book b, was passed or stopped, and its step ends at e.
 pub record Passes (state : List ℕ) (b : Book) (w : Test) (e : ℕ) (r : Checked) (list : List ℕ) : Type 0 where

@@ -167,20 +167,3 @@ pub fn put_row(rows: &mut [u64], index: usize, row: Row)
     put_two(rows, start + 6, formula.at as u64, terms.count as u64);
     put_numbers(rows, start + 8, numbers);
 }
-
-// A copy of the rows below an index, with this row put there.
-pub(crate) fn with_row(rows: &[u64], index: usize, row: Row) -> [u64; ALL_NUMBERS]
-    requires { ⌜ index < «most-rows» ⌝ }
-    ensures there { λ r. ⌜ (length (row .judgement .formula .terms .numbers) ≡ «terms-numbers» → «row-in» r index ≡ row) ⌝ }
-    ensures others { λ r. ⌜ ((i : ℕ) → i < index → «row-in» r i ≡ «row-in» (now (rows .entry)) i) ⌝ }
-{
-    let mut copy = [0u64; ALL_NUMBERS];
-    let end = index * ROW_NUMBERS;
-    let mut i: usize = 0;
-    while i < end {
-        copy[i] = number_in(rows, i);
-        i += 1;
-    }
-    put_row(&mut copy, index, row);
-    copy
-}

@@ -19,7 +19,7 @@ use crate::judge::within;
 use crate::rows::MOST_ROWS;
 use crate::rows::Row;
 use crate::rows::Whose;
-use crate::rows::with_row;
+use crate::rows::put_row;
 use bl::CheckTag;
 use bl::FormulaTag;
 use bl::InferTag;
@@ -37,7 +37,7 @@ ghost use Rattle.bl.specs.Walk as walk;
 ghost use Rattle.ledger.specs.Books.{Book};
 ghost use Rattle.formula.specs.Meaning.{Means};
 ghost use Rattle.judging.specs.Judging.{Yields, «fits-goal», «and-then»};
-ghost use Rattle.judging.specs.Walking.{Passes, Infers, InfersBy, Checks, ChecksBy, ChecksAssuming};
+ghost use Rattle.judging.specs.Walking.{Keeps, Passes, Infers, InfersBy, Checks, ChecksBy, ChecksAssuming};
 
 // What a step that checks leaves: the ledger, and where it ends. Where the ledger has stopped, the end says nothing.
 pub struct Checked {
@@ -52,13 +52,14 @@ pub(crate) fn infer(
     state: &[u8],
     certificates: &[u64],
     facts: &mut [u64],
-    assumptions: &[u64],
+    assumptions: &mut [u64],
     scope: Scope,
     at: usize,
     ledger: Ledger,
     left: u64,
 ) -> Inferred
-    ensures { λ r. ⌜ Infers (now (buffer .entry)) (now (proof .entry)) (now (state .entry)) (now (certificates .entry)) (now (assumptions .entry)) scope ledger (now (facts .entry)) left at r (now (facts .exit)) ⌝ }
+    ensures walks { λ r. ⌜ Infers (now (buffer .entry)) (now (proof .entry)) (now (state .entry)) (now (certificates .entry)) (now (assumptions .entry)) scope ledger (now (facts .entry)) left at r (now (facts .exit)) ⌝ }
+    ensures keeps { λ _. ⌜ Keeps (scope .count) (now (assumptions .entry)) (now (assumptions .exit)) ⌝ }
 {
     if left == 0 {
         return nothing(ledger.misfit(at));
@@ -137,13 +138,14 @@ fn apply(
     state: &[u8],
     certificates: &[u64],
     facts: &mut [u64],
-    assumptions: &[u64],
+    assumptions: &mut [u64],
     scope: Scope,
     at: usize,
     ledger: Ledger,
     left: u64,
 ) -> Inferred
-    ensures { λ r. ⌜ InfersBy (now (buffer .entry)) (now (proof .entry)) (now (state .entry)) (now (certificates .entry)) (now (assumptions .entry)) scope ledger (now (facts .entry)) left InferTag.ApplyTag at r (now (facts .exit)) ⌝ }
+    ensures walks { λ r. ⌜ InfersBy (now (buffer .entry)) (now (proof .entry)) (now (state .entry)) (now (certificates .entry)) (now (assumptions .entry)) scope ledger (now (facts .entry)) left InferTag.ApplyTag at r (now (facts .exit)) ⌝ }
+    ensures keeps { λ _. ⌜ Keeps (scope .count) (now (assumptions .entry)) (now (assumptions .exit)) ⌝ }
 {
     let inferred = infer(
         buffer,
@@ -197,7 +199,7 @@ pub fn check(
     state: &[u8],
     certificates: &[u64],
     facts: &mut [u64],
-    assumptions: &[u64],
+    assumptions: &mut [u64],
     goal_bytes: &[u8],
     scope: Scope,
     goal: Judgement,
@@ -205,7 +207,8 @@ pub fn check(
     ledger: Ledger,
     left: u64,
 ) -> Checked
-    ensures { λ r. ⌜ Checks (now (buffer .entry)) (now (proof .entry)) (now (state .entry)) (now (certificates .entry)) (now (assumptions .entry)) scope ledger (now (facts .entry)) left (now («goal_bytes» .entry)) goal at r (now (facts .exit)) ⌝ }
+    ensures walks { λ r. ⌜ Checks (now (buffer .entry)) (now (proof .entry)) (now (state .entry)) (now (certificates .entry)) (now (assumptions .entry)) scope ledger (now (facts .entry)) left (now («goal_bytes» .entry)) goal at r (now (facts .exit)) ⌝ }
+    ensures keeps { λ _. ⌜ Keeps (scope .count) (now (assumptions .entry)) (now (assumptions .exit)) ⌝ }
 {
     if left == 0 {
         return Checked {
@@ -348,7 +351,7 @@ fn pair(
     state: &[u8],
     certificates: &[u64],
     facts: &mut [u64],
-    assumptions: &[u64],
+    assumptions: &mut [u64],
     goal_bytes: &[u8],
     scope: Scope,
     goal: Judgement,
@@ -356,7 +359,8 @@ fn pair(
     ledger: Ledger,
     left: u64,
 ) -> Checked
-    ensures { λ r. ⌜ ChecksBy (now (buffer .entry)) (now (proof .entry)) (now (state .entry)) (now (certificates .entry)) (now (assumptions .entry)) scope ledger (now (facts .entry)) left CheckTag.PairTag (now («goal_bytes» .entry)) goal at r (now (facts .exit)) ⌝ }
+    ensures walks { λ r. ⌜ ChecksBy (now (buffer .entry)) (now (proof .entry)) (now (state .entry)) (now (certificates .entry)) (now (assumptions .entry)) scope ledger (now (facts .entry)) left CheckTag.PairTag (now («goal_bytes» .entry)) goal at r (now (facts .exit)) ⌝ }
+    ensures keeps { λ _. ⌜ Keeps (scope .count) (now (assumptions .entry)) (now (assumptions .exit)) ⌝ }
 {
     let parts = sides_of(goal_bytes, at, FormulaTag::AndTag, goal, ledger);
     let after_parts = parts.ledger;
@@ -409,7 +413,7 @@ fn at_in(
     state: &[u8],
     certificates: &[u64],
     facts: &mut [u64],
-    assumptions: &[u64],
+    assumptions: &mut [u64],
     goal_bytes: &[u8],
     scope: Scope,
     goal: Judgement,
@@ -417,7 +421,8 @@ fn at_in(
     ledger: Ledger,
     left: u64,
 ) -> Checked
-    ensures { λ r. ⌜ ChecksBy (now (buffer .entry)) (now (proof .entry)) (now (state .entry)) (now (certificates .entry)) (now (assumptions .entry)) scope ledger (now (facts .entry)) left CheckTag.AtInTag (now («goal_bytes» .entry)) goal at r (now (facts .exit)) ⌝ }
+    ensures walks { λ r. ⌜ ChecksBy (now (buffer .entry)) (now (proof .entry)) (now (state .entry)) (now (certificates .entry)) (now (assumptions .entry)) scope ledger (now (facts .entry)) left CheckTag.AtInTag (now («goal_bytes» .entry)) goal at r (now (facts .exit)) ⌝ }
+    ensures keeps { λ _. ⌜ Keeps (scope .count) (now (assumptions .entry)) (now (assumptions .exit)) ⌝ }
 {
     let inside = lifted(goal_bytes, at, goal, ledger);
     let after_inside = inside.ledger;
@@ -451,7 +456,7 @@ fn at_out(
     state: &[u8],
     certificates: &[u64],
     facts: &mut [u64],
-    assumptions: &[u64],
+    assumptions: &mut [u64],
     goal_bytes: &[u8],
     scope: Scope,
     goal: Judgement,
@@ -459,7 +464,8 @@ fn at_out(
     ledger: Ledger,
     left: u64,
 ) -> Checked
-    ensures { λ r. ⌜ ChecksBy (now (buffer .entry)) (now (proof .entry)) (now (state .entry)) (now (certificates .entry)) (now (assumptions .entry)) scope ledger (now (facts .entry)) left CheckTag.AtOutTag (now («goal_bytes» .entry)) goal at r (now (facts .exit)) ⌝ }
+    ensures walks { λ r. ⌜ ChecksBy (now (buffer .entry)) (now (proof .entry)) (now (state .entry)) (now (certificates .entry)) (now (assumptions .entry)) scope ledger (now (facts .entry)) left CheckTag.AtOutTag (now («goal_bytes» .entry)) goal at r (now (facts .exit)) ⌝ }
+    ensures keeps { λ _. ⌜ Keeps (scope .count) (now (assumptions .entry)) (now (assumptions .exit)) ⌝ }
 {
     let inferred = infer(
         buffer,
@@ -519,7 +525,7 @@ fn says_in(
     state: &[u8],
     certificates: &[u64],
     facts: &mut [u64],
-    assumptions: &[u64],
+    assumptions: &mut [u64],
     goal_bytes: &[u8],
     scope: Scope,
     goal: Judgement,
@@ -527,7 +533,8 @@ fn says_in(
     ledger: Ledger,
     left: u64,
 ) -> Checked
-    ensures { λ r. ⌜ ChecksBy (now (buffer .entry)) (now (proof .entry)) (now (state .entry)) (now (certificates .entry)) (now (assumptions .entry)) scope ledger (now (facts .entry)) left CheckTag.SaysInTag (now («goal_bytes» .entry)) goal at r (now (facts .exit)) ⌝ }
+    ensures walks { λ r. ⌜ ChecksBy (now (buffer .entry)) (now (proof .entry)) (now (state .entry)) (now (certificates .entry)) (now (assumptions .entry)) scope ledger (now (facts .entry)) left CheckTag.SaysInTag (now («goal_bytes» .entry)) goal at r (now (facts .exit)) ⌝ }
+    ensures keeps { λ _. ⌜ Keeps (scope .count) (now (assumptions .entry)) (now (assumptions .exit)) ⌝ }
 {
     let inside = said(goal_bytes, at, goal, ledger);
     let after_inside = inside.ledger;
@@ -566,7 +573,7 @@ fn says_out(
     state: &[u8],
     certificates: &[u64],
     facts: &mut [u64],
-    assumptions: &[u64],
+    assumptions: &mut [u64],
     goal_bytes: &[u8],
     scope: Scope,
     goal: Judgement,
@@ -574,7 +581,8 @@ fn says_out(
     ledger: Ledger,
     left: u64,
 ) -> Checked
-    ensures { λ r. ⌜ ChecksBy (now (buffer .entry)) (now (proof .entry)) (now (state .entry)) (now (certificates .entry)) (now (assumptions .entry)) scope ledger (now (facts .entry)) left CheckTag.SaysOutTag (now («goal_bytes» .entry)) goal at r (now (facts .exit)) ⌝ }
+    ensures walks { λ r. ⌜ ChecksBy (now (buffer .entry)) (now (proof .entry)) (now (state .entry)) (now (certificates .entry)) (now (assumptions .entry)) scope ledger (now (facts .entry)) left CheckTag.SaysOutTag (now («goal_bytes» .entry)) goal at r (now (facts .exit)) ⌝ }
+    ensures keeps { λ _. ⌜ Keeps (scope .count) (now (assumptions .entry)) (now (assumptions .exit)) ⌝ }
 {
     let inferred = infer(
         buffer,
@@ -634,7 +642,7 @@ fn assuming(
     state: &[u8],
     certificates: &[u64],
     facts: &mut [u64],
-    assumptions: &[u64],
+    assumptions: &mut [u64],
     goal_bytes: &[u8],
     scope: Scope,
     goal: Judgement,
@@ -644,7 +652,8 @@ fn assuming(
     ledger: Ledger,
     left: u64,
 ) -> Checked
-    ensures { λ r. ⌜ ChecksAssuming (now (buffer .entry)) (now (proof .entry)) (now (state .entry)) (now (certificates .entry)) (now (assumptions .entry)) scope ledger (now (facts .entry)) left (now («goal_bytes» .entry)) goal row next r (now (facts .exit)) ⌝ }
+    ensures walks { λ r. ⌜ ChecksAssuming (now (buffer .entry)) (now (proof .entry)) (now (state .entry)) (now (certificates .entry)) (now (assumptions .entry)) scope ledger (now (facts .entry)) left (now («goal_bytes» .entry)) goal row next r (now (facts .exit)) ⌝ }
+    ensures keeps { λ _. ⌜ Keeps (scope .count) (now (assumptions .entry)) (now (assumptions .exit)) ⌝ }
 {
     let count = scope.count;
     let view = scope.view;
@@ -654,7 +663,7 @@ fn assuming(
             next: at,
         };
     }
-    let more = with_row(assumptions, count, row);
+    put_row(assumptions, count, row);
     let inner = Scope {
         count: count + 1,
         shut: scope.shut,
@@ -666,7 +675,7 @@ fn assuming(
         state,
         certificates,
         facts,
-        &more,
+        assumptions,
         goal_bytes,
         inner,
         goal,

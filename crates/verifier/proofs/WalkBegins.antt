@@ -24,7 +24,7 @@ use Rattle.judging.specs.declared.walk.Checked.{Checked}
 use Rattle.ledger.specs.Books.{book, list-numbers, Sound, facts-in, kept-of, reading-of, unless-stopped, resume}
 use Rattle.formula.specs.PutIn.{no-terms}
 use Rattle.formula.specs.Meaning.{Means}
-use Rattle.judging.specs.RowsOf.{Assumed}
+use Rattle.judging.specs.RowsOf.{Assumed, all-numbers}
 use Rattle.judging.specs.Judging.{view-in}
 use Rattle.judging.specs.Walking.{Around, Checks}
 use Rattle.verifier.specs.Verifying.{Walked}
@@ -49,21 +49,23 @@ outermost = record { count = 0; shut = 0; view = NoView }
 abbrev goal-on-ctime : Judgement
 goal-on-ctime = record { formula = record { at = 0; terms = no-terms }; from = Ctime; to = Ctime }
 
-walk-of-goal : (r : Request) (buffer proof state rows empty goal-bytes : List ℕ) (reading : Reading) (list : List ℕ) (c : Checked) (list′ : List ℕ)
+walk-of-goal : (r : Request) (buffer proof state rows assumptions goal-bytes : List ℕ) (reading : Reading) (list : List ℕ) (c : Checked) (list′ : List ℕ)
+    → length assumptions ≡ all-numbers
     → Means goal-bytes 0 (record { at = 0; terms = no-terms }) (goal r)
-    → Checks buffer proof state rows empty outermost (begun reading) list most-proof-levels goal-bytes goal-on-ctime 0 c list′
+    → Checks buffer proof state rows assumptions outermost (begun reading) list most-proof-levels goal-bytes goal-on-ctime 0 c list′
     → Walked r buffer proof state rows reading list (c .ledger) list′
 unfolding Assumed walk view-in
-walk-of-goal r buffer proof state rows empty goal-bytes reading list c list′ means checks cs N room certified reads =
-    let around : Around buffer rows empty outermost most-proof-levels cs [] = record { certified = certified; assumed = tt; shut-inside = omega arith; room = omega arith } in
+walk-of-goal r buffer proof state rows assumptions goal-bytes reading list c list′ all-there means checks cs N room certified reads =
+    let around : Around buffer rows assumptions outermost most-proof-levels cs [] = record { certified = certified; assumed = tt; shut-inside = omega arith; room = omega arith; all-there = all-there } in
     let passes = checks cs [] N (length proof) (begun-sound reading list room) around (proof-step (length cs) proof N reads) (goal r) means in
     (passes .gives .sound, passes .gives .resumed ∙ begun-resumes state list reading r cs N)
 
 -- So the walk from the goal of a request, with the ledger at its start, is the walk of the proof.
-pub walk-of-request : (r : Request) (buffer proof state rows empty goal-bytes : List ℕ) (reading : Reading) (list : List ℕ) (c : Checked) (list′ : List ℕ) (l : Ledger) (j : Judgement)
+pub walk-of-request : (r : Request) (buffer proof state rows assumptions goal-bytes : List ℕ) (reading : Reading) (list : List ℕ) (c : Checked) (list′ : List ℕ) (l : Ledger) (j : Judgement)
     → l ≡ begun reading → j ≡ goal-on-ctime
+    → length assumptions ≡ all-numbers
     → Means goal-bytes 0 (record { at = 0; terms = no-terms }) (goal r)
-    → Checks buffer proof state rows empty outermost l list most-proof-levels goal-bytes j 0 c list′
+    → Checks buffer proof state rows assumptions outermost l list most-proof-levels goal-bytes j 0 c list′
     → Walked r buffer proof state rows reading list (c .ledger) list′
-walk-of-request r buffer proof state rows empty goal-bytes reading list c list′ l j is-begun is-goal means checks =
-    walk-of-goal r buffer proof state rows empty goal-bytes reading list c list′ means (rw (is-begun, is-goal) at checks)
+walk-of-request r buffer proof state rows assumptions goal-bytes reading list c list′ l j is-begun is-goal all-there means checks =
+    walk-of-goal r buffer proof state rows assumptions goal-bytes reading list c list′ all-there means (rw (is-begun, is-goal) at checks)

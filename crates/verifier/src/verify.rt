@@ -236,7 +236,7 @@ fn walked(
         shut: 0,
         view: View::NoView,
     };
-    let none = [0u64; 1];
+    let mut assumptions = [0u64; ALL_NUMBERS];
     let ledger = Ledger::begin(reading);
     let checked = check(
         buffer,
@@ -244,7 +244,7 @@ fn walked(
         state,
         certificates,
         facts,
-        &none,
+        &mut assumptions,
         &bytes,
         scope,
         goal,

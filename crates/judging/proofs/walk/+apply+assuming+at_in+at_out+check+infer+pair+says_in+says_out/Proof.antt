@@ -1,4 +1,5 @@
 -- The walk over a proof, in one cycle of calls: each answer is a law of Inferring or Checking, over what the calls before it promise.
+-- Each call keeps the rows below its count, so what stood around the first call of a step stands around its second.
 -- What falls at each call is the levels left, and at the same level a rank: an inferring step, a checking step, an assumption more, one step's own function.
 use Prim.Native.Nat.{ℕ, _<_}
 use borrow.Fn.Kinds.{In}
@@ -45,7 +46,7 @@ use Rattle.judging.proofs.judge.state_fact.Reads as state-fact-reads
 use Rattle.judging.proofs.judge.top.Reads as top-reads
 use Rattle.ledger.proofs.Ledger.goes_on.Reads as goes-on-reads
 use Rattle.ledger.proofs.Ledger.misfit.Reads as misfit-reads
-use Rattle.judging.proofs.rows.with_row.Reads as with-row-reads
+use Rattle.judging.proofs.rows.put_row.Reads as put-row-reads
 use Rattle.procap.proofs.bytes.past.Reads as past-reads
 use Rattle.steps.proofs.check_tag_at.Reads as check-tag-at-reads
 use Rattle.steps.proofs.infer_tag_at.Reads as infer-tag-at-reads
@@ -63,6 +64,8 @@ use native.Mathlib.Omega.{arith}
 use borrow.Author.Needs.{needs}
 use Rattle.procap.proofs.Telling.{holds-else, fails-where}
 use Rattle.judging.proofs.Checking.{check-none, check-tagged, check-inferred, check-no-tag, check-trivial, check-state, check-order, check-pair-unfit, check-pair-stopped, check-pair, check-at-in-unfit, check-at-in, check-says-in-unfit, check-says-in, check-full, check-assuming, check-at-out-stopped, check-at-out-unfit, check-at-out, check-says-out-stopped, check-says-out-unfit, check-says-out}
+use Rattle.judging.specs.Walking.{Keeps}
+use Rattle.judging.proofs.Surroundings.{keeps-same, keeps-then, keeps-put, checks-kept, assuming-kept}
 use Rattle.judging.proofs.Inferring.{infer-none, infer-tagged, infer-local, infer-certificate, infer-no-tag, infer-first, infer-second, infer-instance, infer-apply-stopped, infer-apply-unused, infer-apply}
 
 abbrev μ-apply : Measures 6 apply-kinds.ps ℕ
@@ -152,8 +155,8 @@ abbrev assuming-calls : ℕ → assuming-lts.Claims
 assuming-calls t = (
   misfit-reads.Asked,
   misfit-reads.Learnt,
-  with-row-reads.Asked,
-  with-row-reads.Learnt,
+  put-row-reads.Asked,
+  put-row-reads.Learnt,
   check-below t,
   check.Post,
 )
@@ -308,12 +311,17 @@ apply-goes-on-requires t c κs = search needs
 apply-same-length : (t : ℕ) → apply-lts.Need-same-length (apply-calls t) (apply-at t) apply.Post
 apply-same-length t c = search needs
 
+apply-same-length-2 : (t : ℕ) → apply-lts.Need-same-length-2 (apply-calls t) (apply-at t) apply.Post
+apply-same-length-2 t c = search needs
+
 apply-returns : (t : ℕ) → apply-lts.Need-returns (apply-calls t) (apply-at t) apply.Post
 apply-returns t c =
     let after-goes-on = c .before in
-    let after-infer = after-goes-on .before .before .before .before in
-    let after-past = after-infer .before in
-    infer-apply-stopped _ _ _ _ _ _ _ _ _ _ _ (after-past .past .ensures .0) _ _ (after-infer .infer .ensures) (fails-where (after-goes-on .goes-on .result) (c .if1 .taken) (after-goes-on .goes-on .ensures))
+    let after-infer = after-goes-on .before .before .before .before .before .before in
+    let after-past = after-infer .before in (
+      infer-apply-stopped _ _ _ _ _ _ _ _ _ _ _ (after-past .past .ensures .0) _ _ (after-infer .infer .ensures .0) (fails-where (after-goes-on .goes-on .result) (c .if1 .taken) (after-goes-on .goes-on .ensures)),
+      after-infer .infer .ensures .1,
+    )
 
 apply-put-to-use-requires : (t : ℕ) → apply-lts.Need-put-to-use-requires (apply-calls t) (apply-at t) apply.Post
 apply-put-to-use-requires t c κs = search needs
@@ -324,8 +332,11 @@ apply-goes-on-requires-2 t c κs = search needs
 apply-nothing-requires : (t : ℕ) → apply-lts.Need-nothing-requires (apply-calls t) (apply-at t) apply.Post
 apply-nothing-requires t c κs = search needs
 
-apply-same-length-2 : (t : ℕ) → apply-lts.Need-same-length-2 (apply-calls t) (apply-at t) apply.Post
-apply-same-length-2 t c = search needs
+apply-same-length-3 : (t : ℕ) → apply-lts.Need-same-length-3 (apply-calls t) (apply-at t) apply.Post
+apply-same-length-3 t c = search needs
+
+apply-same-length-4 : (t : ℕ) → apply-lts.Need-same-length-4 (apply-calls t) (apply-at t) apply.Post
+apply-same-length-4 t c = search needs
 
 apply-returns-2 : (t : ℕ) → apply-lts.Need-returns-2 (apply-calls t) (apply-at t) apply.Post
 apply-returns-2 t c =
@@ -334,50 +345,61 @@ apply-returns-2 t c =
     let after-put-to-use = after-goes-on2 .before .before in
     let after-if1 = after-put-to-use .before in
     let after-goes-on = after-if1 .before in
-    let after-infer = after-goes-on .before .before .before .before in
-    let after-past = after-infer .before in
-    infer-apply-unused _ _ _ _ _ _ _ _ _ _ _ (after-past .past .ensures .0) _ _ (after-infer .infer .ensures) (holds-else (after-goes-on .goes-on .result) (after-if1 .if1 .left) (after-goes-on .goes-on .ensures))
-    _ (after-put-to-use .put-to-use .ensures) _ (c .nothing .ensures) (fails-where (after-goes-on2 .goes-on2 .result) (after-if2 .if2 .taken) (after-goes-on2 .goes-on2 .ensures))
+    let after-infer = after-goes-on .before .before .before .before .before .before in
+    let after-past = after-infer .before in (
+      infer-apply-unused _ _ _ _ _ _ _ _ _ _ _ (after-past .past .ensures .0) _ _ (after-infer .infer .ensures .0) (holds-else (after-goes-on .goes-on .result) (after-if1 .if1 .left) (after-goes-on .goes-on .ensures))
+          _ (after-put-to-use .put-to-use .ensures) _ (c .nothing .ensures) (fails-where (after-goes-on2 .goes-on2 .result) (after-if2 .if2 .taken) (after-goes-on2 .goes-on2 .ensures)),
+      after-infer .infer .ensures .1,
+    )
 
 apply-check-requires : (t : ℕ) → apply-lts.Need-check-requires (apply-calls t) (apply-at t) apply.Post
 apply-check-requires t c κs =
-    let start = c .before .before .before .before .before .before .before .before .before .before .before .before .before .before .before
-    .before .before .before .before .before .before in
+    let start = c .before .before .before .before .before .before .before .before .before .before .before .before .before .before .before .before .before .before .before .before .before .before .before .before .before in
     (omega (arith, start .pre .0), tt)
 
-apply-same-length-3 : (t : ℕ) → apply-lts.Need-same-length-3 (apply-calls t) (apply-at t) apply.Post
-apply-same-length-3 t c = search needs
+apply-same-length-5 : (t : ℕ) → apply-lts.Need-same-length-5 (apply-calls t) (apply-at t) apply.Post
+apply-same-length-5 t c =
+    let after-check = c .before .before .before .before .before in
+    let after-infer = after-check .before .before .before .before .before .before .before .before .before .before .before .before .before .before .before .before in
+    after-check .check .kept .1 .1 .1 .1 .0 ∙ after-infer .infer .kept .1 .1 .1 .1 .0
+
+apply-same-length-6 : (t : ℕ) → apply-lts.Need-same-length-6 (apply-calls t) (apply-at t) apply.Post
+apply-same-length-6 t c =
+    let after-check = c .before .before .before .before .before in
+    let after-infer = after-check .before .before .before .before .before .before .before .before .before .before .before .before .before .before .before .before in
+    after-check .check .kept .1 .1 .1 .1 .1 .0 ∙ after-infer .infer .kept .1 .1 .1 .1 .1 .0
 
 apply-returns-3 : (t : ℕ) → apply-lts.Need-returns-3 (apply-calls t) (apply-at t) apply.Post
 apply-returns-3 t c =
-    let after-check = c .before .before .before in
-    let after-if2 = after-check .before .before .before .before in
+    let after-check = c .before .before .before .before .before in
+    let after-if2 = after-check .before .before .before .before .before in
     let after-goes-on2 = after-if2 .before in
     let after-put-to-use = after-goes-on2 .before .before in
     let after-if1 = after-put-to-use .before in
     let after-goes-on = after-if1 .before in
-    let after-infer = after-goes-on .before .before .before .before in
-    let after-past = after-infer .before in
-    infer-apply _ _ _ _ _ _ _ _ _ _ _ (after-past .past .ensures .0) _ _ (after-infer .infer .ensures) (holds-else (after-goes-on .goes-on .result) (after-if1 .if1 .left) (after-goes-on .goes-on .ensures))
-    _ (after-put-to-use .put-to-use .ensures) (holds-else (after-goes-on2 .goes-on2 .result) (after-if2 .if2 .left) (after-goes-on2 .goes-on2 .ensures))
-    _ _ (after-check .check .ensures)
+    let after-infer = after-goes-on .before .before .before .before .before .before in
+    let after-past = after-infer .before in (
+      infer-apply _ _ _ _ _ _ _ _ _ _ _ (after-past .past .ensures .0) _ _ (after-infer .infer .ensures .0) (holds-else (after-goes-on .goes-on .result) (after-if1 .if1 .left) (after-goes-on .goes-on .ensures))
+          _ (after-put-to-use .put-to-use .ensures) (holds-else (after-goes-on2 .goes-on2 .result) (after-if2 .if2 .left) (after-goes-on2 .goes-on2 .ensures))
+          _ _ (checks-kept _ _ _ _ _ _ _ _ _ _ _ _ (after-infer .infer .ensures .1) _ _ _ (after-check .check .ensures .0)),
+      keeps-then (after-infer .infer .ensures .1) (after-check .check .ensures .1),
+    )
 
 assuming-misfit-requires : (t : ℕ) → assuming-lts.Need-misfit-requires (assuming-calls t) (assuming-at t) assuming.Post
 assuming-misfit-requires t c κs = search needs
 
 assuming-returns : (t : ℕ) → assuming-lts.Need-returns (assuming-calls t) (assuming-at t) assuming.Post
 assuming-returns t c =
-    let after-if1 = c .before in
-    check-full _ _ _ _ _ _ _ _ _ _ _ _ _ _ _ (after-if1 .if1 .taken)
+    let after-if1 = c .before in (
+      check-full _ _ _ _ _ _ _ _ _ _ _ _ _ _ _ (after-if1 .if1 .taken),
+      keeps-same _ _,
+    )
 
-assuming-with-row-requires : (t : ℕ) → assuming-lts.Need-with-row-requires (assuming-calls t) (assuming-at t) assuming.Post
-assuming-with-row-requires t c κs = search needs
+assuming-put-row-requires : (t : ℕ) → assuming-lts.Need-put-row-requires (assuming-calls t) (assuming-at t) assuming.Post
+assuming-put-row-requires t c κs = search needs
 
-assuming-add-t22 : (t : ℕ) → assuming-lts.Need-add-t22 (assuming-calls t) (assuming-at t) assuming.Post
-assuming-add-t22 t c = search needs
-
-assuming-slice-aggregate-check : (t : ℕ) → assuming-lts.Need-slice-aggregate-check (assuming-calls t) (assuming-at t) assuming.Post
-assuming-slice-aggregate-check t c = search needs
+assuming-add-t23 : (t : ℕ) → assuming-lts.Need-add-t23 (assuming-calls t) (assuming-at t) assuming.Post
+assuming-add-t23 t c = search needs
 
 assuming-check-requires : (t : ℕ) → assuming-lts.Need-check-requires (assuming-calls t) (assuming-at t) assuming.Post
 assuming-check-requires t c κs = search needs
@@ -385,11 +407,19 @@ assuming-check-requires t c κs = search needs
 assuming-same-length : (t : ℕ) → assuming-lts.Need-same-length (assuming-calls t) (assuming-at t) assuming.Post
 assuming-same-length t c = search needs
 
+assuming-same-length-2 : (t : ℕ) → assuming-lts.Need-same-length-2 (assuming-calls t) (assuming-at t) assuming.Post
+assuming-same-length-2 t c = search needs
+
 assuming-returns-2 : (t : ℕ) → assuming-lts.Need-returns-2 (assuming-calls t) (assuming-at t) assuming.Post
 assuming-returns-2 t c =
-    let after-check = c .before .before in
-    let after-with-row = after-check .before .before .before in
-    check-assuming _ _ _ _ _ _ _ _ _ _ _ _ _ (after-with-row .with-row .ensures .0) (after-with-row .with-row .ensures .1) _ _ _ (after-check .check .ensures)
+    let after-check = c .before .before .before .before in
+    let after-put-row = after-check .before .before .before .before .before in
+    let start = after-put-row .before .before .before .before .before .before .before .before .before .before in
+    let put : Keeps (start .args .scope .count) (start .args .assumptions .now) (after-put-row .put-row .last .0) =
+    record { rows = λ i below. after-put-row .put-row .ensures .1 i (λ same. omega arith); all = after-put-row .put-row .kept .0 } in (
+      check-assuming _ _ _ _ _ _ _ _ _ _ _ _ _ (after-put-row .put-row .ensures .0) put _ _ _ (after-check .check .ensures .0),
+      keeps-put put (after-check .check .ensures .1),
+    )
 
 at-in-lifted-requires : (t : ℕ) → at-in-lts.Need-lifted-requires (at-in-calls t) (at-in-at t) at-in.Post
 at-in-lifted-requires t c κs = search needs
@@ -400,9 +430,11 @@ at-in-goes-on-requires t c κs = search needs
 at-in-returns : (t : ℕ) → at-in-lts.Need-returns (at-in-calls t) (at-in-at t) at-in.Post
 at-in-returns t c =
     let after-goes-on = c .before in
-    let after-lifted = after-goes-on .before .before .before in
-    check-at-in-unfit _ _ _ _ _ _ _ _ _ _ _ _ (after-lifted .lifted .result) (after-lifted .lifted .ensures) (fails-where (after-goes-on .goes-on .result) (c .if1 .taken) (after-goes-on .goes-on .ensures))
-    _
+    let after-lifted = after-goes-on .before .before .before in (
+      check-at-in-unfit _ _ _ _ _ _ _ _ _ _ _ _ (after-lifted .lifted .result) (after-lifted .lifted .ensures) (fails-where (after-goes-on .goes-on .result) (c .if1 .taken) (after-goes-on .goes-on .ensures))
+          _,
+      keeps-same _ _,
+    )
 
 at-in-past-requires : (t : ℕ) → at-in-lts.Need-past-requires (at-in-calls t) (at-in-at t) at-in.Post
 at-in-past-requires t c κs = search needs
@@ -413,15 +445,20 @@ at-in-check-requires t c κs = search needs
 at-in-same-length : (t : ℕ) → at-in-lts.Need-same-length (at-in-calls t) (at-in-at t) at-in.Post
 at-in-same-length t c = search needs
 
+at-in-same-length-2 : (t : ℕ) → at-in-lts.Need-same-length-2 (at-in-calls t) (at-in-at t) at-in.Post
+at-in-same-length-2 t c = search needs
+
 at-in-returns-2 : (t : ℕ) → at-in-lts.Need-returns-2 (at-in-calls t) (at-in-at t) at-in.Post
 at-in-returns-2 t c =
-    let after-check = c .before .before in
+    let after-check = c .before .before .before .before in
     let after-past = after-check .before in
-    let after-if1 = after-past .before .before in
+    let after-if1 = after-past .before .before .before in
     let after-goes-on = after-if1 .before in
-    let after-lifted = after-goes-on .before .before .before in
-    check-at-in _ _ _ _ _ _ _ _ _ _ _ _ (after-lifted .lifted .result) (after-lifted .lifted .ensures) (holds-else (after-goes-on .goes-on .result) (after-if1 .if1 .left) (after-goes-on .goes-on .ensures))
-    _ (after-past .past .ensures .0) _ _ (after-check .check .ensures)
+    let after-lifted = after-goes-on .before .before .before in (
+      check-at-in _ _ _ _ _ _ _ _ _ _ _ _ (after-lifted .lifted .result) (after-lifted .lifted .ensures) (holds-else (after-goes-on .goes-on .result) (after-if1 .if1 .left) (after-goes-on .goes-on .ensures))
+          _ (after-past .past .ensures .0) _ _ (after-check .check .ensures .0),
+      after-check .check .ensures .1,
+    )
 
 at-out-past-requires : (t : ℕ) → at-out-lts.Need-past-requires (at-out-calls t) (at-out-at t) at-out.Post
 at-out-past-requires t c κs = search needs
@@ -435,13 +472,18 @@ at-out-goes-on-requires t c κs = search needs
 at-out-same-length : (t : ℕ) → at-out-lts.Need-same-length (at-out-calls t) (at-out-at t) at-out.Post
 at-out-same-length t c = search needs
 
+at-out-same-length-2 : (t : ℕ) → at-out-lts.Need-same-length-2 (at-out-calls t) (at-out-at t) at-out.Post
+at-out-same-length-2 t c = search needs
+
 at-out-returns : (t : ℕ) → at-out-lts.Need-returns (at-out-calls t) (at-out-at t) at-out.Post
 at-out-returns t c =
     let after-goes-on = c .before in
-    let after-infer = after-goes-on .before .before .before .before .before in
-    let after-past = after-infer .before in
-    check-at-out-stopped _ _ _ _ _ _ _ _ _ _ _ _ _ (after-past .past .ensures .0) _ _ (after-infer .infer .ensures) (fails-where (after-goes-on .goes-on .result) (c .if1 .taken) (after-goes-on .goes-on .ensures))
-    _
+    let after-infer = after-goes-on .before .before .before .before .before .before .before in
+    let after-past = after-infer .before in (
+      check-at-out-stopped _ _ _ _ _ _ _ _ _ _ _ _ _ (after-past .past .ensures .0) _ _ (after-infer .infer .ensures .0) (fails-where (after-goes-on .goes-on .result) (c .if1 .taken) (after-goes-on .goes-on .ensures))
+          _,
+      after-infer .infer .ensures .1,
+    )
 
 at-out-lifted-requires : (t : ℕ) → at-out-lts.Need-lifted-requires (at-out-calls t) (at-out-at t) at-out.Post
 at-out-lifted-requires t c κs = search needs
@@ -449,8 +491,11 @@ at-out-lifted-requires t c κs = search needs
 at-out-goes-on-requires-2 : (t : ℕ) → at-out-lts.Need-goes-on-requires-2 (at-out-calls t) (at-out-at t) at-out.Post
 at-out-goes-on-requires-2 t c κs = search needs
 
-at-out-same-length-2 : (t : ℕ) → at-out-lts.Need-same-length-2 (at-out-calls t) (at-out-at t) at-out.Post
-at-out-same-length-2 t c = search needs
+at-out-same-length-3 : (t : ℕ) → at-out-lts.Need-same-length-3 (at-out-calls t) (at-out-at t) at-out.Post
+at-out-same-length-3 t c = search needs
+
+at-out-same-length-4 : (t : ℕ) → at-out-lts.Need-same-length-4 (at-out-calls t) (at-out-at t) at-out.Post
+at-out-same-length-4 t c = search needs
 
 at-out-returns-2 : (t : ℕ) → at-out-lts.Need-returns-2 (at-out-calls t) (at-out-at t) at-out.Post
 at-out-returns-2 t c =
@@ -458,42 +503,56 @@ at-out-returns-2 t c =
     let after-lifted = after-goes-on2 .before .before .before in
     let after-if1 = after-lifted .before in
     let after-goes-on = after-if1 .before in
-    let after-infer = after-goes-on .before .before .before .before .before in
-    let after-past = after-infer .before in
-    check-at-out-unfit _ _ _ _ _ _ _ _ _ _ _ _ _ (after-past .past .ensures .0) _ _ (after-infer .infer .ensures) (holds-else (after-goes-on .goes-on .result) (after-if1 .if1 .left) (after-goes-on .goes-on .ensures))
-    (after-lifted .lifted .result) (after-lifted .lifted .ensures) (fails-where (after-goes-on2 .goes-on2 .result) (c .if2 .taken) (after-goes-on2 .goes-on2 .ensures))
-    _
+    let after-infer = after-goes-on .before .before .before .before .before .before .before in
+    let after-past = after-infer .before in (
+      check-at-out-unfit _ _ _ _ _ _ _ _ _ _ _ _ _ (after-past .past .ensures .0) _ _ (after-infer .infer .ensures .0) (holds-else (after-goes-on .goes-on .result) (after-if1 .if1 .left) (after-goes-on .goes-on .ensures))
+          (after-lifted .lifted .result) (after-lifted .lifted .ensures) (fails-where (after-goes-on2 .goes-on2 .result) (c .if2 .taken) (after-goes-on2 .goes-on2 .ensures))
+          _,
+      after-infer .infer .ensures .1,
+    )
 
 at-out-assuming-requires : (t : ℕ) → at-out-lts.Need-assuming-requires (at-out-calls t) (at-out-at t) at-out.Post
 at-out-assuming-requires t c κs =
-    let start = c .before .before .before .before .before .before .before .before .before .before .before .before .before .before .before
-    .before .before .before .before .before .before .before in
+    let start = c .before .before .before .before .before .before .before .before .before .before .before .before .before .before .before .before .before .before .before .before .before .before .before .before .before .before in
     (omega (arith, start .pre .0), tt)
 
-at-out-same-length-3 : (t : ℕ) → at-out-lts.Need-same-length-3 (at-out-calls t) (at-out-at t) at-out.Post
-at-out-same-length-3 t c = search needs
+at-out-same-length-5 : (t : ℕ) → at-out-lts.Need-same-length-5 (at-out-calls t) (at-out-at t) at-out.Post
+at-out-same-length-5 t c =
+    let after-assuming = c .before .before .before .before in
+    let after-infer = after-assuming .before .before .before .before .before .before .before .before .before .before .before .before .before .before .before .before in
+    after-assuming .assuming .kept .1 .1 .1 .1 .0 ∙ after-infer .infer .kept .1 .1 .1 .1 .0
+
+at-out-same-length-6 : (t : ℕ) → at-out-lts.Need-same-length-6 (at-out-calls t) (at-out-at t) at-out.Post
+at-out-same-length-6 t c =
+    let after-assuming = c .before .before .before .before in
+    let after-infer = after-assuming .before .before .before .before .before .before .before .before .before .before .before .before .before .before .before .before in
+    after-assuming .assuming .kept .1 .1 .1 .1 .1 .0 ∙ after-infer .infer .kept .1 .1 .1 .1 .1 .0
 
 at-out-returns-3 : (t : ℕ) → at-out-lts.Need-returns-3 (at-out-calls t) (at-out-at t) at-out.Post
 at-out-returns-3 t c =
-    let after-assuming = c .before .before in
-    let after-if2 = after-assuming .before .before in
+    let after-assuming = c .before .before .before .before in
+    let after-if2 = after-assuming .before .before .before in
     let after-goes-on2 = after-if2 .before in
     let after-lifted = after-goes-on2 .before .before .before in
     let after-if1 = after-lifted .before in
     let after-goes-on = after-if1 .before in
-    let after-infer = after-goes-on .before .before .before .before .before in
-    let after-past = after-infer .before in
-    check-at-out _ _ _ _ _ _ _ _ _ _ _ _ _ (after-past .past .ensures .0) _ _ (after-infer .infer .ensures) (holds-else (after-goes-on .goes-on .result) (after-if1 .if1 .left) (after-goes-on .goes-on .ensures))
-    (after-lifted .lifted .result) (after-lifted .lifted .ensures) (holds-else (after-goes-on2 .goes-on2 .result) (after-if2 .if2 .left) (after-goes-on2 .goes-on2 .ensures))
-    _ _ (after-assuming .assuming .ensures)
+    let after-infer = after-goes-on .before .before .before .before .before .before .before in
+    let after-past = after-infer .before in (
+      check-at-out _ _ _ _ _ _ _ _ _ _ _ _ _ (after-past .past .ensures .0) _ _ (after-infer .infer .ensures .0) (holds-else (after-goes-on .goes-on .result) (after-if1 .if1 .left) (after-goes-on .goes-on .ensures))
+          (after-lifted .lifted .result) (after-lifted .lifted .ensures) (holds-else (after-goes-on2 .goes-on2 .result) (after-if2 .if2 .left) (after-goes-on2 .goes-on2 .ensures))
+          _ _ (assuming-kept _ _ _ _ _ _ _ _ _ _ _ _ (after-infer .infer .ensures .1) _ _ _ _ (after-assuming .assuming .ensures .0)),
+      keeps-then (after-infer .infer .ensures .1) (after-assuming .assuming .ensures .1),
+    )
 
 check-misfit-requires : (t : ℕ) → check-lts.Need-misfit-requires (check-calls t) (check-at t) check.Post
 check-misfit-requires t c κs = search needs
 
 check-returns : (t : ℕ) → check-lts.Need-returns (check-calls t) (check-at t) check.Post
 check-returns t c =
-    let after-if1 = c .before in
-    check-none _ _ _ _ _ _ _ _ _ _ _ _ _ _ (after-if1 .if1 .taken)
+    let after-if1 = c .before in (
+      check-none _ _ _ _ _ _ _ _ _ _ _ _ _ _ (after-if1 .if1 .taken),
+      keeps-same _ _,
+    )
 
 check-check-tag-at-requires : (t : ℕ) → check-lts.Need-check-tag-at-requires (check-calls t) (check-at t) check.Post
 check-check-tag-at-requires t c κs = search needs
@@ -588,15 +647,20 @@ check-misfit-requires-2 t c κs = search needs
 check-same-length : (t : ℕ) → check-lts.Need-same-length (check-calls t) (check-at t) check.Post
 check-same-length t c = search needs
 
+check-same-length-2 : (t : ℕ) → check-lts.Need-same-length-2 (check-calls t) (check-at t) check.Post
+check-same-length-2 t c = search needs
+
 check-returns-2 : (t : ℕ) → check-lts.Need-returns-2 (check-calls t) (check-at t) check.Post
 check-returns-2 t c =
-    let after-pair = c .before .before in
-    let after-enum-told = after-pair .before .before in
+    let after-pair = c .before .before .before .before in
+    let after-enum-told = after-pair .before .before .before in
     let after-check-tag-at = after-enum-told .before .before in
     let after-if1 = after-check-tag-at .before in
-    let start = after-if1 .before .before .before .before .before .before .before .before in
-    check-tagged _ _ _ _ _ _ _ _ _ _ _ (start .args .left - 1) _ _ _ _ (omega (arith, after-if1 .if1 .left)) (sym (after-check-tag-at .check-tag-at .ensures) ∙ after-enum-told .enum-told .given .1)
-    tt (λ inside. after-pair .pair .ensures)
+    let start = after-if1 .before .before .before .before .before .before .before .before in (
+      check-tagged _ _ _ _ _ _ _ _ _ _ _ (start .args .left - 1) _ _ _ _ (omega (arith, after-if1 .if1 .left)) (sym (after-check-tag-at .check-tag-at .ensures) ∙ after-enum-told .enum-told .given .1)
+          tt (λ inside. after-pair .pair .ensures .0),
+      after-pair .pair .ensures .1,
+    )
 
 check-returns-3 : (t : ℕ) → check-lts.Need-returns-3 (check-calls t) (check-at t) check.Post
 check-returns-3 t c =
@@ -604,64 +668,86 @@ check-returns-3 t c =
     let after-enum-told2 = after-top .before in
     let after-check-tag-at = after-enum-told2 .before .before in
     let after-if1 = after-check-tag-at .before in
-    let start = after-if1 .before .before .before .before .before .before .before .before in
-    check-tagged _ _ _ _ _ _ _ _ _ _ _ (start .args .left - 1) _ _ _ _ (omega (arith, after-if1 .if1 .left)) (sym (after-check-tag-at .check-tag-at .ensures) ∙ after-enum-told2 .enum-told2 .given .1)
-    tt (λ inside. check-trivial _ _ _ _ _ _ _ _ _ _ _ _ inside _ _ _ (c .past .ensures .0) (after-top .top .ensures _ _))
-
-check-same-length-2 : (t : ℕ) → check-lts.Need-same-length-2 (check-calls t) (check-at t) check.Post
-check-same-length-2 t c = search needs
-
-check-returns-4 : (t : ℕ) → check-lts.Need-returns-4 (check-calls t) (check-at t) check.Post
-check-returns-4 t c =
-    let after-at-in = c .before .before in
-    let after-enum-told3 = after-at-in .before .before in
-    let after-check-tag-at = after-enum-told3 .before .before in
-    let after-if1 = after-check-tag-at .before in
-    let start = after-if1 .before .before .before .before .before .before .before .before in
-    check-tagged _ _ _ _ _ _ _ _ _ _ _ (start .args .left - 1) _ _ _ _ (omega (arith, after-if1 .if1 .left)) (sym (after-check-tag-at .check-tag-at .ensures) ∙ after-enum-told3 .enum-told3 .given .1)
-    tt (λ inside. after-at-in .at-in .ensures)
+    let start = after-if1 .before .before .before .before .before .before .before .before in (
+      check-tagged _ _ _ _ _ _ _ _ _ _ _ (start .args .left - 1) _ _ _ _ (omega (arith, after-if1 .if1 .left)) (sym (after-check-tag-at .check-tag-at .ensures) ∙ after-enum-told2 .enum-told2 .given .1)
+          tt (λ inside. check-trivial _ _ _ _ _ _ _ _ _ _ _ _ inside _ _ _ (c .past .ensures .0) (after-top .top .ensures _ _)),
+      keeps-same _ _,
+    )
 
 check-same-length-3 : (t : ℕ) → check-lts.Need-same-length-3 (check-calls t) (check-at t) check.Post
 check-same-length-3 t c = search needs
 
-check-returns-5 : (t : ℕ) → check-lts.Need-returns-5 (check-calls t) (check-at t) check.Post
-check-returns-5 t c =
-    let after-at-out = c .before .before in
-    let after-enum-told4 = after-at-out .before .before in
-    let after-check-tag-at = after-enum-told4 .before .before in
-    let after-if1 = after-check-tag-at .before in
-    let start = after-if1 .before .before .before .before .before .before .before .before in
-    check-tagged _ _ _ _ _ _ _ _ _ _ _ (start .args .left - 1) _ _ _ _ (omega (arith, after-if1 .if1 .left)) (sym (after-check-tag-at .check-tag-at .ensures) ∙ after-enum-told4 .enum-told4 .given .1)
-    tt (λ inside. after-at-out .at-out .ensures)
-
 check-same-length-4 : (t : ℕ) → check-lts.Need-same-length-4 (check-calls t) (check-at t) check.Post
 check-same-length-4 t c = search needs
 
-check-returns-6 : (t : ℕ) → check-lts.Need-returns-6 (check-calls t) (check-at t) check.Post
-check-returns-6 t c =
-    let after-says-in = c .before .before in
-    let after-enum-told5 = after-says-in .before .before in
-    let after-check-tag-at = after-enum-told5 .before .before in
+check-returns-4 : (t : ℕ) → check-lts.Need-returns-4 (check-calls t) (check-at t) check.Post
+check-returns-4 t c =
+    let after-at-in = c .before .before .before .before in
+    let after-enum-told3 = after-at-in .before .before .before in
+    let after-check-tag-at = after-enum-told3 .before .before in
     let after-if1 = after-check-tag-at .before in
-    let start = after-if1 .before .before .before .before .before .before .before .before in
-    check-tagged _ _ _ _ _ _ _ _ _ _ _ (start .args .left - 1) _ _ _ _ (omega (arith, after-if1 .if1 .left)) (sym (after-check-tag-at .check-tag-at .ensures) ∙ after-enum-told5 .enum-told5 .given .1)
-    tt (λ inside. after-says-in .says-in .ensures)
+    let start = after-if1 .before .before .before .before .before .before .before .before in (
+      check-tagged _ _ _ _ _ _ _ _ _ _ _ (start .args .left - 1) _ _ _ _ (omega (arith, after-if1 .if1 .left)) (sym (after-check-tag-at .check-tag-at .ensures) ∙ after-enum-told3 .enum-told3 .given .1)
+          tt (λ inside. after-at-in .at-in .ensures .0),
+      after-at-in .at-in .ensures .1,
+    )
 
 check-same-length-5 : (t : ℕ) → check-lts.Need-same-length-5 (check-calls t) (check-at t) check.Post
 check-same-length-5 t c = search needs
 
-check-returns-7 : (t : ℕ) → check-lts.Need-returns-7 (check-calls t) (check-at t) check.Post
-check-returns-7 t c =
-    let after-says-out = c .before .before in
-    let after-enum-told6 = after-says-out .before .before in
-    let after-check-tag-at = after-enum-told6 .before .before in
-    let after-if1 = after-check-tag-at .before in
-    let start = after-if1 .before .before .before .before .before .before .before .before in
-    check-tagged _ _ _ _ _ _ _ _ _ _ _ (start .args .left - 1) _ _ _ _ (omega (arith, after-if1 .if1 .left)) (sym (after-check-tag-at .check-tag-at .ensures) ∙ after-enum-told6 .enum-told6 .given .1)
-    tt (λ inside. after-says-out .says-out .ensures)
-
 check-same-length-6 : (t : ℕ) → check-lts.Need-same-length-6 (check-calls t) (check-at t) check.Post
 check-same-length-6 t c = search needs
+
+check-returns-5 : (t : ℕ) → check-lts.Need-returns-5 (check-calls t) (check-at t) check.Post
+check-returns-5 t c =
+    let after-at-out = c .before .before .before .before in
+    let after-enum-told4 = after-at-out .before .before .before in
+    let after-check-tag-at = after-enum-told4 .before .before in
+    let after-if1 = after-check-tag-at .before in
+    let start = after-if1 .before .before .before .before .before .before .before .before in (
+      check-tagged _ _ _ _ _ _ _ _ _ _ _ (start .args .left - 1) _ _ _ _ (omega (arith, after-if1 .if1 .left)) (sym (after-check-tag-at .check-tag-at .ensures) ∙ after-enum-told4 .enum-told4 .given .1)
+          tt (λ inside. after-at-out .at-out .ensures .0),
+      after-at-out .at-out .ensures .1,
+    )
+
+check-same-length-7 : (t : ℕ) → check-lts.Need-same-length-7 (check-calls t) (check-at t) check.Post
+check-same-length-7 t c = search needs
+
+check-same-length-8 : (t : ℕ) → check-lts.Need-same-length-8 (check-calls t) (check-at t) check.Post
+check-same-length-8 t c = search needs
+
+check-returns-6 : (t : ℕ) → check-lts.Need-returns-6 (check-calls t) (check-at t) check.Post
+check-returns-6 t c =
+    let after-says-in = c .before .before .before .before in
+    let after-enum-told5 = after-says-in .before .before .before in
+    let after-check-tag-at = after-enum-told5 .before .before in
+    let after-if1 = after-check-tag-at .before in
+    let start = after-if1 .before .before .before .before .before .before .before .before in (
+      check-tagged _ _ _ _ _ _ _ _ _ _ _ (start .args .left - 1) _ _ _ _ (omega (arith, after-if1 .if1 .left)) (sym (after-check-tag-at .check-tag-at .ensures) ∙ after-enum-told5 .enum-told5 .given .1)
+          tt (λ inside. after-says-in .says-in .ensures .0),
+      after-says-in .says-in .ensures .1,
+    )
+
+check-same-length-9 : (t : ℕ) → check-lts.Need-same-length-9 (check-calls t) (check-at t) check.Post
+check-same-length-9 t c = search needs
+
+check-same-length-10 : (t : ℕ) → check-lts.Need-same-length-10 (check-calls t) (check-at t) check.Post
+check-same-length-10 t c = search needs
+
+check-returns-7 : (t : ℕ) → check-lts.Need-returns-7 (check-calls t) (check-at t) check.Post
+check-returns-7 t c =
+    let after-says-out = c .before .before .before .before in
+    let after-enum-told6 = after-says-out .before .before .before in
+    let after-check-tag-at = after-enum-told6 .before .before in
+    let after-if1 = after-check-tag-at .before in
+    let start = after-if1 .before .before .before .before .before .before .before .before in (
+      check-tagged _ _ _ _ _ _ _ _ _ _ _ (start .args .left - 1) _ _ _ _ (omega (arith, after-if1 .if1 .left)) (sym (after-check-tag-at .check-tag-at .ensures) ∙ after-enum-told6 .enum-told6 .given .1)
+          tt (λ inside. after-says-out .says-out .ensures .0),
+      after-says-out .says-out .ensures .1,
+    )
+
+check-same-length-11 : (t : ℕ) → check-lts.Need-same-length-11 (check-calls t) (check-at t) check.Post
+check-same-length-11 t c = search needs
 
 check-returns-8 : (t : ℕ) → check-lts.Need-returns-8 (check-calls t) (check-at t) check.Post
 check-returns-8 t c =
@@ -669,9 +755,11 @@ check-returns-8 t c =
     let after-enum-told7 = after-state-fact .before .before in
     let after-check-tag-at = after-enum-told7 .before .before in
     let after-if1 = after-check-tag-at .before in
-    let start = after-if1 .before .before .before .before .before .before .before .before in
-    check-tagged _ _ _ _ _ _ _ _ _ _ _ (start .args .left - 1) _ _ _ _ (omega (arith, after-if1 .if1 .left)) (sym (after-check-tag-at .check-tag-at .ensures) ∙ after-enum-told7 .enum-told7 .given .1)
-    tt (λ inside. check-state _ _ _ _ _ _ _ _ _ _ _ _ inside _ _ _ (c .past2 .ensures .0) (after-state-fact .state-fact .ensures))
+    let start = after-if1 .before .before .before .before .before .before .before .before in (
+      check-tagged _ _ _ _ _ _ _ _ _ _ _ (start .args .left - 1) _ _ _ _ (omega (arith, after-if1 .if1 .left)) (sym (after-check-tag-at .check-tag-at .ensures) ∙ after-enum-told7 .enum-told7 .given .1)
+          tt (λ inside. check-state _ _ _ _ _ _ _ _ _ _ _ _ inside _ _ _ (c .past2 .ensures .0) (after-state-fact .state-fact .ensures)),
+      keeps-same _ _,
+    )
 
 check-returns-9 : (t : ℕ) → check-lts.Need-returns-9 (check-calls t) (check-at t) check.Post
 check-returns-9 t c =
@@ -679,30 +767,39 @@ check-returns-9 t c =
     let after-enum-told8 = after-order .before in
     let after-check-tag-at = after-enum-told8 .before .before in
     let after-if1 = after-check-tag-at .before in
-    let start = after-if1 .before .before .before .before .before .before .before .before in
-    check-tagged _ _ _ _ _ _ _ _ _ _ _ (start .args .left - 1) _ _ _ _ (omega (arith, after-if1 .if1 .left)) (sym (after-check-tag-at .check-tag-at .ensures) ∙ after-enum-told8 .enum-told8 .given .1)
-    tt (λ inside. check-order _ _ _ _ _ _ _ _ _ _ _ _ inside _ _ _ (c .past3 .ensures .0) (after-order .order .ensures _ _))
+    let start = after-if1 .before .before .before .before .before .before .before .before in (
+      check-tagged _ _ _ _ _ _ _ _ _ _ _ (start .args .left - 1) _ _ _ _ (omega (arith, after-if1 .if1 .left)) (sym (after-check-tag-at .check-tag-at .ensures) ∙ after-enum-told8 .enum-told8 .given .1)
+          tt (λ inside. check-order _ _ _ _ _ _ _ _ _ _ _ _ inside _ _ _ (c .past3 .ensures .0) (after-order .order .ensures _ _)),
+      keeps-same _ _,
+    )
 
-check-same-length-7 : (t : ℕ) → check-lts.Need-same-length-7 (check-calls t) (check-at t) check.Post
-check-same-length-7 t c = search needs
+check-same-length-12 : (t : ℕ) → check-lts.Need-same-length-12 (check-calls t) (check-at t) check.Post
+check-same-length-12 t c = search needs
+
+check-same-length-13 : (t : ℕ) → check-lts.Need-same-length-13 (check-calls t) (check-at t) check.Post
+check-same-length-13 t c = search needs
 
 check-returns-10 : (t : ℕ) → check-lts.Need-returns-10 (check-calls t) (check-at t) check.Post
 check-returns-10 t c =
-    let after-infer = c .before .before .before in
-    let after-enum-told9 = after-infer .before .before in
+    let after-infer = c .before .before .before .before .before in
+    let after-enum-told9 = after-infer .before .before .before in
     let after-check-tag-at = after-enum-told9 .before .before in
-    let after-if1 = after-check-tag-at .before in
-    check-inferred _ _ _ _ _ _ _ _ _ _ _ _ (after-if1 .if1 .left) (sym (after-check-tag-at .check-tag-at .ensures) ∙ after-enum-told9 .enum-told9 .given .1)
-    _ _ (after-infer .infer .ensures) _ (c .checked-by .ensures)
+    let after-if1 = after-check-tag-at .before in (
+      check-inferred _ _ _ _ _ _ _ _ _ _ _ _ (after-if1 .if1 .left) (sym (after-check-tag-at .check-tag-at .ensures) ∙ after-enum-told9 .enum-told9 .given .1)
+          _ _ (after-infer .infer .ensures .0) _ (c .checked-by .ensures),
+      after-infer .infer .ensures .1,
+    )
 
 check-returns-11 : (t : ℕ) → check-lts.Need-returns-11 (check-calls t) (check-at t) check.Post
 check-returns-11 t c =
     let after-enum-told10 = c .before in
     let after-check-tag-at = after-enum-told10 .before .before in
     let after-if1 = after-check-tag-at .before in
-    let start = after-if1 .before .before .before .before .before .before .before .before in
-    check-tagged _ _ _ _ _ _ _ _ _ _ _ (start .args .left - 1) _ _ _ _ (omega (arith, after-if1 .if1 .left)) (sym (after-check-tag-at .check-tag-at .ensures) ∙ after-enum-told10 .enum-told10 .given .1)
-    tt (λ inside. check-no-tag _ _ _ _ _ _ _ _ _ _ _ _ _ _)
+    let start = after-if1 .before .before .before .before .before .before .before .before in (
+      check-tagged _ _ _ _ _ _ _ _ _ _ _ (start .args .left - 1) _ _ _ _ (omega (arith, after-if1 .if1 .left)) (sym (after-check-tag-at .check-tag-at .ensures) ∙ after-enum-told10 .enum-told10 .given .1)
+          tt (λ inside. check-no-tag _ _ _ _ _ _ _ _ _ _ _ _ _ _),
+      keeps-same _ _,
+    )
 
 infer-misfit-requires : (t : ℕ) → infer-lts.Need-misfit-requires (infer-calls t) (infer-at t) infer.Post
 infer-misfit-requires t c κs = search needs
@@ -712,8 +809,10 @@ infer-nothing-requires t c κs = search needs
 
 infer-returns : (t : ℕ) → infer-lts.Need-returns (infer-calls t) (infer-at t) infer.Post
 infer-returns t c =
-    let after-if1 = c .before .before in
-    infer-none _ _ _ _ _ _ _ _ _ _ _ _ (after-if1 .if1 .taken)
+    let after-if1 = c .before .before in (
+      infer-none _ _ _ _ _ _ _ _ _ _ _ _ (after-if1 .if1 .taken),
+      keeps-same _ _,
+    )
 
 infer-past-requires : (t : ℕ) → infer-lts.Need-past-requires (infer-calls t) (infer-at t) infer.Post
 infer-past-requires t c κs = search needs
@@ -790,88 +889,117 @@ infer-misfit-requires-2 t c κs = search needs
 infer-nothing-requires-2 : (t : ℕ) → infer-lts.Need-nothing-requires-2 (infer-calls t) (infer-at t) infer.Post
 infer-nothing-requires-2 t c κs = search needs
 
+infer-same-length : (t : ℕ) → infer-lts.Need-same-length (infer-calls t) (infer-at t) infer.Post
+infer-same-length t c = search needs
+
 infer-returns-2 : (t : ℕ) → infer-lts.Need-returns-2 (infer-calls t) (infer-at t) infer.Post
 infer-returns-2 t c =
-    let after-enum-told = c .before in
+    let after-enum-told = c .before .before in
     let after-infer-tag-at = after-enum-told .before .before in
     let after-if1 = after-infer-tag-at .before .before in
-    let start = after-if1 .before .before .before .before .before .before .before in
-    infer-tagged _ _ _ _ _ _ _ _ _ (start .args .left - 1) _ _ _ _ (omega (arith, after-if1 .if1 .left)) (sym (after-infer-tag-at .infer-tag-at .ensures) ∙ after-enum-told .enum-told .given .1)
-    (λ inside. infer-local _ _ _ _ _ _ _ _ _ _ _ (c .local .ensures))
+    let start = after-if1 .before .before .before .before .before .before .before in (
+      infer-tagged _ _ _ _ _ _ _ _ _ (start .args .left - 1) _ _ _ _ (omega (arith, after-if1 .if1 .left)) (sym (after-infer-tag-at .infer-tag-at .ensures) ∙ after-enum-told .enum-told .given .1)
+          (λ inside. infer-local _ _ _ _ _ _ _ _ _ _ _ (c .local .ensures)),
+      keeps-same _ _,
+    )
 
 infer-returns-3 : (t : ℕ) → infer-lts.Need-returns-3 (infer-calls t) (infer-at t) infer.Post
 infer-returns-3 t c =
     let after-enum-told2 = c .before in
     let after-infer-tag-at = after-enum-told2 .before .before in
     let after-if1 = after-infer-tag-at .before .before in
-    let start = after-if1 .before .before .before .before .before .before .before in
-    infer-tagged _ _ _ _ _ _ _ _ _ (start .args .left - 1) _ _ _ _ (omega (arith, after-if1 .if1 .left)) (sym (after-infer-tag-at .infer-tag-at .ensures) ∙ after-enum-told2 .enum-told2 .given .1)
-    (λ inside. infer-certificate _ _ _ _ _ _ _ _ _ _ _ (c .certificate .ensures))
-
-infer-same-length : (t : ℕ) → infer-lts.Need-same-length (infer-calls t) (infer-at t) infer.Post
-infer-same-length t c = search needs
-
-infer-returns-4 : (t : ℕ) → infer-lts.Need-returns-4 (infer-calls t) (infer-at t) infer.Post
-infer-returns-4 t c =
-    let after-infer = c .before .before .before in
-    let after-enum-told3 = after-infer .before .before in
-    let after-infer-tag-at = after-enum-told3 .before .before in
-    let after-past = after-infer-tag-at .before in
-    let after-if1 = after-past .before in
-    let start = after-if1 .before .before .before .before .before .before .before in
-    infer-tagged _ _ _ _ _ _ _ _ _ (start .args .left - 1) _ _ _ _ (omega (arith, after-if1 .if1 .left)) (sym (after-infer-tag-at .infer-tag-at .ensures) ∙ after-enum-told3 .enum-told3 .given .1)
-    (λ inside. infer-first _ _ _ _ _ _ _ _ _ _ _ (after-past .past .ensures .0) _ _ (after-infer .infer .ensures) _ (c .first .ensures))
+    let start = after-if1 .before .before .before .before .before .before .before in (
+      infer-tagged _ _ _ _ _ _ _ _ _ (start .args .left - 1) _ _ _ _ (omega (arith, after-if1 .if1 .left)) (sym (after-infer-tag-at .infer-tag-at .ensures) ∙ after-enum-told2 .enum-told2 .given .1)
+          (λ inside. infer-certificate _ _ _ _ _ _ _ _ _ _ _ (c .certificate .ensures)),
+      keeps-same _ _,
+    )
 
 infer-same-length-2 : (t : ℕ) → infer-lts.Need-same-length-2 (infer-calls t) (infer-at t) infer.Post
 infer-same-length-2 t c = search needs
 
-infer-returns-5 : (t : ℕ) → infer-lts.Need-returns-5 (infer-calls t) (infer-at t) infer.Post
-infer-returns-5 t c =
-    let after-infer2 = c .before .before .before in
-    let after-enum-told4 = after-infer2 .before .before in
-    let after-infer-tag-at = after-enum-told4 .before .before in
-    let after-past = after-infer-tag-at .before in
-    let after-if1 = after-past .before in
-    let start = after-if1 .before .before .before .before .before .before .before in
-    infer-tagged _ _ _ _ _ _ _ _ _ (start .args .left - 1) _ _ _ _ (omega (arith, after-if1 .if1 .left)) (sym (after-infer-tag-at .infer-tag-at .ensures) ∙ after-enum-told4 .enum-told4 .given .1)
-    (λ inside. infer-second _ _ _ _ _ _ _ _ _ _ _ (after-past .past .ensures .0) _ _ (after-infer2 .infer2 .ensures) _ (c .second .ensures))
-
 infer-same-length-3 : (t : ℕ) → infer-lts.Need-same-length-3 (infer-calls t) (infer-at t) infer.Post
 infer-same-length-3 t c = search needs
 
-infer-returns-6 : (t : ℕ) → infer-lts.Need-returns-6 (infer-calls t) (infer-at t) infer.Post
-infer-returns-6 t c =
-    let after-apply = c .before .before in
-    let after-enum-told5 = after-apply .before .before in
-    let after-infer-tag-at = after-enum-told5 .before .before in
-    let after-if1 = after-infer-tag-at .before .before in
-    let start = after-if1 .before .before .before .before .before .before .before in
-    infer-tagged _ _ _ _ _ _ _ _ _ (start .args .left - 1) _ _ _ _ (omega (arith, after-if1 .if1 .left)) (sym (after-infer-tag-at .infer-tag-at .ensures) ∙ after-enum-told5 .enum-told5 .given .1)
-    (λ inside. after-apply .apply .ensures)
+infer-returns-4 : (t : ℕ) → infer-lts.Need-returns-4 (infer-calls t) (infer-at t) infer.Post
+infer-returns-4 t c =
+    let after-infer = c .before .before .before .before .before in
+    let after-enum-told3 = after-infer .before .before .before in
+    let after-infer-tag-at = after-enum-told3 .before .before in
+    let after-past = after-infer-tag-at .before in
+    let after-if1 = after-past .before in
+    let start = after-if1 .before .before .before .before .before .before .before in (
+      infer-tagged _ _ _ _ _ _ _ _ _ (start .args .left - 1) _ _ _ _ (omega (arith, after-if1 .if1 .left)) (sym (after-infer-tag-at .infer-tag-at .ensures) ∙ after-enum-told3 .enum-told3 .given .1)
+          (λ inside. infer-first _ _ _ _ _ _ _ _ _ _ _ (after-past .past .ensures .0) _ _ (after-infer .infer .ensures .0) _ (c .first .ensures)),
+      after-infer .infer .ensures .1,
+    )
 
 infer-same-length-4 : (t : ℕ) → infer-lts.Need-same-length-4 (infer-calls t) (infer-at t) infer.Post
 infer-same-length-4 t c = search needs
 
+infer-same-length-5 : (t : ℕ) → infer-lts.Need-same-length-5 (infer-calls t) (infer-at t) infer.Post
+infer-same-length-5 t c = search needs
+
+infer-returns-5 : (t : ℕ) → infer-lts.Need-returns-5 (infer-calls t) (infer-at t) infer.Post
+infer-returns-5 t c =
+    let after-infer2 = c .before .before .before .before .before in
+    let after-enum-told4 = after-infer2 .before .before .before in
+    let after-infer-tag-at = after-enum-told4 .before .before in
+    let after-past = after-infer-tag-at .before in
+    let after-if1 = after-past .before in
+    let start = after-if1 .before .before .before .before .before .before .before in (
+      infer-tagged _ _ _ _ _ _ _ _ _ (start .args .left - 1) _ _ _ _ (omega (arith, after-if1 .if1 .left)) (sym (after-infer-tag-at .infer-tag-at .ensures) ∙ after-enum-told4 .enum-told4 .given .1)
+          (λ inside. infer-second _ _ _ _ _ _ _ _ _ _ _ (after-past .past .ensures .0) _ _ (after-infer2 .infer2 .ensures .0) _ (c .second .ensures)),
+      after-infer2 .infer2 .ensures .1,
+    )
+
+infer-same-length-6 : (t : ℕ) → infer-lts.Need-same-length-6 (infer-calls t) (infer-at t) infer.Post
+infer-same-length-6 t c = search needs
+
+infer-same-length-7 : (t : ℕ) → infer-lts.Need-same-length-7 (infer-calls t) (infer-at t) infer.Post
+infer-same-length-7 t c = search needs
+
+infer-returns-6 : (t : ℕ) → infer-lts.Need-returns-6 (infer-calls t) (infer-at t) infer.Post
+infer-returns-6 t c =
+    let after-apply = c .before .before .before .before in
+    let after-enum-told5 = after-apply .before .before .before in
+    let after-infer-tag-at = after-enum-told5 .before .before in
+    let after-if1 = after-infer-tag-at .before .before in
+    let start = after-if1 .before .before .before .before .before .before .before in (
+      infer-tagged _ _ _ _ _ _ _ _ _ (start .args .left - 1) _ _ _ _ (omega (arith, after-if1 .if1 .left)) (sym (after-infer-tag-at .infer-tag-at .ensures) ∙ after-enum-told5 .enum-told5 .given .1)
+          (λ inside. after-apply .apply .ensures .0),
+      after-apply .apply .ensures .1,
+    )
+
+infer-same-length-8 : (t : ℕ) → infer-lts.Need-same-length-8 (infer-calls t) (infer-at t) infer.Post
+infer-same-length-8 t c = search needs
+
+infer-same-length-9 : (t : ℕ) → infer-lts.Need-same-length-9 (infer-calls t) (infer-at t) infer.Post
+infer-same-length-9 t c = search needs
+
 infer-returns-7 : (t : ℕ) → infer-lts.Need-returns-7 (infer-calls t) (infer-at t) infer.Post
 infer-returns-7 t c =
-    let after-infer3 = c .before .before .before in
-    let after-term-at = after-infer3 .before .before in
+    let after-infer3 = c .before .before .before .before .before in
+    let after-term-at = after-infer3 .before .before .before in
     let after-enum-told6 = after-term-at .before in
     let after-infer-tag-at = after-enum-told6 .before .before in
     let after-past = after-infer-tag-at .before in
     let after-if1 = after-past .before in
-    let start = after-if1 .before .before .before .before .before .before .before in
-    infer-tagged _ _ _ _ _ _ _ _ _ (start .args .left - 1) _ _ _ _ (omega (arith, after-if1 .if1 .left)) (sym (after-infer-tag-at .infer-tag-at .ensures) ∙ after-enum-told6 .enum-told6 .given .1)
-    (λ inside. infer-instance _ _ _ _ _ _ _ _ _ _ inside _ (after-past .past .ensures .0) _ _ (after-term-at .term-at .ensures) _ _ (after-infer3 .infer3 .ensures) _ (c .instance .ensures))
+    let start = after-if1 .before .before .before .before .before .before .before in (
+      infer-tagged _ _ _ _ _ _ _ _ _ (start .args .left - 1) _ _ _ _ (omega (arith, after-if1 .if1 .left)) (sym (after-infer-tag-at .infer-tag-at .ensures) ∙ after-enum-told6 .enum-told6 .given .1)
+          (λ inside. infer-instance _ _ _ _ _ _ _ _ _ _ inside _ (after-past .past .ensures .0) _ _ (after-term-at .term-at .ensures) _ _ (after-infer3 .infer3 .ensures .0) _ (c .instance .ensures)),
+      after-infer3 .infer3 .ensures .1,
+    )
 
 infer-returns-8 : (t : ℕ) → infer-lts.Need-returns-8 (infer-calls t) (infer-at t) infer.Post
 infer-returns-8 t c =
     let after-enum-told7 = c .before .before in
     let after-infer-tag-at = after-enum-told7 .before .before in
     let after-if1 = after-infer-tag-at .before .before in
-    let start = after-if1 .before .before .before .before .before .before .before in
-    infer-tagged _ _ _ _ _ _ _ _ _ (start .args .left - 1) _ _ _ _ (omega (arith, after-if1 .if1 .left)) (sym (after-infer-tag-at .infer-tag-at .ensures) ∙ after-enum-told7 .enum-told7 .given .1)
-    (λ inside. infer-no-tag _ _ _ _ _ _ _ _ _ _ _ _)
+    let start = after-if1 .before .before .before .before .before .before .before in (
+      infer-tagged _ _ _ _ _ _ _ _ _ (start .args .left - 1) _ _ _ _ (omega (arith, after-if1 .if1 .left)) (sym (after-infer-tag-at .infer-tag-at .ensures) ∙ after-enum-told7 .enum-told7 .given .1)
+          (λ inside. infer-no-tag _ _ _ _ _ _ _ _ _ _ _ _),
+      keeps-same _ _,
+    )
 
 pair-sides-of-requires : (t : ℕ) → pair-lts.Need-sides-of-requires (pair-calls t) (pair-at t) pair.Post
 pair-sides-of-requires t c κs = search needs
@@ -882,9 +1010,11 @@ pair-goes-on-requires t c κs = search needs
 pair-returns : (t : ℕ) → pair-lts.Need-returns (pair-calls t) (pair-at t) pair.Post
 pair-returns t c =
     let after-goes-on = c .before in
-    let after-sides-of = after-goes-on .before .before .before .before in
-    check-pair-unfit _ _ _ _ _ _ _ _ _ _ _ _ _ (after-sides-of .sides-of .ensures) (fails-where (after-goes-on .goes-on .result) (c .if1 .taken) (after-goes-on .goes-on .ensures))
-    _
+    let after-sides-of = after-goes-on .before .before .before .before in (
+      check-pair-unfit _ _ _ _ _ _ _ _ _ _ _ _ _ (after-sides-of .sides-of .ensures) (fails-where (after-goes-on .goes-on .result) (c .if1 .taken) (after-goes-on .goes-on .ensures))
+          _,
+      keeps-same _ _,
+    )
 
 pair-past-requires : (t : ℕ) → pair-lts.Need-past-requires (pair-calls t) (pair-at t) pair.Post
 pair-past-requires t c κs = search needs
@@ -898,39 +1028,48 @@ pair-goes-on-requires-2 t c κs = search needs
 pair-same-length : (t : ℕ) → pair-lts.Need-same-length (pair-calls t) (pair-at t) pair.Post
 pair-same-length t c = search needs
 
-pair-returns-2 : (t : ℕ) → pair-lts.Need-returns-2 (pair-calls t) (pair-at t) pair.Post
-pair-returns-2 t c =
-    let after-goes-on2 = c .before in
-    let after-check = after-goes-on2 .before .before .before .before in
-    let after-past = after-check .before in
-    let after-if1 = after-past .before .before in
-    let after-goes-on = after-if1 .before in
-    let after-sides-of = after-goes-on .before .before .before .before in
-    check-pair-stopped _ _ _ _ _ _ _ _ _ _ _ _ _ (after-sides-of .sides-of .ensures) (holds-else (after-goes-on .goes-on .result) (after-if1 .if1 .left) (after-goes-on .goes-on .ensures))
-    _ (after-past .past .ensures .0) _ _ (after-check .check .ensures) (fails-where (after-goes-on2 .goes-on2 .result) (c .if2 .taken) (after-goes-on2 .goes-on2 .ensures))
-
-pair-check-requires-2 : (t : ℕ) → pair-lts.Need-check-requires-2 (pair-calls t) (pair-at t) pair.Post
-pair-check-requires-2 t c κs =
-    let start = c .before .before .before .before .before .before .before .before .before .before .before .before .before .before .before
-    .before .before .before .before .before .before .before in
-    (omega (arith, start .pre .0), tt)
-
 pair-same-length-2 : (t : ℕ) → pair-lts.Need-same-length-2 (pair-calls t) (pair-at t) pair.Post
 pair-same-length-2 t c = search needs
 
+pair-returns-2 : (t : ℕ) → pair-lts.Need-returns-2 (pair-calls t) (pair-at t) pair.Post
+pair-returns-2 t c =
+    let after-goes-on2 = c .before in
+    let after-check = after-goes-on2 .before .before .before .before .before .before in
+    let after-past = after-check .before in
+    let after-if1 = after-past .before .before .before in
+    let after-goes-on = after-if1 .before in
+    let after-sides-of = after-goes-on .before .before .before .before in (
+      check-pair-stopped _ _ _ _ _ _ _ _ _ _ _ _ _ (after-sides-of .sides-of .ensures) (holds-else (after-goes-on .goes-on .result) (after-if1 .if1 .left) (after-goes-on .goes-on .ensures))
+          _ (after-past .past .ensures .0) _ _ (after-check .check .ensures .0) (fails-where (after-goes-on2 .goes-on2 .result) (c .if2 .taken) (after-goes-on2 .goes-on2 .ensures)),
+      after-check .check .ensures .1,
+    )
+
+pair-check-requires-2 : (t : ℕ) → pair-lts.Need-check-requires-2 (pair-calls t) (pair-at t) pair.Post
+pair-check-requires-2 t c κs =
+    let start = c .before .before .before .before .before .before .before .before .before .before .before .before .before .before .before .before .before .before .before .before .before .before .before .before .before .before in
+    (omega (arith, start .pre .0), tt)
+
+pair-same-length-3 : (t : ℕ) → pair-lts.Need-same-length-3 (pair-calls t) (pair-at t) pair.Post
+pair-same-length-3 t c = search needs
+
+pair-same-length-4 : (t : ℕ) → pair-lts.Need-same-length-4 (pair-calls t) (pair-at t) pair.Post
+pair-same-length-4 t c = search needs
+
 pair-returns-3 : (t : ℕ) → pair-lts.Need-returns-3 (pair-calls t) (pair-at t) pair.Post
 pair-returns-3 t c =
-    let after-check2 = c .before .before in
-    let after-if2 = after-check2 .before .before in
+    let after-check2 = c .before .before .before .before in
+    let after-if2 = after-check2 .before .before .before in
     let after-goes-on2 = after-if2 .before in
-    let after-check = after-goes-on2 .before .before .before .before in
+    let after-check = after-goes-on2 .before .before .before .before .before .before in
     let after-past = after-check .before in
-    let after-if1 = after-past .before .before in
+    let after-if1 = after-past .before .before .before in
     let after-goes-on = after-if1 .before in
-    let after-sides-of = after-goes-on .before .before .before .before in
-    check-pair _ _ _ _ _ _ _ _ _ _ _ _ _ (after-sides-of .sides-of .ensures) (holds-else (after-goes-on .goes-on .result) (after-if1 .if1 .left) (after-goes-on .goes-on .ensures))
-    _ (after-past .past .ensures .0) _ _ (after-check .check .ensures) (holds-else (after-goes-on2 .goes-on2 .result) (after-if2 .if2 .left) (after-goes-on2 .goes-on2 .ensures))
-    _ _ (after-check2 .check2 .ensures)
+    let after-sides-of = after-goes-on .before .before .before .before in (
+      check-pair _ _ _ _ _ _ _ _ _ _ _ _ _ (after-sides-of .sides-of .ensures) (holds-else (after-goes-on .goes-on .result) (after-if1 .if1 .left) (after-goes-on .goes-on .ensures))
+          _ (after-past .past .ensures .0) _ _ (after-check .check .ensures .0) (holds-else (after-goes-on2 .goes-on2 .result) (after-if2 .if2 .left) (after-goes-on2 .goes-on2 .ensures))
+          _ _ (checks-kept _ _ _ _ _ _ _ _ _ _ _ _ (after-check .check .ensures .1) _ _ _ (after-check2 .check2 .ensures .0)),
+      keeps-then (after-check .check .ensures .1) (after-check2 .check2 .ensures .1),
+    )
 
 says-in-said-requires : (t : ℕ) → says-in-lts.Need-said-requires (says-in-calls t) (says-in-at t) says-in.Post
 says-in-said-requires t c κs = search needs
@@ -941,9 +1080,11 @@ says-in-goes-on-requires t c κs = search needs
 says-in-returns : (t : ℕ) → says-in-lts.Need-returns (says-in-calls t) (says-in-at t) says-in.Post
 says-in-returns t c =
     let after-goes-on = c .before in
-    let after-said = after-goes-on .before .before .before in
-    check-says-in-unfit _ _ _ _ _ _ _ _ _ _ _ _ _ (after-said .said .ensures) (fails-where (after-goes-on .goes-on .result) (c .if1 .taken) (after-goes-on .goes-on .ensures))
-    _
+    let after-said = after-goes-on .before .before .before in (
+      check-says-in-unfit _ _ _ _ _ _ _ _ _ _ _ _ _ (after-said .said .ensures) (fails-where (after-goes-on .goes-on .result) (c .if1 .taken) (after-goes-on .goes-on .ensures))
+          _,
+      keeps-same _ _,
+    )
 
 says-in-past-requires : (t : ℕ) → says-in-lts.Need-past-requires (says-in-calls t) (says-in-at t) says-in.Post
 says-in-past-requires t c κs = search needs
@@ -954,15 +1095,20 @@ says-in-check-requires t c κs = search needs
 says-in-same-length : (t : ℕ) → says-in-lts.Need-same-length (says-in-calls t) (says-in-at t) says-in.Post
 says-in-same-length t c = search needs
 
+says-in-same-length-2 : (t : ℕ) → says-in-lts.Need-same-length-2 (says-in-calls t) (says-in-at t) says-in.Post
+says-in-same-length-2 t c = search needs
+
 says-in-returns-2 : (t : ℕ) → says-in-lts.Need-returns-2 (says-in-calls t) (says-in-at t) says-in.Post
 says-in-returns-2 t c =
-    let after-check = c .before .before in
+    let after-check = c .before .before .before .before in
     let after-past = after-check .before in
-    let after-if1 = after-past .before .before in
+    let after-if1 = after-past .before .before .before in
     let after-goes-on = after-if1 .before in
-    let after-said = after-goes-on .before .before .before in
-    check-says-in _ _ _ _ _ _ _ _ _ _ _ _ _ (after-said .said .ensures) (holds-else (after-goes-on .goes-on .result) (after-if1 .if1 .left) (after-goes-on .goes-on .ensures))
-    _ (after-past .past .ensures .0) _ _ (after-check .check .ensures)
+    let after-said = after-goes-on .before .before .before in (
+      check-says-in _ _ _ _ _ _ _ _ _ _ _ _ _ (after-said .said .ensures) (holds-else (after-goes-on .goes-on .result) (after-if1 .if1 .left) (after-goes-on .goes-on .ensures))
+          _ (after-past .past .ensures .0) _ _ (after-check .check .ensures .0),
+      after-check .check .ensures .1,
+    )
 
 says-out-past-requires : (t : ℕ) → says-out-lts.Need-past-requires (says-out-calls t) (says-out-at t) says-out.Post
 says-out-past-requires t c κs = search needs
@@ -976,13 +1122,18 @@ says-out-goes-on-requires t c κs = search needs
 says-out-same-length : (t : ℕ) → says-out-lts.Need-same-length (says-out-calls t) (says-out-at t) says-out.Post
 says-out-same-length t c = search needs
 
+says-out-same-length-2 : (t : ℕ) → says-out-lts.Need-same-length-2 (says-out-calls t) (says-out-at t) says-out.Post
+says-out-same-length-2 t c = search needs
+
 says-out-returns : (t : ℕ) → says-out-lts.Need-returns (says-out-calls t) (says-out-at t) says-out.Post
 says-out-returns t c =
     let after-goes-on = c .before in
-    let after-infer = after-goes-on .before .before .before .before .before in
-    let after-past = after-infer .before in
-    check-says-out-stopped _ _ _ _ _ _ _ _ _ _ _ _ _ (after-past .past .ensures .0) _ _ (after-infer .infer .ensures) (fails-where (after-goes-on .goes-on .result) (c .if1 .taken) (after-goes-on .goes-on .ensures))
-    _
+    let after-infer = after-goes-on .before .before .before .before .before .before .before in
+    let after-past = after-infer .before in (
+      check-says-out-stopped _ _ _ _ _ _ _ _ _ _ _ _ _ (after-past .past .ensures .0) _ _ (after-infer .infer .ensures .0) (fails-where (after-goes-on .goes-on .result) (c .if1 .taken) (after-goes-on .goes-on .ensures))
+          _,
+      after-infer .infer .ensures .1,
+    )
 
 says-out-said-requires : (t : ℕ) → says-out-lts.Need-said-requires (says-out-calls t) (says-out-at t) says-out.Post
 says-out-said-requires t c κs = search needs
@@ -990,8 +1141,11 @@ says-out-said-requires t c κs = search needs
 says-out-goes-on-requires-2 : (t : ℕ) → says-out-lts.Need-goes-on-requires-2 (says-out-calls t) (says-out-at t) says-out.Post
 says-out-goes-on-requires-2 t c κs = search needs
 
-says-out-same-length-2 : (t : ℕ) → says-out-lts.Need-same-length-2 (says-out-calls t) (says-out-at t) says-out.Post
-says-out-same-length-2 t c = search needs
+says-out-same-length-3 : (t : ℕ) → says-out-lts.Need-same-length-3 (says-out-calls t) (says-out-at t) says-out.Post
+says-out-same-length-3 t c = search needs
+
+says-out-same-length-4 : (t : ℕ) → says-out-lts.Need-same-length-4 (says-out-calls t) (says-out-at t) says-out.Post
+says-out-same-length-4 t c = search needs
 
 says-out-returns-2 : (t : ℕ) → says-out-lts.Need-returns-2 (says-out-calls t) (says-out-at t) says-out.Post
 says-out-returns-2 t c =
@@ -999,70 +1153,87 @@ says-out-returns-2 t c =
     let after-said = after-goes-on2 .before .before .before in
     let after-if1 = after-said .before in
     let after-goes-on = after-if1 .before in
-    let after-infer = after-goes-on .before .before .before .before .before in
-    let after-past = after-infer .before in
-    check-says-out-unfit _ _ _ _ _ _ _ _ _ _ _ _ _ (after-past .past .ensures .0) _ _ (after-infer .infer .ensures) (holds-else (after-goes-on .goes-on .result) (after-if1 .if1 .left) (after-goes-on .goes-on .ensures))
-    _ (after-said .said .ensures) (fails-where (after-goes-on2 .goes-on2 .result) (c .if2 .taken) (after-goes-on2 .goes-on2 .ensures))
-    _
+    let after-infer = after-goes-on .before .before .before .before .before .before .before in
+    let after-past = after-infer .before in (
+      check-says-out-unfit _ _ _ _ _ _ _ _ _ _ _ _ _ (after-past .past .ensures .0) _ _ (after-infer .infer .ensures .0) (holds-else (after-goes-on .goes-on .result) (after-if1 .if1 .left) (after-goes-on .goes-on .ensures))
+          _ (after-said .said .ensures) (fails-where (after-goes-on2 .goes-on2 .result) (c .if2 .taken) (after-goes-on2 .goes-on2 .ensures))
+          _,
+      after-infer .infer .ensures .1,
+    )
 
 says-out-assuming-requires : (t : ℕ) → says-out-lts.Need-assuming-requires (says-out-calls t) (says-out-at t) says-out.Post
 says-out-assuming-requires t c κs =
-    let start = c .before .before .before .before .before .before .before .before .before .before .before .before .before .before .before
-    .before .before .before .before .before .before .before in
+    let start = c .before .before .before .before .before .before .before .before .before .before .before .before .before .before .before .before .before .before .before .before .before .before .before .before .before .before in
     (omega (arith, start .pre .0), tt)
 
-says-out-same-length-3 : (t : ℕ) → says-out-lts.Need-same-length-3 (says-out-calls t) (says-out-at t) says-out.Post
-says-out-same-length-3 t c = search needs
+says-out-same-length-5 : (t : ℕ) → says-out-lts.Need-same-length-5 (says-out-calls t) (says-out-at t) says-out.Post
+says-out-same-length-5 t c =
+    let after-assuming = c .before .before .before .before in
+    let after-infer = after-assuming .before .before .before .before .before .before .before .before .before .before .before .before .before .before .before .before in
+    after-assuming .assuming .kept .1 .1 .1 .1 .0 ∙ after-infer .infer .kept .1 .1 .1 .1 .0
+
+says-out-same-length-6 : (t : ℕ) → says-out-lts.Need-same-length-6 (says-out-calls t) (says-out-at t) says-out.Post
+says-out-same-length-6 t c =
+    let after-assuming = c .before .before .before .before in
+    let after-infer = after-assuming .before .before .before .before .before .before .before .before .before .before .before .before .before .before .before .before in
+    after-assuming .assuming .kept .1 .1 .1 .1 .1 .0 ∙ after-infer .infer .kept .1 .1 .1 .1 .1 .0
 
 says-out-returns-3 : (t : ℕ) → says-out-lts.Need-returns-3 (says-out-calls t) (says-out-at t) says-out.Post
 says-out-returns-3 t c =
-    let after-assuming = c .before .before in
-    let after-if2 = after-assuming .before .before in
+    let after-assuming = c .before .before .before .before in
+    let after-if2 = after-assuming .before .before .before in
     let after-goes-on2 = after-if2 .before in
     let after-said = after-goes-on2 .before .before .before in
     let after-if1 = after-said .before in
     let after-goes-on = after-if1 .before in
-    let after-infer = after-goes-on .before .before .before .before .before in
-    let after-past = after-infer .before in
-    check-says-out _ _ _ _ _ _ _ _ _ _ _ _ _ (after-past .past .ensures .0) _ _ (after-infer .infer .ensures) (holds-else (after-goes-on .goes-on .result) (after-if1 .if1 .left) (after-goes-on .goes-on .ensures))
-    _ (after-said .said .ensures) (holds-else (after-goes-on2 .goes-on2 .result) (after-if2 .if2 .left) (after-goes-on2 .goes-on2 .ensures))
-    _ _ (after-assuming .assuming .ensures)
+    let after-infer = after-goes-on .before .before .before .before .before .before .before in
+    let after-past = after-infer .before in (
+      check-says-out _ _ _ _ _ _ _ _ _ _ _ _ _ (after-past .past .ensures .0) _ _ (after-infer .infer .ensures .0) (holds-else (after-goes-on .goes-on .result) (after-if1 .if1 .left) (after-goes-on .goes-on .ensures))
+          _ (after-said .said .ensures) (holds-else (after-goes-on2 .goes-on2 .result) (after-if2 .if2 .left) (after-goes-on2 .goes-on2 .ensures))
+          _ _ (assuming-kept _ _ _ _ _ _ _ _ _ _ _ _ (after-infer .infer .ensures .1) _ _ _ _ (after-assuming .assuming .ensures .0)),
+      keeps-then (after-infer .infer .ensures .1) (after-assuming .assuming .ensures .1),
+    )
 
 pub +apply+assuming+at-in+at-out+check+infer+pair+says-in+says-out-spec :
     {M : Type 1} → statement M
 +apply+assuming+at-in+at-out+check+infer+pair+says-in+says-out-spec =
     close μ-apply μ-assuming μ-at-in μ-at-out μ-check μ-infer μ-pair μ-says-in μ-says-out
     (λ t. apply-lts.spec (apply-calls t) (apply-at t) apply.Post (apply-past-requires t) (apply-infer-requires t) (apply-goes-on-requires t)
-    (apply-same-length t) (apply-returns t) (apply-put-to-use-requires t) (apply-goes-on-requires-2 t) (apply-nothing-requires t) (apply-same-length-2 t)
-    (apply-returns-2 t) (apply-check-requires t) (apply-same-length-3 t) (apply-returns-3 t))
-    (λ t. assuming-lts.spec (assuming-calls t) (assuming-at t) assuming.Post (assuming-misfit-requires t) (assuming-returns t) (assuming-with-row-requires t)
-    (assuming-add-t22 t) (assuming-slice-aggregate-check t) (assuming-check-requires t) (assuming-same-length t) (assuming-returns-2 t))
+    (apply-same-length t) (apply-same-length-2 t) (apply-returns t) (apply-put-to-use-requires t) (apply-goes-on-requires-2 t) (apply-nothing-requires t)
+    (apply-same-length-3 t) (apply-same-length-4 t) (apply-returns-2 t) (apply-check-requires t) (apply-same-length-5 t) (apply-same-length-6 t)
+    (apply-returns-3 t))
+    (λ t. assuming-lts.spec (assuming-calls t) (assuming-at t) assuming.Post (assuming-misfit-requires t) (assuming-returns t)
+    (assuming-put-row-requires t) (assuming-add-t23 t) (assuming-check-requires t) (assuming-same-length t) (assuming-same-length-2 t)
+    (assuming-returns-2 t))
     (λ t. at-in-lts.spec (at-in-calls t) (at-in-at t) at-in.Post (at-in-lifted-requires t) (at-in-goes-on-requires t) (at-in-returns t)
-    (at-in-past-requires t) (at-in-check-requires t) (at-in-same-length t) (at-in-returns-2 t))
+    (at-in-past-requires t) (at-in-check-requires t) (at-in-same-length t) (at-in-same-length-2 t) (at-in-returns-2 t))
     (λ t. at-out-lts.spec (at-out-calls t) (at-out-at t) at-out.Post (at-out-past-requires t) (at-out-infer-requires t) (at-out-goes-on-requires t)
-    (at-out-same-length t) (at-out-returns t) (at-out-lifted-requires t) (at-out-goes-on-requires-2 t) (at-out-same-length-2 t) (at-out-returns-2 t)
-    (at-out-assuming-requires t) (at-out-same-length-3 t) (at-out-returns-3 t))
+    (at-out-same-length t) (at-out-same-length-2 t) (at-out-returns t) (at-out-lifted-requires t) (at-out-goes-on-requires-2 t) (at-out-same-length-3 t)
+    (at-out-same-length-4 t) (at-out-returns-2 t) (at-out-assuming-requires t) (at-out-same-length-5 t) (at-out-same-length-6 t) (at-out-returns-3 t))
     (λ t. check-lts.spec (check-calls t) (check-at t) check.Post (check-misfit-requires t) (check-returns t) (check-check-tag-at-requires t)
     (check-enum-told t) (check-sub-pair t) (check-pair-requires t) (check-enum-told-2 t) (check-top-requires t) (check-past-requires t)
     (check-enum-told-3 t) (check-sub-at-in t) (check-at-in-requires t) (check-enum-told-4 t) (check-sub-at-out t) (check-at-out-requires t)
     (check-enum-told-5 t) (check-sub-says-in t) (check-says-in-requires t) (check-enum-told-6 t) (check-sub-says-out t) (check-says-out-requires t)
     (check-enum-told-7 t) (check-state-fact-requires t) (check-past-requires-2 t) (check-enum-told-8 t) (check-order-requires t) (check-past-requires-3 t)
-    (check-enum-told-9 t) (check-infer-requires t) (check-checked-by-requires t) (check-enum-told-10 t) (check-misfit-requires-2 t)
-    (check-same-length t) (check-returns-2 t) (check-returns-3 t) (check-same-length-2 t) (check-returns-4 t) (check-same-length-3 t)
-    (check-returns-5 t) (check-same-length-4 t) (check-returns-6 t) (check-same-length-5 t) (check-returns-7 t) (check-same-length-6 t)
-    (check-returns-8 t) (check-returns-9 t) (check-same-length-7 t) (check-returns-10 t) (check-returns-11 t))
+    (check-enum-told-9 t) (check-infer-requires t) (check-checked-by-requires t) (check-enum-told-10 t) (check-misfit-requires-2 t) (check-same-length t)
+    (check-same-length-2 t) (check-returns-2 t) (check-returns-3 t) (check-same-length-3 t) (check-same-length-4 t) (check-returns-4 t)
+    (check-same-length-5 t) (check-same-length-6 t) (check-returns-5 t) (check-same-length-7 t) (check-same-length-8 t) (check-returns-6 t)
+    (check-same-length-9 t) (check-same-length-10 t) (check-returns-7 t) (check-same-length-11 t) (check-returns-8 t) (check-returns-9 t)
+    (check-same-length-12 t) (check-same-length-13 t) (check-returns-10 t) (check-returns-11 t))
     (λ t. infer-lts.spec (infer-calls t) (infer-at t) infer.Post (infer-misfit-requires t) (infer-nothing-requires t) (infer-returns t)
-    (infer-past-requires t) (infer-infer-tag-at-requires t) (infer-enum-told t) (infer-local-requires t) (infer-enum-told-2 t) (infer-certificate-requires t)
-    (infer-enum-told-3 t) (infer-sub-infer t) (infer-infer-requires t) (infer-first-requires t) (infer-enum-told-4 t) (infer-sub-infer-2 t)
-    (infer-infer-requires-2 t) (infer-second-requires t) (infer-enum-told-5 t) (infer-sub-apply t) (infer-apply-requires t) (infer-enum-told-6 t)
-    (infer-term-at-requires t) (infer-sub-infer-3 t) (infer-infer-requires-3 t) (infer-instance-requires t) (infer-enum-told-7 t) (infer-misfit-requires-2 t)
-    (infer-nothing-requires-2 t) (infer-returns-2 t) (infer-returns-3 t) (infer-same-length t) (infer-returns-4 t) (infer-same-length-2 t)
-    (infer-returns-5 t) (infer-same-length-3 t) (infer-returns-6 t) (infer-same-length-4 t) (infer-returns-7 t) (infer-returns-8 t))
-    (λ t. pair-lts.spec (pair-calls t) (pair-at t) pair.Post (pair-sides-of-requires t) (pair-goes-on-requires t) (pair-returns t)
-    (pair-past-requires t) (pair-check-requires t) (pair-goes-on-requires-2 t) (pair-same-length t) (pair-returns-2 t) (pair-check-requires-2 t)
-    (pair-same-length-2 t) (pair-returns-3 t))
+    (infer-past-requires t) (infer-infer-tag-at-requires t) (infer-enum-told t) (infer-local-requires t) (infer-enum-told-2 t)
+    (infer-certificate-requires t) (infer-enum-told-3 t) (infer-sub-infer t) (infer-infer-requires t) (infer-first-requires t) (infer-enum-told-4 t)
+    (infer-sub-infer-2 t) (infer-infer-requires-2 t) (infer-second-requires t) (infer-enum-told-5 t) (infer-sub-apply t) (infer-apply-requires t)
+    (infer-enum-told-6 t) (infer-term-at-requires t) (infer-sub-infer-3 t) (infer-infer-requires-3 t) (infer-instance-requires t) (infer-enum-told-7 t)
+    (infer-misfit-requires-2 t) (infer-nothing-requires-2 t) (infer-same-length t) (infer-returns-2 t) (infer-returns-3 t) (infer-same-length-2 t)
+    (infer-same-length-3 t) (infer-returns-4 t) (infer-same-length-4 t) (infer-same-length-5 t) (infer-returns-5 t) (infer-same-length-6 t)
+    (infer-same-length-7 t) (infer-returns-6 t) (infer-same-length-8 t) (infer-same-length-9 t) (infer-returns-7 t) (infer-returns-8 t))
+    (λ t. pair-lts.spec (pair-calls t) (pair-at t) pair.Post (pair-sides-of-requires t) (pair-goes-on-requires t) (pair-returns t) (pair-past-requires t)
+    (pair-check-requires t) (pair-goes-on-requires-2 t) (pair-same-length t) (pair-same-length-2 t) (pair-returns-2 t) (pair-check-requires-2 t)
+    (pair-same-length-3 t) (pair-same-length-4 t) (pair-returns-3 t))
     (λ t. says-in-lts.spec (says-in-calls t) (says-in-at t) says-in.Post (says-in-said-requires t) (says-in-goes-on-requires t) (says-in-returns t)
-    (says-in-past-requires t) (says-in-check-requires t) (says-in-same-length t) (says-in-returns-2 t))
+    (says-in-past-requires t) (says-in-check-requires t) (says-in-same-length t) (says-in-same-length-2 t) (says-in-returns-2 t))
     λ t. says-out-lts.spec (says-out-calls t) (says-out-at t) says-out.Post (says-out-past-requires t) (says-out-infer-requires t)
-    (says-out-goes-on-requires t) (says-out-same-length t) (says-out-returns t) (says-out-said-requires t) (says-out-goes-on-requires-2 t)
-    (says-out-same-length-2 t) (says-out-returns-2 t) (says-out-assuming-requires t) (says-out-same-length-3 t) (says-out-returns-3 t)
+    (says-out-goes-on-requires t) (says-out-same-length t) (says-out-same-length-2 t) (says-out-returns t) (says-out-said-requires t)
+    (says-out-goes-on-requires-2 t) (says-out-same-length-3 t) (says-out-same-length-4 t) (says-out-returns-2 t) (says-out-assuming-requires t)
+    (says-out-same-length-5 t) (says-out-same-length-6 t) (says-out-returns-3 t)

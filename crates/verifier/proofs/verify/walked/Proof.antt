@@ -1,4 +1,5 @@
--- The walk begins with nothing assumed, and with the ledger at its start, at the step of the proof that takes all of its bytes.
+-- The walk begins with nothing assumed, in rows that are all there, and with the ledger at its start, at the step of the proof that takes all of its bytes.
+use mathlib.Core.Path.{refl}
 use borrow.Author.Needs.{needs}
 use Rattle.verifier.proofs.WalkBegins.{walk-of-request}
 use Rattle.verifier.proofs.verify.walked.Statement.{statement}
@@ -27,13 +28,13 @@ same-length c = search needs
 
 returns : tie.Need-returns
 returns c =
-    let check = c .before .before .before .check in
-    let started = c .before .before .before .before .before .before .before in
+    let check = c .before .before .before .before .check in
+    let started = c .before .before .before .before .before .before .before .before in
     let begin = started .begin in
     let goal = started .before .front-on-ctime in
     let goal-of = started .before .before .goal-of in
     walk-of-request _ _ _ _ _ _ _ _ _ (check .result) (check .last .1 .1 .1 .1 .0) (begin .result) (goal .result) (begin .ensures) (goal .ensures)
-    (goal-of .ensures) (check .ensures)
+    refl (goal-of .ensures) (check .ensures .0)
 
 pub walked-spec : {M : Type 1} → statement M
 walked-spec =
