@@ -23,14 +23,14 @@ use Rattle.procap.proofs.Refused.{IfRefused, go-on-refused, require-refused, or
 use Rattle.procap.proofs.Indices.{made-length}
 use Rattle.text.specs.Reader.{text-in}
 use Rattle.text.specs.Calls.{reading}
-use Rattle.door.specs.Door.{each-holds, opening, opening-text, packed}
+use Rattle.door.specs.Door.{each-holds, before-facts, opening, opening-text, packed}
 
 -- The answer has a number from 1 to 14, and its place is one of a procap's facts.
-abbrev Refuses : Answer → Type 0
+abbrev pub Refuses : Answer → Type 0
 Refuses answer = (0 < number-of answer) × (place-of answer < most-facts)
 
 -- If the outcome is a refusal, it is such an answer.
-abbrev RefusesWell : {A : Type 0} → Outcome A → Type 0
+abbrev pub RefusesWell : {A : Type 0} → Outcome A → Type 0
 RefusesWell x = IfRefused Refuses x
 
 press-refuses : (m : ℕ) (state : List ℕ) → RefusesWell (read-press m state)
@@ -38,6 +38,15 @@ unfolding read-press
 press-refuses m state =
     go-on-refused Refuses _ _ (require-refused Refuses MomentAboveLatest (decLe m latest) (omega arith, omega arith))
     (λ _ _. or-else-refused Refuses StateMalformed (stated state) (omega arith, omega arith))
+
+pub before-refuses : (asked : Request) (from to : ℕ) (r : Request) (m : ℕ) (state : List ℕ) → RefusesWell (before-facts asked from to r m state)
+unfolding before-facts
+before-refuses asked from to r m state =
+    go-on-refused Refuses _ _ (press-refuses m state) λ σ _.
+    go-on-refused Refuses _ _ (require-refused Refuses RequestDiffers (request? r asked) (omega arith, omega arith)) λ _ _.
+    go-on-refused Refuses _ _ (require-refused Refuses MomentOutside (decLe from m) (omega arith, omega arith)) λ _ _.
+    go-on-refused Refuses _ _ (require-refused Refuses MomentOutside (decLe m to) (omega arith, omega arith)) λ _ _.
+    tt
 
 each-refuses : (m : ℕ) (σ : List Spelled) (i : ℕ) (fs : List Spelled) → i + length fs ≤ most-facts → RefusesWell (each-holds m σ i fs)
 unfolding each-holds
@@ -73,8 +82,8 @@ unfolding answer-of
 small-place (granted u) h = omega arith
 small-place (refused answer) h = h .1
 
-pub places-are-small : (p : Procap) (r : Request) (m : ℕ) (state : List ℕ) → place-of (answer-of (opening p r m state)) < most-facts
-places-are-small p r m state = small-place _ (opening-refuses p r m state)
+pub places-are-small : (text : List ℕ) (r : Request) (m : ℕ) (state : List ℕ) → place-of (answer-of (opening-text text r m state)) < most-facts
+places-are-small text r m state = small-place _ (text-refuses text r m state)
 
 -- What is handed to C is 0 exactly when the door opens.
 pub zero-exactly-when-open : (text : List ℕ) (r : Request) (m : ℕ) (state : List ℕ)

@@ -28,6 +28,15 @@ each-holds m σ i (f ∷ fs) =
 abbrev pub NamesMissing : ℕ → List ℕ → List Spelled → Answer → Type 0
 NamesMissing m state fs answer = (σ : List Spelled) → stated state ≡ some σ → answer ≡ answer-of (each-holds m σ 0 fs)
 
+-- What comes before the facts, for a procap with this request and these moments: 11, 7, 8, 9, and else the state.
+unfoldable pub before-facts : Request → ℕ → ℕ → Request → ℕ → List ℕ → Outcome (List Spelled)
+before-facts asked from to r m state =
+    go-on (read-press m state) λ σ.
+    go-on (require RequestDiffers (request? r asked)) λ _.
+    go-on (require MomentOutside (decLe from m)) λ _.
+    go-on (require MomentOutside (decLe m to)) λ _.
+    granted σ
+
 -- [Numbers, order of the door] 12, 11, 7, 8, 9, 10.
 unfoldable pub opening : Procap → Request → ℕ → List ℕ → Outcome (Unit {0})
 opening p r m state =

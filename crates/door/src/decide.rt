@@ -11,7 +11,7 @@ ghost use Rattle.procap.specs.Tells.{Tells};
 ghost use Rattle.procap.specs.Procaps.{listed, «most-facts»};
 ghost use Rattle.procap.specs.Writable.{Writable};
 ghost use Rattle.procap.specs.Outcome.{«answer-of»};
-ghost use Rattle.door.specs.Door.{NamesMissing, opening, «request-of»};
+ghost use Rattle.door.specs.Door.{NamesMissing, «before-facts», opening, «request-of»};
 
 // What the door answers to a press for a request of three numbers, at a moment in a state.
 pub(crate) fn decide(
@@ -25,30 +25,52 @@ pub(crate) fn decide(
     requires { ⌜ Writable procap ⌝ }
     ensures { λ r. ⌜ r ≡ «answer-of» (opening procap («request-of» who what right) moment (now (state .entry))) ⌝ }
 {
+    let request = procap.request;
+    let early = before_facts(
+        request,
+        procap.from,
+        procap.to,
+        who,
+        what,
+        right,
+        moment,
+        state,
+    );
+    if early.number() != 0 {
+        return early;
+    }
+    first_missing(procap, moment, state)
+}
+
+// What the door answers before it looks at the facts of a procap with this request and these moments: 11, 7, 8, 9, or that they decide.
+pub(crate) fn before_facts(
+    asked: Request,
+    from: u64,
+    to: u64,
+    who: u64,
+    what: u64,
+    right: u64,
+    moment: u64,
+    state: &[u8],
+) -> Answer
+    ensures { λ r. ⌜ r ≡ «answer-of» («before-facts» asked from to («request-of» who what right) moment (now (state .entry))) ⌝ }
+{
     if LATEST_SECOND < moment {
         return Answer::MomentAboveLatest;
     }
     if !well_formed(state) {
         return Answer::StateMalformed;
     }
-    let request = procap.request;
-    if !asks_for(request, who, what, right) {
+    if !asks_for(asked, who, what, right) {
         return Answer::RequestDiffers;
     }
-    if !opens_at(procap, moment) {
+    if moment < from {
         return Answer::MomentOutside;
     }
-    first_missing(procap, moment, state)
-}
-
-// Whether the moment is neither before the procap's from nor after its to.
-fn opens_at(procap: Procap, moment: u64) -> bool
-    ensures { λ r. ⌜ Tells r ((procap .from ≤ moment) × (moment ≤ procap .to)) ⌝ }
-{
-    if moment < procap.from {
-        return false;
+    if to < moment {
+        return Answer::MomentOutside;
     }
-    moment <= procap.to
+    Answer::Granted
 }
 
 // Whether the request is the one of these three numbers.

@@ -1,12 +1,20 @@
 // The door on a procap text: the call of the desk firmware.
-use crate::decide::decide;
+use crate::decide::before_facts;
 use procap::answer::Answer;
-use text::reader::read_text;
+use procap::procap::MOST_FACTS;
+use state::stands_in;
+use text::facts::fact_at;
+use text::reader::look_over;
 ghost use mathlib.Core.Path.{_≡_};
-ghost use Prim.Native.Nat.{_<_};
+ghost use mathlib.Core.List.{List};
+ghost use Prim.Native.Nat.{_≤_, _<_};
+ghost use lib.ListN.{take};
+ghost use Rattle.procap.specs.Facts.{Spelled};
+ghost use Rattle.procap.specs.Procaps.{«most-facts»};
+ghost use Rattle.text.specs.Places.{OnLines};
 ghost use Rattle.procap.specs.Answers.{«place-of»};
 ghost use Rattle.procap.specs.Outcome.{«answer-of»};
-ghost use Rattle.door.specs.Door.{«opening-text», «request-of», packed};
+ghost use Rattle.door.specs.Door.{«opening-text», «request-of», NamesMissing, packed};
 
 // What the door answers, as 256 times the number plus the place. 12 comes first, for bytes that are no text; a number that is no name is in no request.
 #[no_mangle]
@@ -20,13 +28,41 @@ pub extern "C" fn procap_door(
 ) -> u64
     ensures { λ r. ⌜ r ≡ packed («answer-of» («opening-text» (now (text .entry)) («request-of» who what right) moment (now (state .entry)))) ⌝ }
 {
-    let read = read_text(text);
-    let answer = read.answer;
-    if answer.number() != 0 {
-        return as_number(answer);
+    let seen = look_over(text);
+    if !seen.found {
+        return as_number(Answer::ProcapMalformed);
     }
-    let procap = read.procap;
-    as_number(decide(procap, who, what, right, moment, state))
+    let request = seen.request;
+    let early = before_facts(request, seen.from, seen.to, who, what, right, moment, state);
+    if early.number() != 0 {
+        return as_number(early);
+    }
+    let places = seen.places;
+    as_number(first_line_missing(text, places, seen.count, moment, state))
+}
+
+// The answer that names the first fact, of those on the lines at the first so many places, that does not hold, or that the door opens.
+fn first_line_missing(
+    text: &[u8],
+    places: [usize; MOST_FACTS],
+    count: usize,
+    moment: u64,
+    state: &[u8],
+) -> Answer
+    requires { ⌜ count ≤ «most-facts» ⌝ }
+    ensures { λ r. ⌜ ((fs : List Spelled) → OnLines (now (text .entry)) (take count places) fs → NamesMissing moment (now (state .entry)) fs r) ⌝ }
+{
+    let mut i: usize = 0;
+    while i < count {
+        let read = fact_at(text, places[i]);
+        let fact = read.fact;
+        let wanted = fact.at_moment(moment);
+        if !stands_in(state, wanted) {
+            return Answer::FactMissing(i);
+        }
+        i += 1;
+    }
+    Answer::Granted
 }
 
 // The answer as 256 times its number plus its place.

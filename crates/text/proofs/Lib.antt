@@ -15,3 +15,6 @@ pub mod Lines
 pub mod Terms
 pub mod FactLines
 pub mod Readings
+pub mod SameLines
+pub mod OnLines
+pub mod LinesSoFar

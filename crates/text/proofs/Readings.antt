@@ -2,33 +2,32 @@
 -- there are none where one does not.
 use Prim.Native.Nat.{ℕ, _≤_, _<_}
 use mathlib.Core.Bool.{true, false, not}
-use mathlib.Core.Path.{_≡_, sym, ap, subst, _∙_}
+use mathlib.Core.Path.{_≡_, refl, sym}
 use mathlib.Core.List.{List, map}
 use mathlib.Core.Option.{Option, some, none}
-use lib.ListN.{length}
+use lib.ListN.{length, take}
 use borrow.Author.Tests.{le-leb, lt-leb, eq-eqb, ne-eqb, not-true, not-false}
 use Rattle.procap.specs.Lists.{Distinct, pad}
 use Rattle.procap.specs.Times.{latest}
 use Rattle.procap.specs.Facts.{Spelled, fact-of, no-fact}
-use Rattle.procap.specs.Procaps.{most-facts, version-one, empty-procap, listed, procap-of}
+use Rattle.procap.specs.Procaps.{most-facts, version-one, empty-procap, procap-of}
 use Rattle.procap.specs.Writable.{largest-name}
-use Rattle.procap.specs.Outcome.{or-else, answer-of, procap-handed}
+use Rattle.procap.specs.Outcome.{Outcome, granted, refused, or-else, answer-of, procap-handed}
 use Rattle.procap.specs.Bytes.{Reader, then, ensure, many, to-the-end, whole}
 use Rattle.procap.specs.Deciding.{distinct?, spelled?}
 use Rattle.procap.specs.declared.answer.Answer.the-variants.{Granted, ProcapMalformed}
 use Rattle.procap.specs.declared.fact.Fact.{Fact}
 use Rattle.procap.specs.declared.procap.Request.{Request}
 use Rattle.procap.specs.declared.procap.Procap.{Procap}
-use Rattle.procap.proofs.Listed.{listed-back}
-use Rattle.procap.proofs.Readers.{so-read, any-read, many-read}
 use Rattle.procap.proofs.Telling.{so-told, not-told}
 use Rattle.text.specs.Words.{bytes-of}
 use Rattle.text.specs.Reader.{line-to, fact-line, request-lines, moment-lines, procap-with, procap-lines, text-in}
-use Rattle.text.specs.Places.{RequestReads, MomentsReads, FactsReads}
-use Rattle.text.specs.declared.facts.FactsRead.{FactsRead}
+use Rattle.text.specs.Places.{RequestReads, MomentsReads, OnLines, LinesFound, LinesReads, SeesBy, Sees}
+use Rattle.text.specs.declared.fact_places.LinesRead.{LinesRead}
 use Rattle.text.specs.declared.reader.RequestRead.{RequestRead}
 use Rattle.text.specs.declared.reader.MomentsRead.{MomentsRead}
 use Rattle.text.specs.declared.reader.ReadText.{ReadText}
+use Rattle.text.specs.declared.reader.Overview.{Overview}
 
 -- ── What the flags say ──
 
@@ -46,12 +45,21 @@ pub moments-found : (o : Option ((ℕ × ℕ) × ℕ)) (r : MomentsRead) → not
     → o ≡ some ((r .from, r .to), r .next)
 moments-found o r f h = rw (not-false (r .found) f) at h
 
-pub facts-missing : (o : Option (List Spelled × ℕ)) (r : FactsRead) → not (r .found) ≡ true → FactsReads o r → o ≡ none
-facts-missing o r f h = rw (not-true (r .found) f) at h
+-- Where the flag is false there are no such lines, no two of them alike; where it is true, those at the places beside it.
+module _ (text : List ℕ) (o : Option (List Spelled × ℕ)) (count : ℕ) (r : LinesRead) where
+  pub lines-missing : not (r .found) ≡ true → LinesReads text o count r → LinesFound text o count false (r .places) (r .next)
+  lines-missing f h = rw (not-true (r .found) f) at h
 
-pub facts-found : (o : Option (List Spelled × ℕ)) (r : FactsRead) → not (r .found) ≡ false → FactsReads o r
-    → (fs : List Spelled) × (o ≡ some (fs, r .next)) × (r .facts ≡ pad most-facts no-fact (map fact-of fs))
-facts-found o r f h = rw (not-false (r .found) f) at h
+  pub lines-found : not (r .found) ≡ false → LinesReads text o count r → LinesFound text o count true (r .places) (r .next)
+  lines-found f h = rw (not-false (r .found) f) at h
+
+-- The same of a text that was looked over.
+module _ (text : List ℕ) (o : Outcome Procap) (r : Overview) where
+  pub overview-missing : not (r .found) ≡ true → Sees text o r → o ≡ refused ProcapMalformed
+  overview-missing f h = rw (not-true (r .found) f) at h
+
+  pub overview-found : not (r .found) ≡ false → Sees text o r → SeesBy text o true r
+  overview-found f h = rw (not-false (r .found) f) at h
 
 -- ── The request ──
 
@@ -102,10 +110,6 @@ module _ (text : List ℕ) (at : ℕ) where
 
 -- ── The procap ──
 
--- So many values are a list of that length.
-pub many-length : {A : Type 0} (r : Reader A) (n at : ℕ) (xs : List A) (next : ℕ) → many r n at ≡ some (xs, next) → length xs ≡ n
-many-length r n at xs next e = so-read (many r n at) e (many-read (λ k. any-read (r k)) n at) .0
-
 -- The array of facts that were read, with the values beside it, is the procap of these facts.
 pub procap-made : (r : Request) (from to count : ℕ) (facts : List Fact) (fs : List Spelled)
     → length fs ≡ count → facts ≡ pad most-facts no-fact (map fact-of fs)
@@ -120,14 +124,6 @@ procap-made r from to count facts fs n e = λ i. record {
   facts = e i;
 }
 
--- Such a procap lists no fact twice where none of these is there twice.
-module _ (p : Procap) (r : Request) (from to : ℕ) (fs : List Spelled) (e : p ≡ procap-of r from to fs) where
-  pub distinct-facts : Distinct (listed p) → Distinct fs
-  distinct-facts d = subst Distinct (ap listed e ∙ listed-back r from to fs) d
-
-  pub distinct-listed : Distinct fs → Distinct (listed p)
-  distinct-listed d = subst Distinct (sym (ap listed e ∙ listed-back r from to fs)) d
-
 module _ (text : List ℕ) (r : Request) (from to at : ℕ) where
   -- Without its count, or one of its facts, there is no procap.
   pub no-count : line-to text (bytes-of "facts=") most-facts at ≡ none → procap-with text r from to at ≡ none
@@ -135,13 +131,13 @@ module _ (text : List ℕ) (r : Request) (from to at : ℕ) where
   no-count e = rw e
 
   module _ (count start : ℕ) (e : line-to text (bytes-of "facts=") most-facts at ≡ some (count, start)) where
-    pub no-facts : many (fact-line text) count start ≡ none → procap-with text r from to at ≡ none
+    no-facts : many (fact-line text) count start ≡ none → procap-with text r from to at ≡ none
     unfolding procap-with then
     no-facts f = rw (e, f)
 
     module _ (fs : List Spelled) (end : ℕ) (f : many (fact-line text) count start ≡ some (fs, end)) where
       -- With them it is the procap of the facts, if none of these is listed twice.
-      pub fact-twice : (Distinct fs → ⊥) → procap-with text r from to at ≡ none
+      fact-twice : (Distinct fs → ⊥) → procap-with text r from to at ≡ none
       unfolding procap-with then ensure
       fact-twice n = rw (e, f, not-told (distinct? spelled? fs) n)
 
@@ -160,6 +156,15 @@ module _ (text : List ℕ) (r : Request) (from to at : ℕ) where
       pub procap-whole : Distinct fs → end ≡ length text → to-the-end text (procap-with text r from to at) ≡ some (procap-of r from to fs)
       unfolding to-the-end
       procap-whole d l = rw (procap-here d, eq-eqb end (length text) l)
+
+    -- Nor is there one without such lines, no two of them alike.
+    pub no-such-lines : ((fs : List Spelled) (end : ℕ) → many (fact-line text) count start ≡ some (fs, end) → Distinct fs → ⊥)
+        → procap-with text r from to at ≡ none
+    no-such-lines n = by (many (fact-line text) count start) refl
+      where
+        by : (o : Option (List Spelled × ℕ)) → many (fact-line text) count start ≡ o → procap-with text r from to at ≡ none
+        by none f = no-facts f
+        by (some (fs, end)) f = fact-twice fs end f (n fs end f)
 
 -- What is none does not take all the bytes either.
 pub none-whole : {A : Type 0} (text : List ℕ) (o : Option (A × ℕ)) → o ≡ none → to-the-end text o ≡ none
@@ -196,17 +201,31 @@ module _ (text : List ℕ) where
         unfolding text-in whole procap-lines then ensure
         text-says from to next g = rw (e, v, f, g)
 
+-- ── What is seen ──
+
+-- Where there is no procap and nothing was seen, that is so; where there is one, what was seen is enough to make it.
+pub none-seen : (text : List ℕ) (o : Option Procap) (r : Overview) → r .found ≡ false → o ≡ none → Sees text (or-else ProcapMalformed o) r
+unfolding or-else
+none-seen text o r f e = rw (f, e)
+
+pub some-seen : (text : List ℕ) (o : Option Procap) (request : Request) (from to count : ℕ) (places : List ℕ) (fs : List Spelled)
+    → o ≡ some (procap-of request from to fs) → length fs ≡ count → count ≤ most-facts → OnLines text (take count places) fs
+    → Sees text (or-else ProcapMalformed o)
+    (record { found = true; request = request; from = from; to = to; count = count; places = places })
+unfolding or-else
+some-seen text o request from to count places fs e n l on = (fs, rw e, n, l, on)
+
 -- ── What is handed over ──
 
 -- The answer and the procap of a reading.
-abbrev Handed : Option Procap → ReadText → Type 0
-Handed o r = (r .answer ≡ answer-of (or-else ProcapMalformed o)) × (r .procap ≡ procap-handed (or-else ProcapMalformed o))
+abbrev Handed : Outcome Procap → ReadText → Type 0
+Handed o r = (r .answer ≡ answer-of o) × (r .procap ≡ procap-handed o)
 
 -- Where there is no procap, the answer is 12 and the procap is empty; where there is one, it is granted.
-pub none-handed : (o : Option Procap) (r : ReadText) → (r .answer ≡ ProcapMalformed) × (r .procap ≡ empty-procap) → o ≡ none → Handed o r
-unfolding or-else answer-of procap-handed
+pub none-handed : (o : Outcome Procap) (r : ReadText) → (r .answer ≡ ProcapMalformed) × (r .procap ≡ empty-procap) → o ≡ refused ProcapMalformed → Handed o r
+unfolding answer-of procap-handed
 none-handed o r h e = rw e h
 
-pub some-handed : (o : Option Procap) (r : ReadText) (p : Procap) → r .answer ≡ Granted → r .procap ≡ p → o ≡ some p → Handed o r
-unfolding or-else answer-of procap-handed
+pub some-handed : (o : Outcome Procap) (r : ReadText) (p : Procap) → r .answer ≡ Granted → r .procap ≡ p → o ≡ granted p → Handed o r
+unfolding answer-of procap-handed
 some-handed o r p a h e = rw e (a, h)

@@ -121,7 +121,7 @@ module _ {bytes : List ℕ} where
       then-read (byte-read at) λ b mid t _. more-terms-read n (λ k. terms-read n k) (mark-of b) b at mid (mark-is b) t
 
   -- A fact is read from just its line.
-  fact-read : (at : ℕ) → TextRead bytes at fact-text SpelledInForm (fact-line bytes at)
+  pub fact-read : (at : ℕ) → TextRead bytes at fact-text SpelledInForm (fact-line bytes at)
   unfolding fact-line fact-text
   fact-read at =
       then-read (literal-read (bytes-of "fact=") at) λ _ m₁ t₁ _.
@@ -190,7 +190,7 @@ module _ {bytes : List ℕ} where
       rw (byte-found t₁, term-found t (f .0) t₂ (ended-by-terms ts t₃), terms-found n ts (omega arith) (f .1) t₃)
 
   -- A fact whose line stands there is found.
-  fact-found : (f : Spelled) {at after : ℕ} → SpelledInForm f → Takes bytes at (fact-text f) after → fact-line bytes at ≡ some (f, after)
+  pub fact-found : (f : Spelled) {at after : ℕ} → SpelledInForm f → Takes bytes at (fact-text f) after → fact-line bytes at ≡ some (f, after)
   unfolding fact-line fact-text then
   fact-found f i h =
       parted (bytes-of "fact=" ++ decimal (f .0)) (terms-line (f .1)) (rw append-assoc at h) λ m₂ t₁₂ t₃.

@@ -1,21 +1,25 @@
 -- How what the code's readers of the text hand back stands to the readers of these pages. What is promised of reading a text does not rest on this.
-use Prim.Native.Nat.{ℕ, _+_, _<_}
+use Prim.Native.Nat.{ℕ, _+_, _≤_, _<_}
 use mathlib.Core.Bool.{Bool, true, false}
 use mathlib.Core.Path.{_≡_}
-use mathlib.Core.List.{List, [], _∷_, map}
+use mathlib.Core.List.{List, [], _∷_}
 use mathlib.Core.Option.{Option, some, none}
-use lib.ListN.{length, drop}
-use Rattle.procap.specs.Lists.{pad}
-use Rattle.procap.specs.Facts.{Spelled, fact-of, no-fact}
-use Rattle.procap.specs.Procaps.{most-facts}
-use Rattle.procap.specs.declared.fact.Fact.{Fact}
+use lib.ListN.{length, take, drop}
+use Rattle.procap.specs.Lists.{Distinct}
+use Rattle.procap.specs.Facts.{Spelled}
+use Rattle.procap.specs.Procaps.{most-facts, procap-of}
+use Rattle.procap.specs.Outcome.{Outcome, granted, refused}
+use Rattle.procap.specs.declared.answer.Answer.the-variants.{ProcapMalformed}
+use Rattle.procap.specs.declared.procap.Procap.{Procap}
 use Rattle.procap.specs.declared.procap.Request.{Request}
 use Rattle.text.specs.Numbers.{digit-zero, leading-digits}
 use Rattle.text.specs.declared.line.Place.{Place}
 use Rattle.text.specs.declared.line.Place.the-variants.{At, Nowhere}
 use Rattle.text.specs.declared.line.Digit.{Digit}
 use Rattle.text.specs.declared.line.Digit.the-variants.{Value, NoDigit}
-use Rattle.text.specs.declared.facts.FactsRead.{FactsRead}
+use Rattle.text.specs.Reader.{fact-line}
+use Rattle.text.specs.declared.fact_places.LinesRead.{LinesRead}
+use Rattle.text.specs.declared.reader.Overview.{Overview}
 use Rattle.text.specs.declared.reader.RequestRead.{RequestRead}
 use Rattle.text.specs.declared.reader.MomentsRead.{MomentsRead}
 
@@ -46,10 +50,34 @@ MomentsFound o false from to next = o ≡ none
 abbrev pub MomentsReads : Option ((ℕ × ℕ) × ℕ) → MomentsRead → Type 0
 MomentsReads o r = MomentsFound o (r .found) (r .from) (r .to) (r .next)
 
--- The same of some facts, which stand at the front of an array with zeros past them.
-abbrev pub FactsFound : Option (List Spelled × ℕ) → Bool → List Fact → ℕ → Type 0
-FactsFound o true facts next = (fs : List Spelled) × (o ≡ some (fs, next)) × (facts ≡ pad most-facts no-fact (map fact-of fs))
-FactsFound o false facts next = o ≡ none
+-- The line of this fact stands at a place and ends at another.
+abbrev pub ReadsAt : List ℕ → ℕ → Spelled → ℕ → Type 0
+ReadsAt text at f e = fact-line text at ≡ some (f, e)
 
-abbrev pub FactsReads : Option (List Spelled × ℕ) → FactsRead → Type 0
-FactsReads o r = FactsFound o (r .found) (r .facts) (r .next)
+-- At each of these places begins the line of one of these facts, in their order.
+unfoldable pub OnLines : List ℕ → List ℕ → List Spelled → Type 0
+OnLines text [] [] = Unit {0}
+OnLines text [] (f ∷ fs) = ⊥
+OnLines text (p ∷ ps) [] = ⊥
+OnLines text (p ∷ ps) (f ∷ fs) = ((e : ℕ) × ReadsAt text p f e) × OnLines text ps fs
+
+-- So many lines of facts that a reader finds, no two alike, by their places, and the place after them; or, by the flag, there are no such lines.
+abbrev pub LinesFound : List ℕ → Option (List Spelled × ℕ) → ℕ → Bool → List ℕ → ℕ → Type 0
+LinesFound text o count true places next = (fs : List Spelled) × (o ≡ some (fs, next)) × Distinct fs × (length fs ≡ count) × OnLines text (take count places) fs
+LinesFound text o count false places next = (fs : List Spelled) (e : ℕ) → o ≡ some (fs, e) → Distinct fs → ⊥
+
+abbrev pub LinesReads : List ℕ → Option (List Spelled × ℕ) → ℕ → LinesRead → Type 0
+LinesReads text o count r = LinesFound text o count (r .found) (r .places) (r .next)
+
+-- What reading comes to, for a text that was looked over: the procap of what was seen, with the facts on the lines; or no text, by the flag.
+abbrev pub SeesBy : List ℕ → Outcome Procap → Bool → Overview → Type 0
+SeesBy text o true r =
+    (fs : List Spelled)
+    × (o ≡ granted (procap-of (r .request) (r .from) (r .to) fs))
+    × (length fs ≡ r .count)
+    × (r .count ≤ most-facts)
+    × OnLines text (take (r .count) (r .places)) fs
+SeesBy text o false r = o ≡ refused ProcapMalformed
+
+abbrev pub Sees : List ℕ → Outcome Procap → Overview → Type 0
+Sees text o r = SeesBy text o (r .found) r

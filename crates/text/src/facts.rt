@@ -1,4 +1,4 @@
-// The lines of facts.
+// The line of a fact.
 use crate::line::Place;
 use crate::line::after;
 use crate::line::number;
@@ -9,58 +9,16 @@ use procap::fact::Argument;
 use procap::fact::Fact;
 use procap::fact::MOST_TERMS;
 use procap::fact::Term;
-use procap::procap::MOST_FACTS;
 use procap::tag::TermTag;
 use procap::time::LATEST_SECOND;
 use procap::time::Time;
 use procap::writable::LARGEST_NAME;
-ghost use Prim.Native.Nat.{_≤_};
 ghost use Rattle.procap.specs.Facts.{«most-terms»};
-ghost use Rattle.procap.specs.Procaps.{«most-facts»};
-ghost use Rattle.procap.specs.Bytes.{many};
 ghost use Rattle.procap.specs.Reading.{TermReads, FactReads, «with-predicate»};
 ghost use Rattle.text.specs.Reader.{«term», «term-with», «terms», «fact-line»};
-ghost use Rattle.text.specs.Places.{FactsReads};
-
-// Whether the facts were read, the facts, and the place after them.
-pub struct FactsRead {
-    pub found: bool,
-    pub facts: [Fact; MOST_FACTS],
-    pub next: usize,
-}
-
-// So many lines of facts at a place.
-pub(crate) fn facts_at(text: &[u8], at: usize, count: usize) -> FactsRead
-    requires { ⌜ count ≤ «most-facts» ⌝ }
-    ensures { λ r. ⌜ FactsReads (many («fact-line» (now (text .entry))) count at) r ⌝ }
-{
-    let none = Fact::none();
-    let mut facts = [none; MOST_FACTS];
-    let mut next = at;
-    let mut i: usize = 0;
-    while i < count {
-        let read = fact_at(text, next);
-        if !read.found {
-            return FactsRead {
-                found: false,
-                facts: facts,
-                next: next,
-            };
-        }
-        let fact = read.fact;
-        facts[i] = fact;
-        next = read.next;
-        i += 1;
-    }
-    FactsRead {
-        found: true,
-        facts: facts,
-        next: next,
-    }
-}
 
 // The line of a fact at a place.
-fn fact_at(text: &[u8], at: usize) -> FactRead
+pub fn fact_at(text: &[u8], at: usize) -> FactRead
     ensures { λ r. ⌜ FactReads («fact-line» (now (text .entry)) at) r ⌝ }
 {
     let Place::At(after_word) = after(text, at, b"fact=") else {

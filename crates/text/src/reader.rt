@@ -1,5 +1,6 @@
 // From a text to the procap that it says.
-use crate::facts::facts_at;
+use crate::fact_places::facts_on;
+use crate::fact_places::lines_at;
 use crate::line::line;
 use procap::answer::Answer;
 use procap::bytes::NumberRead;
@@ -9,19 +10,28 @@ use procap::procap::Request;
 use procap::procap::VERSION;
 use procap::time::LATEST_SECOND;
 use procap::writable::LARGEST_NAME;
-use procap::writable::few_and_distinct;
 ghost use mathlib.Core.Bool.{Bool};
 ghost use mathlib.Core.Path.{_≡_};
 ghost use Rattle.procap.specs.Procaps.{«empty-procap»};
 ghost use Rattle.procap.specs.Outcome.{«answer-of», «procap-handed»};
 ghost use Rattle.text.specs.Reader.{«request-lines», «moment-lines», «procap-with»};
-ghost use Rattle.text.specs.Places.{RequestReads, MomentsReads};
+ghost use Rattle.text.specs.Places.{RequestReads, MomentsReads, Sees};
 ghost use Rattle.text.specs.Calls.{«read-to-the-end», reading};
 
 // The answer of reading a text, and the procap that it says.
 pub struct ReadText {
     pub answer: Answer,
     pub procap: Procap,
+}
+
+// Whether bytes are a text, and then its request, its moments, how many facts it has and where their lines begin.
+pub struct Overview {
+    pub found: bool,
+    pub request: Request,
+    pub from: u64,
+    pub to: u64,
+    pub count: usize,
+    pub places: [usize; MOST_FACTS],
 }
 
 // Whether a request was read, the request, and the place after it.
@@ -44,55 +54,92 @@ pub fn read_text(text: &[u8]) -> ReadText
     ensures answer { λ r. ⌜ r .answer ≡ «answer-of» (reading (now (text .entry))) ⌝ }
     ensures procap { λ r. ⌜ r .procap ≡ «procap-handed» (reading (now (text .entry))) ⌝ }
 {
-    let NumberRead::Number(version, after_version) = line(text, 0, b"procap=", VERSION as u64)
-    else {
-        return no_text();
-    };
-    if version == 0 {
+    let seen = look_over(text);
+    if !seen.found {
         return no_text();
     }
-    let asked = request_at(text, after_version);
-    if !asked.found {
-        return no_text();
-    }
-    let moments = moments_at(text, asked.next);
-    if !moments.found {
-        return no_text();
-    }
-    let request = asked.request;
-    procap_with(text, request, moments.from, moments.to, moments.next)
-}
-
-// The procap of a request, two moments and the facts from a place to the end of the text.
-fn procap_with(text: &[u8], request: Request, from: u64, to: u64, at: usize) -> ReadText
-    ensures answer { λ r. ⌜ r .answer ≡ «answer-of» («read-to-the-end» (now (text .entry)) («procap-with» (now (text .entry)) request from to at)) ⌝ }
-    ensures procap { λ r. ⌜ r .procap ≡ «procap-handed» («read-to-the-end» (now (text .entry)) («procap-with» (now (text .entry)) request from to at)) ⌝ }
-{
-    let NumberRead::Number(count, after_count) = line(text, at, b"facts=", MOST_FACTS as u64) else {
-        return no_text();
-    };
-    let listed = facts_at(text, after_count, count as usize);
-    if !listed.found {
-        return no_text();
-    }
-    if listed.next != text.len() {
-        return no_text();
-    }
-    let facts = listed.facts;
+    let count = seen.count;
+    let places = seen.places;
+    let request = seen.request;
     let procap = Procap {
         version: VERSION,
         request: request,
-        from: from,
-        to: to,
-        count: count as usize,
-        facts: facts,
+        from: seen.from,
+        to: seen.to,
+        count: count,
+        facts: facts_on(text, places, count),
     };
-    if !few_and_distinct(procap) {
-        return no_text();
-    }
     ReadText {
         answer: Answer::Granted,
         procap: procap,
+    }
+}
+
+// Whether the bytes are a text, and then its request, its moments and where the lines of its facts begin.
+pub fn look_over(text: &[u8]) -> Overview
+    ensures { λ r. ⌜ Sees (now (text .entry)) (reading (now (text .entry))) r ⌝ }
+{
+    let NumberRead::Number(version, after_version) = line(text, 0, b"procap=", VERSION as u64)
+    else {
+        return nothing_seen();
+    };
+    if version == 0 {
+        return nothing_seen();
+    }
+    let asked = request_at(text, after_version);
+    if !asked.found {
+        return nothing_seen();
+    }
+    let moments = moments_at(text, asked.next);
+    if !moments.found {
+        return nothing_seen();
+    }
+    let request = asked.request;
+    look_over_facts(text, request, moments.from, moments.to, moments.next)
+}
+
+// The same of a request, two moments and the facts from a place to the end of the text.
+fn look_over_facts(text: &[u8], request: Request, from: u64, to: u64, at: usize) -> Overview
+    ensures { λ r. ⌜ Sees (now (text .entry)) («read-to-the-end» (now (text .entry)) («procap-with» (now (text .entry)) request from to at)) r ⌝ }
+{
+    let NumberRead::Number(facts, after_count) = line(text, at, b"facts=", MOST_FACTS as u64) else {
+        return nothing_seen();
+    };
+    let count = facts as usize;
+    let lines = lines_at(text, after_count, count);
+    if !lines.found {
+        return nothing_seen();
+    }
+    if lines.next != text.len() {
+        return nothing_seen();
+    }
+    let places = lines.places;
+    Overview {
+        found: true,
+        request: request,
+        from: from,
+        to: to,
+        count: count,
+        places: places,
+    }
+}
+
+// What is handed back for bytes that are no text.
+fn nothing_seen() -> Overview
+    ensures { λ r. ⌜ r .found ≡ Bool.false ⌝ }
+{
+    let request = Request {
+        who: 0,
+        what: 0,
+        right: 0,
+    };
+    Overview {
+        found: false,
+        request: request,
+        from: 0,
+        to: 0,
+        count: 0,
+        places: [0usize; MOST_FACTS],
     }
 }
 

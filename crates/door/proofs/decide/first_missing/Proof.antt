@@ -2,14 +2,15 @@
 use borrow.Author.Needs.{needs}
 use Prim.Native.Nat.{_-_}
 use native.Mathlib.Omega.{arith}
+use Rattle.procap.specs.Procaps.{listed}
 use Rattle.procap.proofs.Telling.{holds-else, fails-where}
 use Rattle.procap.proofs.Indices.{mapped}
-use Rattle.door.proofs.Missing.{Passed, none-passed, one-more, missing, all-passed}
+use Rattle.door.proofs.Missing.{Passed, none-passed, one-more-listed, listed-missing, all-listed-passed}
 use Rattle.door.proofs.decide.first_missing.Statement.{statement}
 use Rattle.door.proofs.decide.first_missing.Tie as tie
 
 abbrev Inv-loop : tie.InvT-loop
-Inv-loop moment state procap count i₀ i = Passed moment state procap i
+Inv-loop moment state procap count i₀ i = Passed moment state (listed procap) i
 
 abbrev μ-loop : tie.MeasureT-loop
 μ-loop moment state procap count i₀ i = count - i
@@ -32,7 +33,7 @@ stands-in-requires c κs = search needs
 returns : tie.Need-returns Inv-loop μ-loop
 returns c =
     let told = c .before .stands-in in
-    missing _ _ _ (search mapped) (search needs) _ (search needs) (search needs) _ (c .before .before .at-moment .ensures) (fails-where (told .result) (c .if1 .taken) (told .ensures))
+    listed-missing _ _ _ (search mapped) (search needs) _ (search needs) (search needs) _ (c .before .before .at-moment .ensures) (fails-where (told .result) (c .if1 .taken) (told .ensures))
 
 add-i : tie.Need-add-i Inv-loop μ-loop
 add-i c = omega arith
@@ -43,10 +44,10 @@ loop-less c = omega arith
 loop-again : tie.Need-loop-again Inv-loop μ-loop
 loop-again c =
     let told = c .before .stands-in in
-    one-more _ _ _ (search mapped) (search needs) _ (search needs) (search needs) _ (c .before .before .at-moment .ensures) (holds-else (told .result) (c .if1 .left) (told .ensures))
+    one-more-listed _ _ _ (search mapped) (search needs) _ (search needs) (search needs) _ (c .before .before .at-moment .ensures) (holds-else (told .result) (c .if1 .left) (told .ensures))
 
 returns-2 : tie.Need-returns-2 Inv-loop μ-loop
-returns-2 c = all-passed _ _ _ (search mapped) (search needs) _ (c .loop-test .left) (c .before .loop .inv)
+returns-2 c = all-listed-passed _ _ _ (search mapped) (search needs) _ (c .before .loop .inv) (c .loop-test .left)
 
 pub first-missing-spec : {M : Type 1} → statement M
 first-missing-spec =

@@ -1,52 +1,87 @@
--- A text that does not read has the reader's answer; of one that does the inner door answers.
+-- Bytes that are no text are 12. Of a text, what comes before the facts is the answer where it is no 0, and else the facts on its lines give it.
+use mathlib.Core.Bool.{true}
+use mathlib.Core.Path.{_≡_, sym, ap, _∙_}
 use borrow.Author.Needs.{needs}
-use mathlib.Core.Path.{sym, ap, _∙_}
 use Rattle.procap.specs.Outcome.{answer-of}
-use Rattle.door.specs.Door.{packed}
-use Rattle.door.proofs.Texts.{unread, unread-place, read-writable, read-opens, small-place}
+use Rattle.text.specs.Calls.{reading}
+use Rattle.text.specs.Places.{SeesBy}
+use Rattle.text.proofs.Readings.{overview-missing, overview-found}
+use Rattle.door.specs.Door.{opening-text, packed, request-of}
+use Rattle.door.proofs.Texts.{no-text, small-place, seen-before, seen-by-the-facts}
 use Rattle.door.proofs.on_text.procap_door.Statement.{statement}
 use Rattle.door.proofs.on_text.procap_door.Tie as tie
 
-read-text-requires : tie.Need-read-text-requires
-read-text-requires c κs = search needs
+-- What was seen of the text.
+seen : (c : tie.Else1)
+    → let text = c .before .before .before .before .before .args .text .now in
+    SeesBy text (reading text) true (c .before .before .look-over .result)
+seen c = overview-found _ _ (c .before .before .look-over .result) (c .if1 .left) (c .before .before .look-over .ensures)
+
+-- What comes before the facts is the answer.
+refused-early : (c : tie.Then2)
+    → let given = c .before .before .before .before .before .before .before .before .before .args in
+    c .before .before .before-facts .result
+    ≡ answer-of (opening-text (given .text .now) (request-of (given .who) (given .what) (given .right)) (given .moment) (given .state .now))
+refused-early c =
+    let found = seen (c .before .before .before .before) in
+    let early = c .before .before .before-facts in
+    seen-before _ _ _ _ _ _ _ (found .0) (found .1) (early .result) (early .ensures) (λ e. c .if2 .taken (c .before .number .ensures ∙ e))
+
+-- The facts on the lines give it.
+by-its-lines : (c : tie.After-first-line-missing)
+    → let given = c .before .before .before .before .before .before .before .before .before .before .before .args in
+    c .first-line-missing .result
+    ≡ answer-of (opening-text (given .text .now) (request-of (given .who) (given .what) (given .right)) (given .moment) (given .state .now))
+by-its-lines c =
+    let found = seen (c .before .before .before .before .before .before) in
+    let early = c .before .before .before .before .before-facts in
+    let zero = sym (c .before .before .before .number .ensures) ∙ c .before .before .if2 .left in
+    seen-by-the-facts _ _ _ _ _ _ _ (found .0) (found .1) (early .result) (early .ensures) zero _
+    (c .first-line-missing .ensures (found .0) (found .4))
+
+look-over-requires : tie.Need-look-over-requires
+look-over-requires c κs = search needs
+
+as-number-requires : tie.Need-as-number-requires
+as-number-requires c κs = search needs
+
+returns : tie.Need-returns
+returns c =
+    let looked = c .before .before .before .look-over in
+    c .as-number .ensures ∙ ap packed (no-text _ _ _ _ (overview-missing _ _ (looked .result) (c .before .if1 .taken) (looked .ensures)))
+
+before-facts-requires : tie.Need-before-facts-requires
+before-facts-requires c κs = search needs
 
 number-requires : tie.Need-number-requires
 number-requires c κs = search needs
 
-as-number-requires : tie.Need-as-number-requires
-as-number-requires c κs = unread-place _ _ (c .before .before .read-text .ensures .0)
-
-returns : tie.Need-returns
-returns c =
-    let read = c .before .before .before .read-text in
-    let number = c .before .before .number in
-    let answered = unread _ _ (read .ensures .0) _ _ _ (λ e. c .before .if1 .taken (number .ensures ∙ e)) in
-    c .as-number .ensures ∙ ap packed answered
-
-decide-requires : tie.Need-decide-requires
-decide-requires c κs =
-    let read = c .before .before .before .read-text in
-    let zero = sym (c .before .before .number .ensures) ∙ c .before .if1 .left in
-    read-writable _ _ (read .ensures .0) _ (read .ensures .1) zero
-
 as-number-requires-2 : tie.Need-as-number-requires-2
-as-number-requires-2 c κs = small-place _ _ _ _ _ (c .decide .ensures)
+as-number-requires-2 c κs = small-place _ _ _ _ _ (refused-early c)
 
 returns-2 : tie.Need-returns-2
-returns-2 c =
-    let read = c .before .before .before .before .before .read-text in
-    let zero = sym (c .before .before .before .before .number .ensures) ∙ c .before .before .before .if1 .left in
-    let opens = read-opens _ _ (read .ensures .0) _ (read .ensures .1) zero _ _ _ in
-    c .as-number2 .ensures ∙ ap packed (c .before .decide .ensures ∙ ap answer-of (sym opens))
+returns-2 c = c .as-number2 .ensures ∙ ap packed (refused-early (c .before))
+
+first-line-missing-requires : tie.Need-first-line-missing-requires
+first-line-missing-requires c κs = seen (c .before .before .before .before .before) .3
+
+as-number-requires-3 : tie.Need-as-number-requires-3
+as-number-requires-3 c κs = small-place _ _ _ _ _ (by-its-lines c)
+
+returns-3 : tie.Need-returns-3
+returns-3 c = c .as-number3 .ensures ∙ ap packed (by-its-lines (c .before))
 
 pub procap-door-spec : {M : Type 1} → statement M
 procap-door-spec =
     tie.close
     (tie.spec
-    read-text-requires
-    number-requires
+    look-over-requires
     as-number-requires
     returns
-    decide-requires
+    before-facts-requires
+    number-requires
     as-number-requires-2
-    returns-2)
+    returns-2
+    first-line-missing-requires
+    as-number-requires-3
+    returns-3)

@@ -1,135 +1,40 @@
--- The first line, the request and the moments are read one after another, and the text says what the rest of it says. The version is at
--- most 1 and not 0.
-use mathlib.Core.Path.{_≡_}
-use mathlib.Core.Option.{some}
-use native.Mathlib.Omega.{arith}
+-- Where nothing was seen the text says no procap. Where something was, the facts are read again on their lines, and with what else was seen
+-- they make the procap that the text says.
+use mathlib.Core.Bool.{true}
+use mathlib.Core.Path.{refl}
 use borrow.Author.Needs.{needs}
-use Rattle.procap.specs.Procaps.{version-one}
-use Rattle.procap.proofs.Handed.{number-told, bound-told}
-use Rattle.text.specs.Words.{bytes-of}
-use Rattle.text.specs.Reader.{line-to, request-lines, moment-lines}
 use Rattle.text.specs.Calls.{reading}
-use Rattle.text.proofs.Readings.{request-missing, request-found, moments-missing, moments-found, no-version, version-zero, text-no-request, text-no-moments, text-says, none-handed}
+use Rattle.text.specs.Places.{SeesBy}
+use Rattle.text.proofs.Readings.{overview-missing, overview-found, procap-made, none-handed, some-handed}
 use Rattle.text.proofs.reader.read_text.Statement.{statement}
 use Rattle.text.proofs.reader.read_text.Tie as tie
 
--- The first line stands before the place after it, and where its number is not 0 it is 1.
-version-read : (c : tie.After-known-told)
-    → let args = c .before .before .before .before .before .before .args in
-    line-to (args .text .now) (bytes-of "procap=") version-one 0 ≡ some (c .before .version .given .0 .0, c .before .version .given .0 .1 .0)
-version-read c = number-told _ (c .before .version .given .1) (c .before .before .before .line .ensures .0)
+-- What was seen of the text.
+seen : (c : tie.Else1)
+    → let text = c .before .before .before .before .args .text .now in
+    SeesBy text (reading text) true (c .before .before .look-over .result)
+seen c = overview-found _ _ (c .before .before .look-over .result) (c .if1 .left) (c .before .before .look-over .ensures)
 
-version-known : (c : tie.Else1) → c .before .before .version .given .0 .0 ≡ version-one
-version-known c =
-    let small = bound-told _ (c .before .before .version .given .1) (c .before .before .before .before .line .ensures .1) in
-    omega (arith, c .if1 .left)
-
--- The request stands from there on, and the moments after it.
-request-read : (c : tie.Else2)
-    → let first = c .before .before .before .before in
-    let args = first .before .before .before .before .before .before .args in
-    let asked = c .before .before .request-at .result in
-    request-lines (args .text .now) (first .before .version .given .0 .1 .0) ≡ some (asked .request, asked .next)
-request-read c = request-found _ (c .before .before .request-at .result) (c .if2 .left) (c .before .before .request-at .ensures)
-
-moments-read : (c : tie.Else3)
-    → let request = c .before .before .before in
-    let args = request .before .before .before .before .before .before .before .before .before .before .args in
-    let moments = c .before .before .moments-at .result in
-    moment-lines (args .text .now) (request .before .before .request-at .result .next) ≡ some ((moments .from, moments .to), moments .next)
-moments-read c = moments-found _ (c .before .before .moments-at .result) (c .if3 .left) (c .before .before .moments-at .ensures)
-
-slice-aggregate-line : tie.Need-slice-aggregate-line
-slice-aggregate-line c = search needs
-
-cast-line : tie.Need-cast-line
-cast-line c = search needs
-
-line-requires : tie.Need-line-requires
-line-requires c κs = search needs
-
-enum-known-version : tie.Need-enum-known-version
-enum-known-version c = search needs
-
-enum-told : tie.Need-enum-told
-enum-told c = search needs
+look-over-requires : tie.Need-look-over-requires
+look-over-requires c κs = search needs
 
 no-text-requires : tie.Need-no-text-requires
 no-text-requires c κs = search needs
 
 returns : tie.Need-returns
-unfolding reading
 returns c =
-    none-handed _ _ (c .no-text .ensures)
-    (no-version _ (number-told _ (c .before .enum-told .given .1) (c .before .before .before .line .ensures .0)))
+    let read = c .before .before .before in
+    none-handed _ _ (c .no-text .ensures) (overview-missing _ _ (read .look-over .result) (c .before .if1 .taken) (read .look-over .ensures))
 
-no-text-requires-2 : tie.Need-no-text-requires-2
-no-text-requires-2 c κs = search needs
+facts-on-requires : tie.Need-facts-on-requires
+facts-on-requires c κs = seen (c .before .before) .3
 
 returns-2 : tie.Need-returns-2
-unfolding reading
-returns-2 c = none-handed _ _ (c .no-text2 .ensures) (version-zero _ _ _ (version-read (c .before .before)) (c .before .if1 .taken))
-
-request-at-requires : tie.Need-request-at-requires
-request-at-requires c κs = search needs
-
-no-text-requires-3 : tie.Need-no-text-requires-3
-no-text-requires-3 c κs = search needs
-
-returns-3 : tie.Need-returns-3
-unfolding reading
-returns-3 c =
-    let asked = c .before .before .before in
-    none-handed _ _ (c .no-text3 .ensures)
-    (text-no-request _ _ _ (version-read (asked .before .before)) (version-known (asked .before))
-    (request-missing _ (asked .request-at .result) (c .before .if2 .taken) (asked .request-at .ensures)))
-
-moments-at-requires : tie.Need-moments-at-requires
-moments-at-requires c κs = search needs
-
-no-text-requires-4 : tie.Need-no-text-requires-4
-no-text-requires-4 c κs = search needs
-
-returns-4 : tie.Need-returns-4
-unfolding reading
-returns-4 c =
-    let read = c .before .before .before in
-    let request = read .before in
-    let version = request .before .before .before in
-    none-handed _ _ (c .no-text4 .ensures)
-    (text-no-moments _ _ _ (version-read (version .before)) (version-known version) _ _ (request-read request)
-    (moments-missing _ (read .moments-at .result) (c .before .if3 .taken) (read .moments-at .ensures)))
-
-procap-with-requires : tie.Need-procap-with-requires
-procap-with-requires c κs = search needs
-
-returns-5 : tie.Need-returns-5
-unfolding reading
-returns-5 c =
-    let moments = c .before .before in
-    let request = moments .before .before .before in
-    let version = request .before .before .before in
-    rw (text-says _ _ _ (version-read (version .before)) (version-known version) _ _ (request-read request) _ _ _ (moments-read moments))
-    (c .procap-with .ensures)
+returns-2 c =
+    let found = seen (c .before .before .before) in
+    some-handed _ _ _ refl
+    (procap-made _ _ _ _ _ (found .0) (found .2) (c .facts-on .ensures (found .0) (found .4)))
+    (found .1)
 
 pub read-text-spec : {M : Type 1} → statement M
-read-text-spec =
-    tie.close
-    (tie.spec
-    slice-aggregate-line
-    cast-line
-    line-requires
-    enum-known-version
-    enum-told
-    no-text-requires
-    returns
-    no-text-requires-2
-    returns-2
-    request-at-requires
-    no-text-requires-3
-    returns-3
-    moments-at-requires
-    no-text-requires-4
-    returns-4
-    procap-with-requires
-    returns-5)
+read-text-spec = tie.close (tie.spec look-over-requires no-text-requires returns facts-on-requires returns-2)

@@ -1,0 +1,129 @@
+-- Laws of lines of facts read one after another, each kept by its place: a line that was there before, or that is no fact's, means that there are
+-- no such lines, no two alike; and else each adds its fact to those read.
+use Prim.Native.Nat.{ℕ, suc, _+_, _-_, _≤_, _<_}
+use mathlib.Core.Bool.{true, false}
+use mathlib.Core.Path.{_≡_, refl, sym, ap, subst, _∙_}
+use mathlib.Core.List.{List, [], _∷_, _++_}
+use mathlib.Core.Logic.{inl, inr}
+use mathlib.Core.Option.{Option, some, none, Option·some-injective, Option·none-ne-some}
+use native.Mathlib.Numerals.{add-one}
+use native.Mathlib.Omega.{arith}
+use lib.ListN.{length, take, set, length-append, length-set}
+use lib.Seq.{take-suc-set}
+use Rattle.procap.specs.Lists.{In, Distinct}
+use Rattle.procap.specs.Facts.{Spelled}
+use Rattle.procap.specs.Procaps.{most-facts}
+use Rattle.procap.specs.Bytes.{then, many}
+use Rattle.procap.proofs.InMore.{in-more, in-last, in-before}
+use Rattle.procap.proofs.ReadSoFar.{led-by, led-by-nothing, led-by-one, led-more, led-none, led-all}
+use Rattle.text.specs.Reader.{fact-line}
+use Rattle.text.specs.Places.{ReadsAt, OnLines, LinesFound, LinesReads}
+use Rattle.text.specs.declared.fact_places.LinesRead.{LinesRead}
+use Rattle.text.proofs.OnLines.{on-more}
+
+-- ── No element twice ──
+
+-- One element more that is not there yet leaves none twice; one that is there already is there twice, whatever follows.
+module _ {A : Type 0} (x : A) where
+  more-distinct : (xs : List A) → Distinct xs → (In x xs → ⊥) → Distinct (xs ++ (x ∷ []))
+  unfolding Distinct In
+  more-distinct [] d n = (λ h. h, tt)
+  more-distinct (y ∷ xs) d n = (λ h. d .0 (in-before y xs x (λ e. n (inl (sym e))) h), more-distinct xs (d .1) (λ h. n (inr h)))
+
+  there-twice : (xs ys : List A) → In x xs → Distinct ((xs ++ (x ∷ [])) ++ ys) → ⊥
+  unfolding Distinct In
+  there-twice [] ys h d = h
+  there-twice (y ∷ xs) ys (inl e) d = d .0 (in-more y (xs ++ (x ∷ [])) ys (in-last y xs x (sym e)))
+  there-twice (y ∷ xs) ys (inr h) d = there-twice xs ys h (d .1)
+
+-- What is read with some values before it begins with these.
+led-some : {A : Type 0} (xs : List A) (o : Option (List A × ℕ)) (zs : List A) (e : ℕ) → led-by xs o ≡ some (zs, e) → (ys : List A) × (zs ≡ xs ++ ys)
+unfolding led-by
+led-some xs none zs e h = absurd (Option·none-ne-some (zs, e) h)
+led-some xs (some r) zs e h = (r .0, sym (ap (λ p. p .0) (Option·some-injective (xs ++ r .0, r .1) (zs, e) h)))
+
+-- ── Lines ──
+
+-- Of so many lines the first is read, and then the others; where it is missing there are none; of no lines nothing is read.
+module _ (text : List ℕ) (at k : ℕ) where
+  module _ (n : ℕ) (more : k ≡ suc n) where
+    first-read : (f : Spelled) (next : ℕ) → ReadsAt text at f next → many (fact-line text) k at ≡ led-by (f ∷ []) (many (fact-line text) n next)
+    unfolding many then
+    first-read f next r = rw (more, r) (led-by-one f (many (fact-line text) n next))
+
+    first-missing : fact-line text at ≡ none → many (fact-line text) k at ≡ none
+    unfolding many then
+    first-missing e = rw (more, e)
+
+  none-read : k ≡ 0 → many (fact-line text) k at ≡ some ([], at)
+  unfolding many
+  none-read e = rw e
+
+-- There are no such lines, no two alike.
+abbrev NoLines : Option (List Spelled × ℕ) → Type 0
+NoLines o = (fs : List Spelled) (e : ℕ) → o ≡ some (fs, e) → Distinct fs → ⊥
+
+-- So it is told.
+pub no-lines-told : (text : List ℕ) (o : Option (List Spelled × ℕ)) (count : ℕ) (r : LinesRead) → r .found ≡ false → NoLines o → LinesReads text o count r
+no-lines-told text o count r e h = rw e h
+
+-- Of so many lines i are read: their facts, no two alike, and their places.
+pub record LinesSoFar (text : List ℕ) (at count : ℕ) (places : List ℕ) (next i : ℕ) : Type 0 where
+  pub few : i ≤ count
+  pub room : length places ≡ most-facts
+  pub facts : List Spelled
+  pub counted : length facts ≡ i
+  pub reads : many (fact-line text) count at ≡ led-by facts (many (fact-line text) (count - i) next)
+  pub distinct : Distinct facts
+  pub on : OnLines text (take i places) facts
+
+-- None yet.
+pub none-so-far : (text : List ℕ) (at count : ℕ) (places : List ℕ) → length places ≡ most-facts → LinesSoFar text at count places at 0
+unfolding Distinct OnLines
+none-so-far text at count places room = record {
+  few = omega arith;
+  room = room;
+  facts = [];
+  counted = refl;
+  reads = let all : count ≡ count - 0 = omega arith in ap (λ k. many (fact-line text) k at) all ∙ led-by-nothing _;
+  distinct = tt;
+  on = tt;
+}
+
+module _ {text : List ℕ} {at count : ℕ} {places : List ℕ} {next i : ℕ} (h : LinesSoFar text at count places next i) where
+  module _ (l : i < count) where
+    one-left : count - i ≡ suc (count - (i + 1))
+    one-left = omega arith
+
+    -- The next line is no fact's.
+    pub no-line : fact-line text next ≡ none → NoLines (many (fact-line text) count at)
+    no-line e fs end k d = Option·none-ne-some (fs, end) (sym (led-none (h .facts) _ (h .reads) (first-missing text next _ _ one-left e)) ∙ k)
+
+    -- It is the line of a fact.
+    module _ (f : Spelled) (end : ℕ) (r : ReadsAt text next f end) where
+      more-read : many (fact-line text) count at ≡ led-by (h .facts ++ (f ∷ [])) (many (fact-line text) (count - (i + 1)) end)
+      more-read = led-more (h .facts) _ (h .reads) f _ (first-read text next _ _ one-left f end r)
+
+      -- One that was there before.
+      pub line-twice : In f (h .facts) → NoLines (many (fact-line text) count at)
+      line-twice s fs e k d =
+          let rest = led-some (h .facts ++ (f ∷ [])) _ fs e (sym more-read ∙ k) in
+          there-twice f (h .facts) (rest .0) s (subst Distinct (rest .1) d)
+
+      -- One that was not.
+      pub one-so-far : count ≤ most-facts → (In f (h .facts) → ⊥) → LinesSoFar text at count (set places i next) end (i + 1)
+      one-so-far small n = record {
+        few = omega arith;
+        room = length-set places i next ∙ h .room;
+        facts = h .facts ++ (f ∷ []);
+        counted = omega (arith, length-append (h .facts) (f ∷ []), h .counted);
+        reads = more-read;
+        distinct = more-distinct f (h .facts) (h .distinct) n;
+        on = rw (add-one, take-suc-set places i next (omega (arith, h .room))) (on-more text (take i places) (h .facts) next f end (h .on) r);
+      }
+
+  -- All are read.
+  pub all-so-far : count ≤ i → LinesFound text (many (fact-line text) count at) count true places next
+  all-so-far l =
+      let all : i ≡ count = omega (arith, h .few) in
+      (h .facts, led-all (h .facts) _ (h .reads) next (none-read text next _ (omega arith)), h .distinct, h .counted ∙ all, rw all at (h .on))

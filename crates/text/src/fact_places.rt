@@ -1,0 +1,121 @@
+// Where the lines of facts stand in a text: each place is enough to read its fact again, so that no fact is carried along.
+use crate::facts::fact_at;
+use procap::fact::Fact;
+use procap::procap::MOST_FACTS;
+ghost use mathlib.Core.Bool.{Bool};
+ghost use mathlib.Core.Path.{_≡_};
+ghost use mathlib.Core.List.{List, map};
+ghost use Prim.Native.Nat.{ℕ, _≤_};
+ghost use lib.ListN.{take};
+ghost use Rattle.procap.specs.Lists.{pad, In};
+ghost use Rattle.procap.specs.Tells.{Tells};
+ghost use Rattle.procap.specs.Facts.{Spelled, «fact-of», «no-fact»};
+ghost use Rattle.procap.specs.Procaps.{«most-facts»};
+ghost use Rattle.procap.specs.Bytes.{many};
+ghost use Rattle.text.specs.Reader.{«fact-line»};
+ghost use Rattle.text.specs.Places.{OnLines, LinesReads, ReadsAt};
+
+// Whether lines of facts were read, no two of them alike, where each begins, and the place after them.
+pub struct LinesRead {
+    pub found: bool,
+    pub places: [usize; MOST_FACTS],
+    pub next: usize,
+}
+
+// So many lines of facts at a place.
+pub(crate) fn lines_at(text: &[u8], at: usize, count: usize) -> LinesRead
+    requires { ⌜ count ≤ «most-facts» ⌝ }
+    ensures { λ r. ⌜ LinesReads (now (text .entry)) (many («fact-line» (now (text .entry))) count at) count r ⌝ }
+{
+    let mut places = [0usize; MOST_FACTS];
+    let mut next = at;
+    let mut i: usize = 0;
+    while i < count {
+        let read = fact_at(text, next);
+        if !read.found {
+            return no_lines();
+        }
+        if stood_before(text, next, read.next, places, i) {
+            return no_lines();
+        }
+        places[i] = next;
+        next = read.next;
+        i += 1;
+    }
+    LinesRead {
+        found: true,
+        places: places,
+        next: next,
+    }
+}
+
+// What is handed back where a line is no fact's, or two are alike.
+fn no_lines() -> LinesRead
+    ensures { λ r. ⌜ r .found ≡ Bool.false ⌝ }
+{
+    LinesRead {
+        found: false,
+        places: [0usize; MOST_FACTS],
+        next: 0,
+    }
+}
+
+// Whether the line of a fact, up to its end, stands at one of the first so many places too.
+fn stood_before(
+    text: &[u8],
+    at: usize,
+    end: usize,
+    places: [usize; MOST_FACTS],
+    count: usize,
+) -> bool
+    requires { ⌜ count ≤ «most-facts» ⌝ }
+    ensures { λ r. ⌜ ((f : Spelled) (fs : List Spelled) → ReadsAt (now (text .entry)) at f end → OnLines (now (text .entry)) (take count places) fs → Tells r (In f fs)) ⌝ }
+{
+    let mut i: usize = 0;
+    while i < count {
+        if same_line(text, at, end, places[i]) {
+            return true;
+        }
+        i += 1;
+    }
+    false
+}
+
+// Whether the line of a fact, up to its end, is the line at another place too.
+fn same_line(text: &[u8], at: usize, end: usize, other: usize) -> bool
+    ensures { λ r. ⌜ ((f g : Spelled) (e : ℕ) → ReadsAt (now (text .entry)) at f end → ReadsAt (now (text .entry)) other g e → Tells r (f ≡ g)) ⌝ }
+{
+    let mut i = at;
+    let mut k = other;
+    while i < end {
+        if text.len() <= i {
+            return false;
+        }
+        if text.len() <= k {
+            return false;
+        }
+        if text[i] != text[k] {
+            return false;
+        }
+        i += 1;
+        k += 1;
+    }
+    true
+}
+
+// The facts on the lines at the first so many places, with zeros past them.
+pub(crate) fn facts_on(text: &[u8], places: [usize; MOST_FACTS], count: usize) -> [Fact; MOST_FACTS]
+    requires { ⌜ count ≤ «most-facts» ⌝ }
+    ensures { λ r. ⌜ ((fs : List Spelled) → OnLines (now (text .entry)) (take count places) fs → r ≡ pad «most-facts» «no-fact» (map «fact-of» fs)) ⌝ }
+{
+    let none = Fact::none();
+    let mut facts = [none; MOST_FACTS];
+    let mut i: usize = 0;
+    while i < count {
+        let read = fact_at(text, places[i]);
+        let fact = read.fact;
+        facts[i] = fact;
+        i += 1;
+    }
+    facts
+}
