@@ -35,7 +35,7 @@ extern "C" {
  * overlap or be the same. Do not let another thread or a device write to them meanwhile. With length 0 a pointer may be
  * NULL; with any other length it must point at so many readable bytes. The call may run on several threads at once.
  *
- * It uses no heap and makes no system call. The stack that it needs stands in docs/TRUST.md; it is well below 64 KiB.
+ * It uses no heap and makes no system call. The stack that it needs stands in docs/TRUST.md; it is below 4 KiB.
  *
  * Returns 256 times the answer's number plus its place. PROCAP_OPEN, which is 0, is the only answer on which the press
  * may go through.

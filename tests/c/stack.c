@@ -1,12 +1,12 @@
 /*
- * How much stack the door takes. Fails above 64 KiB.
+ * How much stack the door takes. Fails above 4 KiB.
  */
 #include "../../include/procap.h"
 #include "own_stack.h"
 #include <stdio.h>
 #include <string.h>
 
-#define LIMIT (64 * 1024)
+#define LIMIT (4 * 1024)
 
 static char text[2048];
 static size_t text_length;
