@@ -108,7 +108,7 @@ test-rust soak bench bench-instructions:
 else
 test-rust: program $(COMPARE)
 	@$(CARGO) test --quiet --release --offline --manifest-path tests/rust/Cargo.toml 2>&1 | grep -E "^test result|FAILED|panicked|error"
-	@$(COMPARE) --cases $(CASES) --seed $(SEED) --program bin/check
+	@$(COMPARE) --cases $(CASES) --seed $(SEED) --all-presses --program bin/check
 
 # The same until it is stopped, with new seeds, which are printed.
 soak: $(COMPARE)

@@ -13,10 +13,10 @@ each() { # ROW SIDE
     echo $((($(counted "$1" "$2" 30) - $(counted "$1" "$2" 10)) / 20))
 }
 
-printf '%-62s %10s %10s %8s\n' "instructions for each call" Rattle Rust ratio
+printf '%-66s %10s %10s %8s\n' "instructions for each call" Rattle Rust ratio
 row=0
 "$bench" names | while IFS= read -r name; do
     rattle=$(each "$row" rattle) rust=$(each "$row" rust)
-    printf '%-62s %10d %10d %8s\n' "$name" "$rattle" "$rust" "$(awk "BEGIN { printf \"%.2f\", $rattle / $rust }")"
+    printf '%-66s %10d %10d %8s\n' "$name" "$rattle" "$rust" "$(awk "BEGIN { printf \"%.2f\", $rattle / $rust }")"
     row=$((row + 1))
 done

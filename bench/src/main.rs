@@ -19,7 +19,7 @@ use rows::{rows, Row};
 fn print_row(row: &Row) {
     let (proved, second) = best_of_both(&mut row.proved(), &mut row.second());
     println!(
-        "{:<62} {:>10.3} {:>10.3} {:>8.2}",
+        "{:<66} {:>10.3} {:>10.3} {:>8.2}",
         row.name(),
         proved,
         second,
@@ -30,7 +30,7 @@ fn print_row(row: &Row) {
 /// All rows, measured.
 fn print_table() {
     println!(
-        "{:<62} {:>10} {:>10} {:>8}",
+        "{:<66} {:>10} {:>10} {:>8}",
         "microseconds for each call", "Rattle", "Rust", "ratio"
     );
     for row in rows() {
@@ -40,9 +40,8 @@ fn print_table() {
 
 /// So many calls of one side of one row.
 fn count(words: &[String]) -> Option<()> {
-    let row = words.first()?.parse::<usize>().ok()?;
+    let row = Row::number(words.first()?.parse().ok()?)?;
     let calls = words.get(2)?.parse().ok()?;
-    let row = rows().into_iter().nth(row)?;
     let mut side: Calls = match words.get(1)?.as_str() {
         "rattle" => row.proved(),
         "rust" => row.second(),
@@ -57,9 +56,7 @@ fn main() {
     match words.split_first() {
         None => print_table(),
         Some((word, rest)) if word == "count" && count(rest).is_some() => (),
-        Some((word, _)) if word == "names" => {
-            rows().iter().for_each(|row| println!("{}", row.name()))
-        }
+        Some((word, _)) if word == "names" => rows().for_each(|row| println!("{}", row.name())),
         _ => {
             eprintln!("usage: bench | bench names | bench count ROW rattle|rust CALLS");
             std::process::exit(2);

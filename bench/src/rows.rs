@@ -10,16 +10,44 @@ use second_opinion::second::{self, NoWatch};
 use std::hint::black_box;
 
 /// What is measured.
+#[derive(Clone, Copy)]
 enum What {
     DoorOnValue,
     DoorOnText,
     Verify,
 }
 
+/// Where the case of a row comes from.
+#[derive(Clone, Copy)]
+enum From {
+    Example(&'static str),
+    Valid(u64),
+    AtALimit(u64),
+}
+
+/// The rows: presses with one fact and with sixteen; case P, three proofs of 30 steps, the deepest proofs and the longest. The seeds are the first
+/// that give such proofs.
+const PLANS: [(What, From); 14] = [
+    (What::DoorOnValue, From::Example("p")),
+    (What::DoorOnText, From::Example("p")),
+    (What::DoorOnValue, From::Example("sixteen_facts")),
+    (What::DoorOnText, From::Example("sixteen_facts")),
+    (What::Verify, From::Example("p")),
+    (What::Verify, From::Valid(13)),
+    (What::Verify, From::Valid(183)),
+    (What::Verify, From::Valid(578)),
+    (What::Verify, From::Example("thirty_implications")),
+    (What::Verify, From::Example("thirty_assumptions")),
+    (What::Verify, From::Example("sixteen_facts")),
+    (What::Verify, From::AtALimit(1)),
+    (What::Verify, From::AtALimit(4)),
+    (What::Verify, From::AtALimit(5)),
+];
+
 /// A row: what is measured, and on which case.
 pub struct Row {
     what: What,
-    on: String,
+    from: From,
     case: Case,
     records: Vec<u8>,
     procap: Procap,
@@ -28,28 +56,36 @@ pub struct Row {
 }
 
 impl Row {
-    /// A row for a case that is issued.
-    fn of(what: What, on: &str, case: &Case) -> Row {
-        let procap = second::verify(case, &mut NoWatch).expect("the case is issued");
-        Row {
+    /// The row of this number, if there is one.
+    pub fn number(index: usize) -> Option<Row> {
+        let (what, from) = *PLANS.get(index)?;
+        let case = from.case();
+        let procap = second::verify(&case, &mut NoWatch).expect("the case is issued");
+        Some(Row {
             what,
-            on: on.to_string(),
-            case: case.clone(),
+            from,
             records: records_in_bytes(&case.records),
             text: second::text_of(&procap).expect("what is issued can be written"),
             state: opening_state(&procap),
+            case,
             procap,
-        }
+        })
     }
 
     /// What the row is called.
     pub fn name(&self) -> String {
-        let question = match self.what {
-            What::DoorOnValue => "door on a value",
-            What::DoorOnText => "door on a text",
-            What::Verify => "verify",
-        };
-        format!("{question}, {}", self.on)
+        let on = self.from.name();
+        match self.what {
+            What::DoorOnValue => {
+                format!("door on a value, {on}, facts: {}", self.procap.facts.len())
+            }
+            What::DoorOnText => format!("door on a text, {on}, facts: {}", self.procap.facts.len()),
+            What::Verify => format!(
+                "verify, {on}: {} bytes, {} steps",
+                self.case.proof.len(),
+                steps_of(&self.case)
+            ),
+        }
     }
 
     /// Calls of the proved checker.
@@ -113,6 +149,26 @@ impl Row {
     }
 }
 
+impl From {
+    /// The case itself.
+    fn case(self) -> Case {
+        match self {
+            From::Example(name) => example(name),
+            From::Valid(seed) => valid(&mut Random::new(seed)),
+            From::AtALimit(seed) => at_a_limit(&mut Random::new(seed)),
+        }
+    }
+
+    /// What the case is called.
+    fn name(self) -> String {
+        match self {
+            From::Example(name) => name.to_string(),
+            From::Valid(seed) => format!("made up (seed {seed})"),
+            From::AtALimit(seed) => format!("at a limit (seed {seed})"),
+        }
+    }
+}
+
 /// The case of an example.
 fn example(name: &str) -> Case {
     let path = format!("{}/../examples/{name}.case", env!("CARGO_MANIFEST_DIR"));
@@ -133,52 +189,7 @@ fn steps_of(case: &Case) -> u64 {
     steps.0
 }
 
-/// The first cases of a maker, by their seeds, that are issued and pass a test: as many as asked for.
-fn first_cases(
-    make: fn(&mut Random) -> Case,
-    count: usize,
-    wanted: fn(&Case) -> bool,
-) -> Vec<Case> {
-    (0..)
-        .map(|seed| make(&mut Random::new(seed)))
-        .filter(|case| wanted(case) && second::verify(case, &mut NoWatch).is_ok())
-        .take(count)
-        .collect()
-}
-
-/// The rows on verify: case P, proofs of 30 steps, and the largest proofs.
-fn verify_rows(rows: &mut Vec<Row>) {
-    rows.push(Row::of(What::Verify, "case P", &example("p")));
-    for (index, case) in first_cases(valid, 3, |case| steps_of(case) == 30)
-        .iter()
-        .enumerate()
-    {
-        rows.push(Row::of(
-            What::Verify,
-            &format!("30 steps, made up ({})", index + 1),
-            case,
-        ));
-    }
-    for name in ["thirty_implications", "thirty_assumptions", "sixteen_facts"] {
-        let case = example(name);
-        let on = format!("{name}, {} steps, 32 levels", steps_of(&case));
-        rows.push(Row::of(What::Verify, &on, &case));
-    }
-    for case in first_cases(at_a_limit, 3, |case| case.proof.len() > 4_000) {
-        let on = format!("{} bytes, {} steps", case.proof.len(), steps_of(&case));
-        rows.push(Row::of(What::Verify, &on, &case));
-    }
-}
-
-/// All rows.
-pub fn rows() -> Vec<Row> {
-    let (small, large) = (example("p"), example("sixteen_facts"));
-    let mut rows = vec![
-        Row::of(What::DoorOnValue, "case P, one fact", &small),
-        Row::of(What::DoorOnText, "case P, one fact", &small),
-        Row::of(What::DoorOnValue, "sixteen facts", &large),
-        Row::of(What::DoorOnText, "sixteen facts", &large),
-    ];
-    verify_rows(&mut rows);
-    rows
+/// All rows, in turn.
+pub fn rows() -> impl Iterator<Item = Row> {
+    (0..).map_while(Row::number)
 }

@@ -1,0 +1,34 @@
+//! Which case belongs to a seed and an index, and the random numbers for its questions.
+
+use second_opinion::data::Case;
+use second_opinion::generate::{at_a_limit, damaged, raw, valid, Random};
+
+/// What the random numbers are for.
+#[derive(Clone, Copy)]
+pub enum Use {
+    Making = 1,
+    Asking = 2,
+}
+
+/// The random numbers for one use of one index under one seed.
+pub fn random_for(seed: u64, index: u64, used: Use) -> Random {
+    let mut state = Random::new(seed).next();
+    for number in [index, used as u64] {
+        state = Random::new(state ^ Random::new(number).next()).next();
+    }
+    Random::new(state)
+}
+
+/// The case of an index under a seed.
+pub fn case_for(seed: u64, index: u64) -> Case {
+    let mut random = random_for(seed, index, Use::Making);
+    match random.below(10) {
+        0..=2 => valid(&mut random),
+        3..=6 => {
+            let case = valid(&mut random);
+            damaged(&mut random, &case)
+        }
+        7 => at_a_limit(&mut random),
+        _ => raw(&mut random),
+    }
+}

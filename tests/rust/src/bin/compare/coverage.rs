@@ -1,0 +1,118 @@
+//! What came up in a run, and what should have.
+
+use second_opinion::second::{Clause, Watch};
+use std::collections::BTreeMap;
+
+/// The calls whose answers are counted.
+#[derive(Clone, Copy, Debug, PartialEq, Eq, PartialOrd, Ord)]
+pub enum Call {
+    Verify,
+    Direct,
+    DoorOnText,
+    DoorOnValue,
+    Rewrite,
+    Write,
+    Program,
+}
+
+/// How often steps were walked, formulas read and clauses tried by one call.
+pub struct Walked {
+    pub clauses: Vec<[u64; 2]>,
+    pub steps: Vec<u64>,
+    pub formulas: Vec<u64>,
+}
+
+/// How often everything came up.
+pub struct Coverage {
+    pub verify: Walked,
+    pub direct: Walked,
+    pub answers: BTreeMap<(Call, u64), u64>,
+    /// The places of the program's 14.
+    pub lines: BTreeMap<u64, u64>,
+    /// How often a question was asked, by its name.
+    pub asked: BTreeMap<&'static str, u64>,
+}
+
+impl Walked {
+    /// Nothing yet.
+    fn new() -> Walked {
+        Walked {
+            clauses: vec![[0; 2]; Clause::ALL.len()],
+            steps: vec![0; 256],
+            formulas: vec![0; 256],
+        }
+    }
+
+    /// Adds what came up elsewhere.
+    fn add(&mut self, other: &Walked) {
+        for (here, there) in self.clauses.iter_mut().zip(&other.clauses) {
+            here[0] += there[0];
+            here[1] += there[1];
+        }
+        add_each(&mut self.steps, &other.steps);
+        add_each(&mut self.formulas, &other.formulas);
+    }
+}
+
+/// Adds each number to the one in its place.
+fn add_each(here: &mut [u64], there: &[u64]) {
+    for (sum, number) in here.iter_mut().zip(there) {
+        *sum += number;
+    }
+}
+
+/// Adds each number to the one with its name.
+fn add_named<K: Ord + Copy>(here: &mut BTreeMap<K, u64>, there: &BTreeMap<K, u64>) {
+    for (name, number) in there {
+        *here.entry(*name).or_default() += number;
+    }
+}
+
+impl Watch for Walked {
+    fn clause(&mut self, clause: Clause, held: bool) {
+        self.clauses[clause as usize][usize::from(held)] += 1;
+    }
+    fn step(&mut self, tag: u8) {
+        self.steps[usize::from(tag)] += 1;
+    }
+    fn formula(&mut self, tag: u8) {
+        self.formulas[usize::from(tag)] += 1;
+    }
+}
+
+impl Coverage {
+    /// Nothing yet.
+    pub fn new() -> Coverage {
+        Coverage {
+            verify: Walked::new(),
+            direct: Walked::new(),
+            answers: BTreeMap::new(),
+            lines: BTreeMap::new(),
+            asked: BTreeMap::new(),
+        }
+    }
+
+    /// A call gave an answer with this number.
+    pub fn answered(&mut self, call: Call, number: u64) {
+        *self.answers.entry((call, number)).or_default() += 1;
+    }
+
+    /// A question with this name was asked.
+    pub fn asked(&mut self, name: &'static str) {
+        *self.asked.entry(name).or_default() += 1;
+    }
+
+    /// The program found its input malformed at this line.
+    pub fn line(&mut self, line: u64) {
+        *self.lines.entry(line).or_default() += 1;
+    }
+
+    /// Adds what came up elsewhere.
+    pub fn add(&mut self, other: &Coverage) {
+        self.verify.add(&other.verify);
+        self.direct.add(&other.direct);
+        add_named(&mut self.answers, &other.answers);
+        add_named(&mut self.lines, &other.lines);
+        add_named(&mut self.asked, &other.asked);
+    }
+}

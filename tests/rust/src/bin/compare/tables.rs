@@ -1,0 +1,167 @@
+//! The tables at the end of a run, and what is missing in them.
+
+use crate::coverage::{Call, Coverage, Walked};
+use second_opinion::second::Clause;
+
+/// The answers that a call gives; any other never comes. A 6 never does: a proof has at most 16 steps 2C, so that no
+/// 17th fact can be met.
+const ANSWERS: [(Call, &[u64]); 7] = [
+    (Call::Verify, &[0, 1, 2, 3, 4, 5, 13]),
+    (Call::Direct, &[0, 1, 2, 3, 4, 7, 10, 11]),
+    (Call::DoorOnText, &[0, 7, 8, 9, 10, 11, 12]),
+    (Call::DoorOnValue, &[0, 7, 8, 9, 10, 11, 12]),
+    (Call::Rewrite, &[0, 12, 13]),
+    (Call::Write, &[0, 12, 13]),
+    (Call::Program, &[0, 1, 2, 3, 4, 5, 14]),
+];
+
+/// The lines at which a malformed input must have been refused, 0 standing for one that is too long.
+const LINES: std::ops::RangeInclusive<u64> = 0..=12;
+
+/// Whether verify can have a clause come out this way.
+fn possible_in_verify(clause: Clause, held: bool) -> bool {
+    match clause {
+        // Verify asks no state.
+        Clause::FactStands => false,
+        // There is always room for a fact, as 6 never comes.
+        Clause::FactListed => held,
+        _ => true,
+    }
+}
+
+/// Whether the direct check can have a clause come out this way.
+fn possible_in_direct(clause: Clause, _held: bool) -> bool {
+    match clause {
+        // The direct check keeps no list, and no interval either.
+        Clause::FactListed | Clause::MomentLeft => false,
+        _ => true,
+    }
+}
+
+/// How often each question was asked, on one line.
+pub fn totals(coverage: &Coverage) -> String {
+    let asked = coverage.asked.iter();
+    let words: Vec<String> = asked
+        .map(|(name, count)| format!("{name}: {count}"))
+        .collect();
+    words.join(", ")
+}
+
+/// The report of a run: its tables, and what is missing in them.
+pub struct Report {
+    pub lines: Vec<String>,
+    pub missing: Vec<String>,
+}
+
+impl Report {
+    /// The report on what came up.
+    pub fn on(coverage: &Coverage) -> Report {
+        let mut report = Report {
+            lines: Vec::new(),
+            missing: Vec::new(),
+        };
+        report.questions(coverage);
+        report.answers(coverage);
+        report.input_lines(coverage);
+        report.tags("verify, steps", &coverage.verify.steps, 0x20..=0x2d);
+        report.tags("direct, steps", &coverage.direct.steps, 0x20..=0x2d);
+        report.tags("verify, formulas", &coverage.verify.formulas, 0x10..=0x19);
+        report.tags("direct, formulas", &coverage.direct.formulas, 0x10..=0x19);
+        report.clauses("verify", &coverage.verify, possible_in_verify);
+        report.clauses("direct", &coverage.direct, possible_in_direct);
+        report
+    }
+
+    /// Adds a line.
+    fn line(&mut self, line: String) {
+        self.lines.push(line);
+    }
+
+    /// Sees to it that what should come up has, and that what never should has not.
+    fn expect(&mut self, expected: bool, count: u64, what: impl Fn() -> String) {
+        if expected && count == 0 {
+            self.missing.push(format!("never came: {}", what()));
+        }
+        if !expected && count > 0 {
+            self.missing
+                .push(format!("cannot be, but came: {}", what()));
+        }
+    }
+
+    /// How often each question was asked.
+    fn questions(&mut self, coverage: &Coverage) {
+        self.line("questions".to_string());
+        for (name, count) in &coverage.asked {
+            self.line(format!("  {name:<44}{count:>12}"));
+        }
+    }
+
+    /// How often each call gave each answer.
+    fn answers(&mut self, coverage: &Coverage) {
+        self.line("answers".to_string());
+        for (call, numbers) in ANSWERS {
+            let mut line = format!("  {:<12}", format!("{call:?}"));
+            for number in 0..=15 {
+                let count = coverage.answers.get(&(call, number)).copied();
+                let count = count.unwrap_or(0);
+                let name = || format!("{call:?} answers {number}");
+                self.expect(numbers.contains(&number), count, name);
+                if numbers.contains(&number) || count > 0 {
+                    line += &format!("  {number}: {count}");
+                }
+            }
+            self.line(line);
+        }
+        self.line("  6 is expected never: a proof has at most 16 steps 2C".to_string());
+    }
+
+    /// At which lines malformed inputs were refused.
+    fn input_lines(&mut self, coverage: &Coverage) {
+        let mut line = "  14 at line".to_string();
+        for number in LINES {
+            let count = coverage.lines.get(&number).copied().unwrap_or(0);
+            self.expect(true, count, || format!("14 at place {number}"));
+            line += &format!("  {number}: {count}");
+        }
+        let last = coverage.lines.keys().last().copied().unwrap_or(0);
+        self.line(format!("{line}  ... the last: {last}"));
+    }
+
+    /// How often each tag of a range came up.
+    fn tags(&mut self, name: &str, counts: &[u64], tags: std::ops::RangeInclusive<u8>) {
+        let mut line = format!("{name}\n ");
+        for tag in tags {
+            let count = counts[usize::from(tag)];
+            self.expect(true, count, || format!("{name}: {tag:02x}"));
+            line += &format!("  {tag:02x}: {count}");
+        }
+        self.line(line);
+    }
+
+    /// How often each clause held and failed in one call.
+    fn clauses(&mut self, name: &str, walked: &Walked, possible: fn(Clause, bool) -> bool) {
+        self.line(format!(
+            "{:<28}{:>12}{:>12}",
+            format!("{name}, clauses"),
+            "held",
+            "failed"
+        ));
+        for clause in Clause::ALL {
+            let [failed, held] = walked.clauses[*clause as usize];
+            for (came_out, count) in [(true, held), (false, failed)] {
+                let way = if came_out { "holds" } else { "fails" };
+                let about = || format!("{name}: {clause:?} {way}");
+                self.expect(possible(*clause, came_out), count, about);
+            }
+            let shown = |came_out, count: u64| match possible(*clause, came_out) {
+                true => count.to_string(),
+                false => "cannot".to_string(),
+            };
+            let (held, failed) = (shown(true, held), shown(false, failed));
+            self.line(format!(
+                "  {:<26}{held:>12}{failed:>12}",
+                format!("{clause:?}")
+            ));
+        }
+    }
+}
