@@ -72,7 +72,7 @@ ifdef C_MISSING
 test-c:
 	@echo "no $(C_COMPILER) on this machine: the door was not called from C here"
 else
-test-c: door archives
+test-c: archives
 	@$(C) -o bin/door_test tests/c/door_test.c tests/c/model.c $(DOOR)
 	@tests/run_here.sh bin/door_test
 	@bin/door_test

@@ -9,6 +9,9 @@ mod measure;
 mod rows;
 mod state;
 #[allow(dead_code)]
+#[path = "../../tests/rust/src/bin/compare/states.rs"]
+mod states;
+#[allow(dead_code)]
 #[path = "../../tests/rust/src/bin/compare/wire.rs"]
 mod wire;
 

@@ -6,6 +6,7 @@
  * A procap value: 648 bytes: version (1), who, what, right (2 each), from, to (8 each), count (1), and 16 facts of 39 bytes: predicate (2),
  * count (1), four terms (a kind, 1 byte, and a number, 8), of which the kind 0 is a name.
  *
+ * who, what and right are names here, 16 bits wide: C cuts a larger number down, which the door of include/procap.h does not let happen.
  * What comes back is 2^48 times the answer's number, plus 2^32 times the length of what was written, plus the place.
  */
 #ifndef CALLS_H
