@@ -40,7 +40,7 @@ press: bin/press
 	@echo "who 2 presses Start for what 7 by right 9 at moment 1500:"
 	@bin/press examples/p.procap 2 7 9 1500 examples/loaded.state
 
-bin/press: door examples/press.c include/procap.h
+bin/press: $(NATIVE)/libdoor.a examples/press.c include/procap.h
 	@$(C) -o bin/press examples/press.c $(DOOR)
 	@tests/run_here.sh bin/press
 

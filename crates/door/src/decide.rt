@@ -3,7 +3,7 @@ use procap::answer::Answer;
 use procap::procap::Procap;
 use procap::procap::Request;
 use procap::time::LATEST_SECOND;
-use state::stands_in;
+use state::holds_at;
 use state::well_formed;
 ghost use mathlib.Core.Path.{_≡_};
 ghost use Prim.Native.Nat.{_≤_};
@@ -98,8 +98,7 @@ fn first_missing(procap: Procap, moment: u64, state: &[u8]) -> Answer
     let mut i: usize = 0;
     while i < count {
         let fact = procap.facts[i];
-        let wanted = fact.at_moment(moment);
-        if !stands_in(state, wanted) {
+        if !holds_at(state, fact, moment) {
             return Answer::FactMissing(i);
         }
         i += 1;

@@ -2,7 +2,7 @@
 use crate::decide::before_facts;
 use procap::answer::Answer;
 use procap::procap::MOST_FACTS;
-use state::stands_in;
+use state::holds_at;
 use text::facts::fact_at;
 use text::reader::look_over;
 ghost use mathlib.Core.Path.{_≡_};
@@ -56,8 +56,7 @@ fn first_line_missing(
     while i < count {
         let read = fact_at(text, places[i]);
         let fact = read.fact;
-        let wanted = fact.at_moment(moment);
-        if !stands_in(state, wanted) {
+        if !holds_at(state, fact, moment) {
             return Answer::FactMissing(i);
         }
         i += 1;

@@ -1,53 +1,47 @@
--- Terms kept as two numbers each: one term more joins those put in, and a variable finds the term put in for it.
-use Prim.Native.Nat.{ℕ, _+_, _*_, _-_, _≤_, _<_}
-use mathlib.Core.Path.{_≡_, sym, ap, ap₂, _∙_}
+-- Terms kept as one number each: one term more joins those put in, and a variable finds the term put in for it.
+use Prim.Native.Nat.{ℕ, _+_, _-_, _≤_, _<_}
+use mathlib.Core.Path.{_≡_, sym, ap, _∙_}
 use mathlib.Core.List.{List, _∷_}
 use mathlib.Core.Logic.{if-pos, if-neg}
 use native.Mathlib.Decide.{decLt}
 use native.Mathlib.Omega.{arith}
-use lib.ListN.{length, length-set}
+use lib.ListN.{length, set, length-set}
+use lib.Seq.{getD-set-same, getD-set-other}
 use Rattle.procap.specs.Lists.{nth}
-use Rattle.procap.specs.Numbered.{of-numbers}
+use Rattle.procap.specs.Numbered.{of-number}
 use Rattle.procap.specs.declared.fact.Term.{Term}
 use Rattle.bl.specs.Trees.{fixed, bound}
 use Rattle.bl.specs.Formulas.{most-binders}
 use Rattle.formula.specs.declared.terms.Terms.{Terms}
 use Rattle.formula.specs.PutIn.{slot, terms-of, FewTerms, put-for, fill-place}
-use Rattle.ledger.proofs.Stored.{with-two, first-stored, second-stored, stored-after}
 use Rattle.formula.proofs.Stacks.{nth-stack, nth-stack-none, stack-more}
 
 -- ── One term more ──
 
--- The numbers of a term stored at an index.
-abbrev stored : List ℕ → ℕ → ℕ → ℕ → List ℕ
-stored numbers i kind value = with-two numbers (2 * i) kind value
-
-module _ (numbers : List ℕ) (n kind value : ℕ) where
-  -- They stand at that index, and those below stay.
-  slot-stored : 2 * n + 1 < length numbers → slot (stored numbers n kind value) n ≡ of-numbers kind value
+module _ (numbers : List ℕ) (n x : ℕ) where
+  -- A number stored at an index stands there, and those below stay.
+  slot-stored : n < length numbers → slot (set numbers n x) n ≡ of-number x
   unfolding slot
-  slot-stored room = ap₂ of-numbers (first-stored numbers (2 * n) kind value room) (second-stored numbers (2 * n) kind value room)
+  slot-stored room = ap of-number (getD-set-same numbers n x 0 room)
 
-  slot-below : (i : ℕ) → i < n → slot (stored numbers n kind value) i ≡ slot numbers i
+  slot-below : (i : ℕ) → i < n → slot (set numbers n x) i ≡ slot numbers i
   unfolding slot
-  slot-below i l =
-      let same = stored-after numbers (2 * n) kind value in
-      ap₂ of-numbers (same (2 * i) (omega arith)) (same (2 * i + 1) (omega arith))
+  slot-below i l = ap of-number (getD-set-other numbers n i x 0 (λ e. omega arith))
 
-module _ (t : Terms) (kind value : ℕ) where
+module _ (t : Terms) (x : ℕ) where
   -- The terms with one more stored after them.
   abbrev put-after : Terms
-  put-after = record { count = t .count + 1; numbers = stored (t .numbers) (t .count) kind value }
+  put-after = record { count = t .count + 1; numbers = set (t .numbers) (t .count) x }
 
   pub put-few : FewTerms t → t .count < most-binders → FewTerms put-after
   put-few few l = record { few = omega arith; room = simp length-set (few .room) }
 
-  pub put-terms : (u : Term) → of-numbers kind value ≡ u → FewTerms t → t .count < most-binders → terms-of put-after ≡ (u ∷ terms-of t)
+  pub put-terms : (u : Term) → of-number x ≡ u → FewTerms t → t .count < most-binders → terms-of put-after ≡ (u ∷ terms-of t)
   unfolding terms-of
   put-terms u e few l =
       stack-more _ _ (t .count) u
-      (slot-stored (t .numbers) (t .count) kind value (omega (arith, few .room)) ∙ e)
-      (slot-below (t .numbers) (t .count) kind value)
+      (slot-stored (t .numbers) (t .count) x (omega (arith, few .room)) ∙ e)
+      (slot-below (t .numbers) (t .count) x)
 
 -- ── What stands for a variable ──
 

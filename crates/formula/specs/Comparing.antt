@@ -15,7 +15,7 @@ use Rattle.ledger.specs.declared.Stop.the-variants.{Going}
 use Rattle.formula.specs.declared.parts.FormulaAt.{FormulaAt}
 use Rattle.formula.specs.declared.compare.Pair.{Pair}
 use Rattle.formula.specs.declared.compare.Compared.{Compared}
-use Rattle.ledger.specs.Books.{book, Sound, Gives}
+use Rattle.ledger.specs.Books.{stop-of, book, Sound, Gives}
 use Rattle.formula.specs.PutIn.{terms-of, FewTerms, fill-place}
 use Rattle.formula.specs.Meaning.{tag-of, begin, Means, Compares}
 
@@ -24,7 +24,7 @@ abbrev pub LeadsTo : Ledger → Test → Compared → ℕ → ℕ → Type 0
 LeadsTo l w r e e′ =
     (state list : List ℕ) → Sound (book l list)
     → Gives state (book l list) w (book (r .ledger) list) tt
-    × (r .ledger .stop ≡ Going → (r .«left_next» ≡ e) × (r .«right_next» ≡ e′))
+    × (stop-of (r .ledger) ≡ Going → (r .«left_next» ≡ e) × (r .«right_next» ≡ e′))
 
 -- The pair at other places.
 abbrev pub move : Pair → ℕ → ℕ → Pair

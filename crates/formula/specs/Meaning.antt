@@ -6,6 +6,7 @@ use mathlib.Core.List.{List}
 use mathlib.Core.Option.{some, none}
 use lib.ListN.{length, getD}
 use Rattle.procap.specs.Facts.{spelled, fact-of}
+use Rattle.procap.specs.Numbered.{time-of}
 use Rattle.procap.specs.declared.time.Time.{Time}
 use Rattle.procap.specs.declared.fact.Term.{Term}
 use Rattle.procap.specs.declared.fact.Fact.{Fact}
@@ -23,7 +24,7 @@ use Rattle.formula.specs.declared.terms.Place as code
 use Rattle.formula.specs.declared.parts.FormulaAt.{FormulaAt}
 use Rattle.formula.specs.declared.parts.Head.{Head}
 use Rattle.formula.specs.declared.parts.Judgement.{Judgement}
-use Rattle.ledger.specs.Books.{book, Sound, Gives}
+use Rattle.ledger.specs.Books.{stop-of, book, Sound, Gives}
 use Rattle.formula.specs.PutIn.{terms-of, FewTerms, fill, place-of, fill-place}
 
 -- The tag at a place.
@@ -46,11 +47,18 @@ pub record Means (bytes : List ℕ) (d : ℕ) (f : FormulaAt) (F : Formula) : Ty
   pub reads : formula bytes level sorts (f .at) ≡ some (tree, end)
   pub filled : fill d (terms-of (f .terms)) tree ≡ F
 
+-- The two ends of a judgement's interval.
+abbrev pub from-of : Judgement → Time
+from-of j = time-of (j .from)
+
+abbrev pub to-of : Judgement → Time
+to-of j = time-of (j .to)
+
 -- A judgement of the formula F on [a,b].
 pub record On (bytes : List ℕ) (j : Judgement) (F : Formula) (a b : Time) : Type 0 where
   pub means : Means bytes 0 (j .formula) F
-  pub from : j .from ≡ a
-  pub to : j .to ≡ b
+  pub from : from-of j ≡ a
+  pub to : to-of j ≡ b
 
 -- Where the reader finds something at a place, a value with the terms put in is that, and a place after it is where it ends.
 abbrev pub PlaceReads : List ℕ → ℕ → Terms → ℕ → code.Place → Type 0
@@ -76,7 +84,7 @@ abbrev pub Compares : List ℕ → FormulaAt → List ℕ → FormulaAt → ℕ 
 Compares left-bytes left right-bytes right d q l levels r left-next right-next =
     (F G : Formula) (m : Means left-bytes d left F) (n : Means right-bytes d right G) → m .level ≤ levels
     → (state list : List ℕ) → Sound (book l list)
-    → Gives state (book l list) (same q F G) (book r list) tt × (r .stop ≡ Going → (left-next ≡ m .end) × (right-next ≡ n .end))
+    → Gives state (book l list) (same q F G) (book r list) tt × (stop-of r ≡ Going → (left-next ≡ m .end) × (right-next ≡ n .end))
 
 -- A fact read from the bytes spells these places, or a variable is left among them, by the flag.
 unfoldable pub SpellsPlaces : ℕ → List Place → Bool → Fact → Type 0

@@ -1,5 +1,5 @@
 -- The terms put in for the binders passed, and a formula with them put in.
-use Prim.Native.Nat.{ℕ, zero, suc, _+_, _*_, _-_, _≤_}
+use Prim.Native.Nat.{ℕ, zero, suc, _-_, _≤_}
 use mathlib.Core.Path.{_≡_}
 use mathlib.Core.List.{List, [], _∷_, map}
 use mathlib.Core.Option.{Option, some, none}
@@ -7,7 +7,7 @@ use mathlib.Core.Logic.{ite}
 use native.Mathlib.Decide.{decLt}
 use lib.ListN.{length, getD, replicate}
 use Rattle.procap.specs.Lists.{nth}
-use Rattle.procap.specs.Numbered.{of-numbers}
+use Rattle.procap.specs.Numbered.{of-number}
 use Rattle.procap.specs.declared.fact.Term.{Term}
 use Rattle.bl.specs.Trees as tree
 use Rattle.bl.specs.Trees.{Formula, top, and, implies, all, says, at, atom, fact, order, fixed, bound}
@@ -16,18 +16,18 @@ use Rattle.formula.specs.declared.terms.Terms.{Terms}
 use Rattle.formula.specs.declared.terms.Place.{Place}
 use Rattle.formula.specs.declared.terms.Place.the-variants.{Fixed, Bound}
 
--- How many numbers the terms of all binders take.
+-- How many numbers the terms of all binders take: one each.
 abbrev pub terms-numbers : ℕ
-terms-numbers = 16
+terms-numbers = most-binders
 
 -- The first n of a row, the last of them first.
 unfoldable pub stack : {A : Type 0} → (ℕ → A) → ℕ → List A
 stack f zero = []
 stack f (suc n) = f n ∷ stack f n
 
--- The term that the two numbers of an index stand for.
+-- The term that the number of an index stands for.
 unfoldable pub slot : List ℕ → ℕ → Term
-slot numbers i = of-numbers (getD numbers (2 * i) 0) (getD numbers (2 * i + 1) 0)
+slot numbers i = of-number (getD numbers i 0)
 
 -- The terms put in, the latest first.
 unfoldable pub terms-of : Terms → List Term

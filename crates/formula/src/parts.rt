@@ -15,12 +15,14 @@ use procap::fact::MOST_TERMS;
 use procap::fact::Term;
 use procap::tag::TermTag;
 use procap::time::Time;
+use procap::time::TimeNumbers;
 ghost use mathlib.Core.Path.{_≡_};
 ghost use mathlib.Core.List.{List, map};
 ghost use mathlib.Core.Option.{some};
 ghost use Prim.Native.Nat.{ℕ, _≤_};
 ghost use Rattle.procap.specs.Tells.{Tells};
 ghost use Rattle.procap.specs.Facts.{«most-terms»};
+ghost use Rattle.procap.specs.Numbered.{«time-numbers»};
 ghost use Rattle.procap.specs.Bytes.{byte, many, «term-by», «predicate-and»};
 ghost use Rattle.bl.specs.Trees.{Sort, fact};
 ghost use Rattle.bl.specs.Trees as tree;
@@ -36,17 +38,17 @@ pub struct FormulaAt {
     pub terms: Terms,
 }
 
-// A formula on an interval.
+// A formula on an interval, the two times of which are held in numbers.
 pub struct Judgement {
     pub formula: FormulaAt,
-    pub from: Time,
-    pub to: Time,
+    pub from: TimeNumbers,
+    pub to: TimeNumbers,
 }
 
 impl Judgement {
     // The formula at the front of its bytes with no terms put in, on [ctime,ctime].
     pub fn front_on_ctime() -> Judgement
-        ensures { λ r. ⌜ r ≡ record { formula = record { at = 0; terms = «no-terms» }; from = Time.Ctime; to = Time.Ctime } ⌝ }
+        ensures { λ r. ⌜ r ≡ record { formula = record { at = 0; terms = «no-terms» }; from = «time-numbers» Time.Ctime; to = «time-numbers» Time.Ctime } ⌝ }
     {
         let terms = Terms::none();
         let formula = FormulaAt {
@@ -55,8 +57,8 @@ impl Judgement {
         };
         Judgement {
             formula: formula,
-            from: Time::Ctime,
-            to: Time::Ctime,
+            from: Time::ctime().numbers(),
+            to: Time::ctime().numbers(),
         }
     }
 }

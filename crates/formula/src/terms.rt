@@ -3,6 +3,7 @@ use procap::fact::Term;
 ghost use mathlib.Core.Path.{_≡_};
 ghost use mathlib.Core.List.{_∷_};
 ghost use Prim.Native.Nat.{suc, _<_};
+ghost use Rattle.procap.specs.Writable.{TermInForm};
 ghost use Rattle.bl.specs.Trees.{bound};
 ghost use Rattle.bl.specs.Formulas.{«most-binders»};
 ghost use Rattle.formula.specs.PutIn.{«no-terms», «terms-of», FewTerms, «place-of», «fill-place»};
@@ -11,10 +12,10 @@ ghost use Rattle.formula.specs.PutIn.{«no-terms», «terms-of», FewTer
 pub const MOST_FORMULA_LEVELS: u64 = 16;
 // How many binders may stand around a place.
 pub const MOST_BINDERS: usize = 8;
-// How many numbers their terms take: two each.
-pub const TERMS_NUMBERS: usize = 16;
+// How many numbers their terms take: one each.
+pub const TERMS_NUMBERS: usize = MOST_BINDERS;
 
-// The terms put in for the binders passed, the latest last: two numbers each.
+// The terms put in for the binders passed, the latest last: one number each.
 pub struct Terms {
     pub count: usize,
     pub numbers: [u64; TERMS_NUMBERS],
@@ -37,19 +38,18 @@ impl Terms {
         }
     }
 
-    // The terms with one more put in. Where there is no room, they stay as they are.
+    // The terms with one more put in, one that bytes can hold. Where there is no room, they stay as they are.
     pub fn with(self, term: Term) -> Terms
         ensures room { λ r. ⌜ (FewTerms self → self .count < «most-binders» → FewTerms r) ⌝ }
         ensures count { λ r. ⌜ (self .count < «most-binders» → r .count ≡ suc (self .count)) ⌝ }
-        ensures terms { λ r. ⌜ (FewTerms self → self .count < «most-binders» → «terms-of» r ≡ (term ∷ «terms-of» self)) ⌝ }
+        ensures terms { λ r. ⌜ (TermInForm term → FewTerms self → self .count < «most-binders» → «terms-of» r ≡ (term ∷ «terms-of» self)) ⌝ }
     {
         let count = self.count;
         if MOST_BINDERS <= count {
             return self;
         }
         let mut numbers = self.numbers;
-        numbers[2 * count] = term.kind();
-        numbers[2 * count + 1] = term.value();
+        numbers[count] = term.number();
         Terms {
             count: count + 1,
             numbers: numbers,
@@ -71,6 +71,6 @@ impl Terms {
         if MOST_BINDERS <= index {
             return Place::Bound(variable as u64);
         }
-        Place::Fixed(Term::of_numbers(self.numbers[2 * index], self.numbers[2 * index + 1]))
+        Place::Fixed(Term::of_number(self.numbers[index]))
     }
 }

@@ -31,9 +31,9 @@ use Rattle.judging.specs.declared.judge.Inferred.{Inferred}
 use Rattle.judging.specs.declared.judge.Sides.{Sides}
 use Rattle.judging.specs.declared.judge.Inside.{Inside}
 use Rattle.judging.specs.declared.walk.Checked.{Checked}
-use Rattle.ledger.specs.Books.{Book, book, Sound, Gives}
+use Rattle.ledger.specs.Books.{stop-of, Book, book, Sound, Gives}
 use Rattle.formula.specs.PutIn.{terms-numbers}
-use Rattle.formula.specs.Meaning.{Means, On}
+use Rattle.formula.specs.Meaning.{from-of, to-of, Means, On}
 use Rattle.judging.specs.RowsOf.{row-in, RowIs, is-plain, is-claim, most-rows, all-numbers}
 use Rattle.judging.specs.Judging.{view-in, and-then, sides, TwoSided, and-sides, at-parts, says-parts, top-goal, fact-goal, order-goal, fits-goal, Takes, Yields}
 use Rattle.judging.specs.Walking.{Around, Keeps, Passes, Infers, Checks, ChecksBy, ChecksAssuming}
@@ -106,13 +106,13 @@ module _ (buffer proof state certificates assumptions : List ℕ) (scope : Scope
       → (inferred : Inferred) (list′ : List ℕ) → Infers buffer proof state certificates assumptions scope ledger list left at inferred list′
       → (r : Checked)
       → ((state : List ℕ) (b : Book) (w : Walk walk.Judgement) (e : ℕ) (list : List ℕ) (G : Formula) → Yields state buffer b w e inferred list → Means goal-bytes 0 (goal .formula) G
-      → Passes state b (and-then w (λ j. fits-goal at (j .0) (j .1) (j .2) G (goal .from) (goal .to))) e r list)
+      → Passes state b (and-then w (λ j. fits-goal at (j .0) (j .1) (j .2) G (from-of goal) (to-of goal))) e r list)
       → Checks buffer proof state certificates assumptions scope ledger list left goal-bytes goal at r list′
   check-inferred zero at n t inferred list′ infers r h cs Γ N e sound around reads G means = absurd (n refl)
   check-inferred (suc left) at n t inferred list′ infers r h cs Γ N e sound around reads G means =
       let found = inferred-read proof (length cs) left (scope .count) at N e reads t in
       let there = begins-there proof (length cs) (suc left) (scope .count) at (found .part) e (found .reads) in
-      rw (found .is, inferred-walk cs Γ view at G (goal .from) (goal .to) (found .part) there)
+      rw (found .is, inferred-walk cs Γ view at G (from-of goal) (to-of goal) (found .part) there)
       (h state (book ledger list) _ e list′ G (infers cs Γ (found .part) e sound around (found .reads)) means)
 
   -- The second step of 29 and of 2B: there is room for the row, and it is the assumption more.
@@ -147,63 +147,63 @@ module _ (buffer proof state certificates assumptions : List ℕ) (scope : Scope
       pub check-trivial : Goes top-goal → By TopStepTag (record { ledger = l; next = next }) list′
       check-trivial h cs Γ N e sound around reads G means =
           let found = trivial-read proof (length cs) left (scope .count) at NoInferTag N e reads in
-          rw (found .0, trivial-walk cs Γ view at G (goal .from) (goal .to)) (record { gives = h G sound means; ends = λ _. ends inside ∙ found .1 })
+          rw (found .0, trivial-walk cs Γ view at G (from-of goal) (to-of goal)) (record { gives = h G sound means; ends = λ _. ends inside ∙ found .1 })
 
       pub check-state : Goes fact-goal → By StateTag (record { ledger = l; next = next }) list′
       check-state h cs Γ N e sound around reads G means =
           let found = state-read proof (length cs) left (scope .count) at NoInferTag N e reads in
-          rw (found .0, state-walk cs Γ view at G (goal .from) (goal .to)) (record { gives = h G sound means; ends = λ _. ends inside ∙ found .1 })
+          rw (found .0, state-walk cs Γ view at G (from-of goal) (to-of goal)) (record { gives = h G sound means; ends = λ _. ends inside ∙ found .1 })
 
       pub check-order : Goes order-goal → By OrderStepTag (record { ledger = l; next = next }) list′
       check-order h cs Γ N e sound around reads G means =
           let found = compare-read proof (length cs) left (scope .count) at NoInferTag N e reads in
-          rw (found .0, compare-walk cs Γ view at G (goal .from) (goal .to)) (record { gives = h G sound means; ends = λ _. ends inside ∙ found .1 })
+          rw (found .0, compare-walk cs Γ view at G (from-of goal) (to-of goal)) (record { gives = h G sound means; ends = λ _. ends inside ∙ found .1 })
 
     -- 22: the sides of the goal, and then one after the other.
     module _ (parts : Sides)
         (splits : (F : Formula) → TwoSided AndTag → Means goal-bytes 0 (goal .formula) F → Takes (sides AndTag at F) at ledger (parts .ledger)
-        (λ x. On goal-bytes (parts .first) (x .0) (goal .from) (goal .to) × On goal-bytes (parts .second) (x .1) (goal .from) (goal .to))) where
+        (λ x. On goal-bytes (parts .first) (x .0) (from-of goal) (to-of goal) × On goal-bytes (parts .second) (x .1) (from-of goal) (to-of goal))) where
       sides-come : Sound (book ledger list) → (G : Formula) → Means goal-bytes 0 (goal .formula) G
           → Comes state (book ledger list) (and-sides at G) (book (parts .ledger) list)
-          (λ x. On goal-bytes (parts .first) (x .0) (goal .from) (goal .to) × On goal-bytes (parts .second) (x .1) (goal .from) (goal .to))
+          (λ x. On goal-bytes (parts .first) (x .0) (from-of goal) (to-of goal) × On goal-bytes (parts .second) (x .1) (from-of goal) (to-of goal))
       unfolding sides TwoSided
       sides-come sound G means = comes-taken state list (and-sides at G) at ledger (parts .ledger) _ (G, G) sound (splits G tt means)
 
-      pub check-pair-unfit : (parts .ledger .stop ≡ Going → ⊥) → (next : ℕ) → By PairTag (record { ledger = parts .ledger; next = next }) list
+      pub check-pair-unfit : (stop-of (parts .ledger) ≡ Going → ⊥) → (next : ℕ) → By PairTag (record { ledger = parts .ledger; next = next }) list
       check-pair-unfit n next cs Γ N e sound around reads G means =
           let found = pair-read proof (length cs) left (scope .count) at NoInferTag N e reads in
-          rw (found .is, pair-walk cs Γ view at G (goal .from) (goal .to) (found .one) (found .other))
+          rw (found .is, pair-walk cs Γ view at G (from-of goal) (to-of goal) (found .one) (found .other))
           (passes-halted state (book ledger list) (and-sides at G) (parts .ledger) list (sides-come sound G means) _ e n next)
 
-      module _ (going : parts .ledger .stop ≡ Going) (begin : ℕ) (begins : at < length proof → begin ≡ at + 1) (one : Checked) (list₁ : List ℕ)
+      module _ (going : stop-of (parts .ledger) ≡ Going) (begin : ℕ) (begins : at < length proof → begin ≡ at + 1) (one : Checked) (list₁ : List ℕ)
           (checks : Checks buffer proof state certificates assumptions scope (parts .ledger) list left goal-bytes (parts .first) begin one list₁) where
         one-comes : (cs : List Statement) (Γ : List Assumption) (N : Check) (e : ℕ) → Sound (book (parts .ledger) list) → Around buffer certificates assumptions scope (suc left) cs Γ
-            → check-step proof (length cs) left (scope .count) (at + 1) ≡ some (N, e) → (A : Formula) → On goal-bytes (parts .first) A (goal .from) (goal .to)
-            → Comes state (book (parts .ledger) list) (check cs Γ view N A (goal .from) (goal .to)) (book (one .ledger) list₁) (λ _. one .next ≡ e)
+            → check-step proof (length cs) left (scope .count) (at + 1) ≡ some (N, e) → (A : Formula) → On goal-bytes (parts .first) A (from-of goal) (to-of goal)
+            → Comes state (book (parts .ledger) list) (check cs Γ view N A (from-of goal) (to-of goal)) (book (one .ledger) list₁) (λ _. one .next ≡ e)
         one-comes cs Γ N e sound around reads A on =
             let inside = check-inside proof (length cs) left (scope .count) (at + 1) N e reads in
             comes-checked state (book (parts .ledger) list) _ e one list₁
-            (passes-on state goal-bytes (parts .first) A (goal .from) (goal .to) on (check cs Γ view N A) (book (parts .ledger) list) e one list₁
+            (passes-on state goal-bytes (parts .first) A (from-of goal) (to-of goal) on (check cs Γ view N A) (book (parts .ledger) list) e one list₁
             (checks cs Γ N e sound (around-part buffer certificates assumptions scope left cs Γ around) (rw (begins (omega arith)) reads) A (on .means)))
 
-        pub check-pair-stopped : (one .ledger .stop ≡ Going → ⊥) → By PairTag one list₁
+        pub check-pair-stopped : (stop-of (one .ledger) ≡ Going → ⊥) → By PairTag one list₁
         check-pair-stopped n cs Γ N e sound around reads G means =
             let found = pair-read proof (length cs) left (scope .count) at NoInferTag N e reads in
-            rw (found .is, pair-walk cs Γ view at G (goal .from) (goal .to) (found .one) (found .other))
+            rw (found .is, pair-walk cs Γ view at G (from-of goal) (to-of goal) (found .one) (found .other))
             (passes-then state (book ledger list) (and-sides at G) (parts .ledger) list (sides-come sound G means) _ e going one list₁
             (λ sound x on. passes-halted state (book (parts .ledger) list) _ (one .ledger) list₁
             (one-comes cs Γ (found .one) (found .middle) sound around (found .one-reads) (x .0) (on .0)) _ e n (one .next)))
 
-        pub check-pair : one .ledger .stop ≡ Going → (other : Checked) (list₂ : List ℕ)
+        pub check-pair : stop-of (one .ledger) ≡ Going → (other : Checked) (list₂ : List ℕ)
             → Checks buffer proof state certificates assumptions scope (one .ledger) list₁ left goal-bytes (parts .second) (one .next) other list₂
             → By PairTag other list₂
         check-pair goes other list₂ checks-other cs Γ N e sound around reads G means =
             let found = pair-read proof (length cs) left (scope .count) at NoInferTag N e reads in
-            rw (found .is, pair-walk cs Γ view at G (goal .from) (goal .to) (found .one) (found .other))
+            rw (found .is, pair-walk cs Γ view at G (from-of goal) (to-of goal) (found .one) (found .other))
             (passes-then state (book ledger list) (and-sides at G) (parts .ledger) list (sides-come sound G means) _ e going other list₂
             (λ sound x on. passes-then state (book (parts .ledger) list) _ (one .ledger) list₁
             (one-comes cs Γ (found .one) (found .middle) sound around (found .one-reads) (x .0) (on .0)) _ e goes other list₂
-            (λ sound y ends. passes-on state goal-bytes (parts .second) (x .1) (goal .from) (goal .to) (on .1) (check cs Γ view (found .other) (x .1)) (book (one .ledger) list₁) e other list₂
+            (λ sound y ends. passes-on state goal-bytes (parts .second) (x .1) (from-of goal) (to-of goal) (on .1) (check cs Γ view (found .other) (x .1)) (book (one .ledger) list₁) e other list₂
             (checks-other cs Γ (found .other) e sound (around-part buffer certificates assumptions scope left cs Γ around) (rw ends (found .other-reads)) (x .1) (on .1 .means)))))
 
     -- 28: the formula of the goal, on its own interval.
@@ -211,21 +211,21 @@ module _ (buffer proof state certificates assumptions : List ℕ) (scope : Scope
         (lifts : (F : Formula) → Means goal-bytes 0 (goal .formula) F → Takes (at-parts at F) at ledger (inside .ledger) (λ x. On goal-bytes (inside .judgement) (x .0) (x .1) (x .2))) where
       at-comes : Sound (book ledger list) → (G : Formula) → Means goal-bytes 0 (goal .formula) G
           → Comes state (book ledger list) (at-parts at G) (book (inside .ledger) list) (λ x. On goal-bytes (inside .judgement) (x .0) (x .1) (x .2))
-      at-comes sound G means = comes-taken state list (at-parts at G) at ledger (inside .ledger) _ (G, goal .from, goal .to) sound (lifts G means)
+      at-comes sound G means = comes-taken state list (at-parts at G) at ledger (inside .ledger) _ (G, from-of goal, to-of goal) sound (lifts G means)
 
-      pub check-at-in-unfit : (inside .ledger .stop ≡ Going → ⊥) → (next : ℕ) → By AtInTag (record { ledger = inside .ledger; next = next }) list
+      pub check-at-in-unfit : (stop-of (inside .ledger) ≡ Going → ⊥) → (next : ℕ) → By AtInTag (record { ledger = inside .ledger; next = next }) list
       check-at-in-unfit n next cs Γ N e sound around reads G means =
           let found = at-in-read proof (length cs) left (scope .count) at NoInferTag N e reads in
-          rw (found .is, at-in-walk cs Γ view at G (goal .from) (goal .to) (found .part))
+          rw (found .is, at-in-walk cs Γ view at G (from-of goal) (to-of goal) (found .part))
           (passes-halted state (book ledger list) (at-parts at G) (inside .ledger) list (at-comes sound G means) _ e n next)
 
-      pub check-at-in : inside .ledger .stop ≡ Going → (begin : ℕ) → (at < length proof → begin ≡ at + 1) → (r : Checked) (list′ : List ℕ)
+      pub check-at-in : stop-of (inside .ledger) ≡ Going → (begin : ℕ) → (at < length proof → begin ≡ at + 1) → (r : Checked) (list′ : List ℕ)
           → Checks buffer proof state certificates assumptions scope (inside .ledger) list left goal-bytes (inside .judgement) begin r list′
           → By AtInTag r list′
       check-at-in going begin begins r list′ checks cs Γ N e sound around reads G means =
           let found = at-in-read proof (length cs) left (scope .count) at NoInferTag N e reads in
           let lower = check-inside proof (length cs) left (scope .count) (at + 1) (found .part) e (found .reads) in
-          rw (found .is, at-in-walk cs Γ view at G (goal .from) (goal .to) (found .part))
+          rw (found .is, at-in-walk cs Γ view at G (from-of goal) (to-of goal) (found .part))
           (passes-then state (book ledger list) (at-parts at G) (inside .ledger) list (at-comes sound G means) _ e going r list′
           (λ sound x on. passes-on state goal-bytes (inside .judgement) (x .0) (x .1) (x .2) on (check cs Γ view (found .part) (x .0)) (book (inside .ledger) list) e r list′
           (checks cs Γ (found .part) e sound (around-part buffer certificates assumptions scope left cs Γ around) (rw (begins (omega arith)) (found .reads)) (x .0) (on .means))))
@@ -233,18 +233,18 @@ module _ (buffer proof state certificates assumptions : List ℕ) (scope : Scope
     -- 2A: what the goal says is said, in the view of who says it.
     module _ (inside : Inside)
         (says : (F : Formula) → Means goal-bytes 0 (goal .formula) F → Takes (says-parts at F) at ledger (inside .ledger)
-        (λ x. (inside .principal ≡ x .0) × On goal-bytes (inside .judgement) (x .1) (goal .from) (goal .to))) where
+        (λ x. (inside .principal ≡ x .0) × On goal-bytes (inside .judgement) (x .1) (from-of goal) (to-of goal))) where
       said-comes : Sound (book ledger list) → (G : Formula) → Means goal-bytes 0 (goal .formula) G
-          → Comes state (book ledger list) (says-parts at G) (book (inside .ledger) list) (λ x. (inside .principal ≡ x .0) × On goal-bytes (inside .judgement) (x .1) (goal .from) (goal .to))
+          → Comes state (book ledger list) (says-parts at G) (book (inside .ledger) list) (λ x. (inside .principal ≡ x .0) × On goal-bytes (inside .judgement) (x .1) (from-of goal) (to-of goal))
       said-comes sound G means = comes-taken state list (says-parts at G) at ledger (inside .ledger) _ (0, G) sound (says G means)
 
-      pub check-says-in-unfit : (inside .ledger .stop ≡ Going → ⊥) → (next : ℕ) → By SaysInTag (record { ledger = inside .ledger; next = next }) list
+      pub check-says-in-unfit : (stop-of (inside .ledger) ≡ Going → ⊥) → (next : ℕ) → By SaysInTag (record { ledger = inside .ledger; next = next }) list
       check-says-in-unfit n next cs Γ N e sound around reads G means =
           let found = says-in-read proof (length cs) left (scope .count) at NoInferTag N e reads in
-          rw (found .is, says-in-walk cs Γ view at G (goal .from) (goal .to) (found .part))
+          rw (found .is, says-in-walk cs Γ view at G (from-of goal) (to-of goal) (found .part))
           (passes-halted state (book ledger list) (says-parts at G) (inside .ledger) list (said-comes sound G means) _ e n next)
 
-      pub check-says-in : inside .ledger .stop ≡ Going → (begin : ℕ) → (at < length proof → begin ≡ at + 1) → (r : Checked) (list′ : List ℕ)
+      pub check-says-in : stop-of (inside .ledger) ≡ Going → (begin : ℕ) → (at < length proof → begin ≡ at + 1) → (r : Checked) (list′ : List ℕ)
           → Checks buffer proof state certificates assumptions (record { count = scope .count; shut = scope .count; view = ViewOf (inside .principal) }) (inside .ledger) list left
           goal-bytes (inside .judgement) begin r list′
           → By SaysInTag r list′
@@ -253,9 +253,9 @@ module _ (buffer proof state certificates assumptions : List ℕ) (scope : Scope
           let found = says-in-read proof (length cs) left (scope .count) at NoInferTag N e reads in
           let lower = check-inside proof (length cs) left (scope .count) (at + 1) (found .part) e (found .reads) in
           let said = around-said buffer certificates assumptions scope left cs Γ around (ViewOf (inside .principal)) in
-          rw (found .is, says-in-walk cs Γ view at G (goal .from) (goal .to) (found .part))
+          rw (found .is, says-in-walk cs Γ view at G (from-of goal) (to-of goal) (found .part))
           (passes-then state (book ledger list) (says-parts at G) (inside .ledger) list (said-comes sound G means) _ e going r list′
-          (λ sound x on. passes-on state goal-bytes (inside .judgement) (x .1) (goal .from) (goal .to) (on .1)
+          (λ sound x on. passes-on state goal-bytes (inside .judgement) (x .1) (from-of goal) (to-of goal) (on .1)
           (check cs (map shut-out Γ) (view-of (x .0)) (found .part) (x .1)) (book (inside .ledger) list) e r list′
           (rw (← (on .0)) (checks cs (map shut-out Γ) (found .part) e sound said (rw (begins (omega arith)) (found .reads)) (x .1) (on .1 .means)))))
 
@@ -270,23 +270,23 @@ module _ (buffer proof state certificates assumptions : List ℕ) (scope : Scope
             comes-inferred state buffer (book ledger list) _ middle inferred list₁
             (first-part buffer proof state certificates assumptions scope ledger list left at begin begins inferred list₁ infers cs Γ M middle sound around part-reads)
 
-        module _ (going : inferred .ledger .stop ≡ Going) {X : Type 0} (part : Formula → Walk X) (assumption : walk.Judgement → X → Assumption) (So : X → Type 0) (any : Formula → X) (inside : Inside)
+        module _ (going : stop-of (inferred .ledger) ≡ Going) {X : Type 0} (part : Formula → Walk X) (assumption : walk.Judgement → X → Assumption) (So : X → Type 0) (any : Formula → X) (inside : Inside)
             (has : (F : Formula) → Means buffer 0 (inferred .judgement .formula) F → Takes (part F) at (inferred .ledger) (inside .ledger) So)
             (N : Check) (e : ℕ) (G : Formula) where
           -- The walk of such a step.
           abbrev out : Test
-          out = and-then (infer cs Γ view M) (λ j. and-then (part (j .0)) (λ x. check cs (assumption j x ∷ Γ) view N G (goal .from) (goal .to)))
+          out = and-then (infer cs Γ view M) (λ j. and-then (part (j .0)) (λ x. check cs (assumption j x ∷ Γ) view N G (from-of goal) (to-of goal)))
 
           part-comes : (j : walk.Judgement) → On buffer (inferred .judgement) (j .0) (j .1) (j .2) → Sound (book (inferred .ledger) list₁)
               → Comes state (book (inferred .ledger) list₁) (part (j .0)) (book (inside .ledger) list₁) So
           part-comes j on sound = comes-taken state list₁ (part (j .0)) at (inferred .ledger) (inside .ledger) So (any (j .0)) sound (has (j .0) (on .means))
 
-          out-unfit : (inside .ledger .stop ≡ Going → ⊥) → (next : ℕ) → Passes state (book ledger list) out e (record { ledger = inside .ledger; next = next }) list₁
+          out-unfit : (stop-of (inside .ledger) ≡ Going → ⊥) → (next : ℕ) → Passes state (book ledger list) out e (record { ledger = inside .ledger; next = next }) list₁
           out-unfit n next =
               passes-then state (book ledger list) _ (inferred .ledger) list₁ whole-comes _ e going (record { ledger = inside .ledger; next = next }) list₁
               (λ sound j so. passes-halted state (book (inferred .ledger) list₁) (part (j .0)) (inside .ledger) list₁ (part-comes j (so .0) sound) _ e n next)
 
-          out-fits : inside .ledger .stop ≡ Going → check-step proof (length cs) left (suc (scope .count)) middle ≡ some (N, e) → Means goal-bytes 0 (goal .formula) G → (row : Row)
+          out-fits : stop-of (inside .ledger) ≡ Going → check-step proof (length cs) left (suc (scope .count)) middle ≡ some (N, e) → Means goal-bytes 0 (goal .formula) G → (row : Row)
               → ((j : walk.Judgement) → On buffer (inferred .judgement) (j .0) (j .1) (j .2) → (x : X) → So x → RowIs buffer row (scope .count) (scope .shut) (assumption j x))
               → (r : Checked) (list₂ : List ℕ)
               → ChecksAssuming buffer proof state certificates assumptions scope (inside .ledger) list₁ left goal-bytes goal row (inferred .next) r list₂
@@ -297,54 +297,54 @@ module _ (buffer proof state certificates assumptions : List ℕ) (scope : Scope
               (λ sound x has. checks cs Γ (assumption j x) N e G sound around (is j (so .0) x has) (rw (so .1) other-reads) means))
 
       -- 29.
-      pub check-at-out-stopped : (inferred .ledger .stop ≡ Going → ⊥) → (next : ℕ) → By AtOutTag (record { ledger = inferred .ledger; next = next }) list₁
+      pub check-at-out-stopped : (stop-of (inferred .ledger) ≡ Going → ⊥) → (next : ℕ) → By AtOutTag (record { ledger = inferred .ledger; next = next }) list₁
       check-at-out-stopped n next cs Γ N e sound around reads G means =
           let found = at-out-read proof (length cs) left (scope .count) at NoInferTag N e reads in
-          rw (found .is, at-out-walk cs Γ view at G (goal .from) (goal .to) (found .part) (found .other))
+          rw (found .is, at-out-walk cs Γ view at G (from-of goal) (to-of goal) (found .part) (found .other))
           (passes-halted state (book ledger list) _ (inferred .ledger) list₁ (whole-comes cs Γ sound around (found .part) (found .middle) (found .part-reads)) _ e n next)
 
-      module _ (going : inferred .ledger .stop ≡ Going) (inside : Inside)
+      module _ (going : stop-of (inferred .ledger) ≡ Going) (inside : Inside)
           (lifts : (F : Formula) → Means buffer 0 (inferred .judgement .formula) F → Takes (at-parts at F) at (inferred .ledger) (inside .ledger) (λ x. On buffer (inside .judgement) (x .0) (x .1) (x .2))) where
-        pub check-at-out-unfit : (inside .ledger .stop ≡ Going → ⊥) → (next : ℕ) → By AtOutTag (record { ledger = inside .ledger; next = next }) list₁
+        pub check-at-out-unfit : (stop-of (inside .ledger) ≡ Going → ⊥) → (next : ℕ) → By AtOutTag (record { ledger = inside .ledger; next = next }) list₁
         check-at-out-unfit n next cs Γ N e sound around reads G means =
             let found = at-out-read proof (length cs) left (scope .count) at NoInferTag N e reads in
-            rw (found .is, at-out-walk cs Γ view at G (goal .from) (goal .to) (found .part) (found .other))
-            (out-unfit cs Γ sound around (found .part) (found .middle) (found .part-reads) going (at-parts at) (λ j x. plain (x .0) (x .1) (x .2)) _ (λ F. (F, goal .from, goal .to)) inside lifts
+            rw (found .is, at-out-walk cs Γ view at G (from-of goal) (to-of goal) (found .part) (found .other))
+            (out-unfit cs Γ sound around (found .part) (found .middle) (found .part-reads) going (at-parts at) (λ j x. plain (x .0) (x .1) (x .2)) _ (λ F. (F, from-of goal, to-of goal)) inside lifts
             (found .other) e G n next)
 
-        pub check-at-out : inside .ledger .stop ≡ Going → (r : Checked) (list₂ : List ℕ)
+        pub check-at-out : stop-of (inside .ledger) ≡ Going → (r : Checked) (list₂ : List ℕ)
             → ChecksAssuming buffer proof state certificates assumptions scope (inside .ledger) list₁ left goal-bytes goal (record { whose = Plain; judgement = inside .judgement }) (inferred .next) r list₂
             → By AtOutTag r list₂
         check-at-out goes r list₂ checks cs Γ N e sound around reads G means =
             let found = at-out-read proof (length cs) left (scope .count) at NoInferTag N e reads in
             let shut-inside = around .shut-inside in
-            rw (found .is, at-out-walk cs Γ view at G (goal .from) (goal .to) (found .part) (found .other))
-            (out-fits cs Γ sound around (found .part) (found .middle) (found .part-reads) going (at-parts at) (λ j x. plain (x .0) (x .1) (x .2)) _ (λ F. (F, goal .from, goal .to)) inside lifts
+            rw (found .is, at-out-walk cs Γ view at G (from-of goal) (to-of goal) (found .part) (found .other))
+            (out-fits cs Γ sound around (found .part) (found .middle) (found .part-reads) going (at-parts at) (λ j x. plain (x .0) (x .1) (x .2)) _ (λ F. (F, from-of goal, to-of goal)) inside lifts
             (found .other) e G goes (found .other-reads) means _ (λ j whole x on. is-plain refl (λ h. omega arith) on) r list₂ checks)
 
       -- 2B.
-      pub check-says-out-stopped : (inferred .ledger .stop ≡ Going → ⊥) → (next : ℕ) → By SaysOutTag (record { ledger = inferred .ledger; next = next }) list₁
+      pub check-says-out-stopped : (stop-of (inferred .ledger) ≡ Going → ⊥) → (next : ℕ) → By SaysOutTag (record { ledger = inferred .ledger; next = next }) list₁
       check-says-out-stopped n next cs Γ N e sound around reads G means =
           let found = says-out-read proof (length cs) left (scope .count) at NoInferTag N e reads in
-          rw (found .is, says-out-walk cs Γ view at G (goal .from) (goal .to) (found .part) (found .other))
+          rw (found .is, says-out-walk cs Γ view at G (from-of goal) (to-of goal) (found .part) (found .other))
           (passes-halted state (book ledger list) _ (inferred .ledger) list₁ (whole-comes cs Γ sound around (found .part) (found .middle) (found .part-reads)) _ e n next)
 
-      module _ (going : inferred .ledger .stop ≡ Going) (inside : Inside)
+      module _ (going : stop-of (inferred .ledger) ≡ Going) (inside : Inside)
           (says : (F : Formula) → Means buffer 0 (inferred .judgement .formula) F → Takes (says-parts at F) at (inferred .ledger) (inside .ledger)
-          (λ x. (inside .principal ≡ x .0) × On buffer (inside .judgement) (x .1) (inferred .judgement .from) (inferred .judgement .to))) where
-        pub check-says-out-unfit : (inside .ledger .stop ≡ Going → ⊥) → (next : ℕ) → By SaysOutTag (record { ledger = inside .ledger; next = next }) list₁
+          (λ x. (inside .principal ≡ x .0) × On buffer (inside .judgement) (x .1) (from-of (inferred .judgement)) (to-of (inferred .judgement)))) where
+        pub check-says-out-unfit : (stop-of (inside .ledger) ≡ Going → ⊥) → (next : ℕ) → By SaysOutTag (record { ledger = inside .ledger; next = next }) list₁
         check-says-out-unfit n next cs Γ N e sound around reads G means =
             let found = says-out-read proof (length cs) left (scope .count) at NoInferTag N e reads in
-            rw (found .is, says-out-walk cs Γ view at G (goal .from) (goal .to) (found .part) (found .other))
+            rw (found .is, says-out-walk cs Γ view at G (from-of goal) (to-of goal) (found .part) (found .other))
             (out-unfit cs Γ sound around (found .part) (found .middle) (found .part-reads) going (says-parts at) (λ j x. claim (x .0) (x .1) (j .1) (j .2)) _ (λ F. (0, F)) inside says
             (found .other) e G n next)
 
-        pub check-says-out : inside .ledger .stop ≡ Going → (r : Checked) (list₂ : List ℕ)
+        pub check-says-out : stop-of (inside .ledger) ≡ Going → (r : Checked) (list₂ : List ℕ)
             → ChecksAssuming buffer proof state certificates assumptions scope (inside .ledger) list₁ left goal-bytes goal (record { whose = Claim (inside .principal); judgement = inside .judgement })
             (inferred .next) r list₂
             → By SaysOutTag r list₂
         check-says-out goes r list₂ checks cs Γ N e sound around reads G means =
             let found = says-out-read proof (length cs) left (scope .count) at NoInferTag N e reads in
-            rw (found .is, says-out-walk cs Γ view at G (goal .from) (goal .to) (found .part) (found .other))
+            rw (found .is, says-out-walk cs Γ view at G (from-of goal) (to-of goal) (found .part) (found .other))
             (out-fits cs Γ sound around (found .part) (found .middle) (found .part-reads) going (says-parts at) (λ j x. claim (x .0) (x .1) (j .1) (j .2)) _ (λ F. (0, F)) inside says
             (found .other) e G goes (found .other-reads) means _ (λ j whole x so. is-claim (ap Claim (so .0)) (rw (← (whole .from), ← (whole .to)) (so .1))) r list₂ checks)

@@ -18,8 +18,8 @@ use Rattle.formula.specs.declared.parts.Judgement.{Judgement}
 use Rattle.judging.specs.declared.judge.Inferred.{Inferred}
 use Rattle.judging.specs.declared.judge.Application.{Application}
 use Rattle.judging.specs.declared.walk.Checked.{Checked}
-use Rattle.ledger.specs.Books.{Book, book, Sound, Gives, misfitted, kept-of, resume, unless-stopped}
-use Rattle.formula.specs.Meaning.{On}
+use Rattle.ledger.specs.Books.{stop-of, Book, book, Sound, Gives, misfitted, kept-of, resume, unless-stopped}
+use Rattle.formula.specs.Meaning.{from-of, to-of, On}
 use Rattle.judging.specs.Judging.{and-then, two-orders, Takes, takes, unfit, Yields, Used, used, unused}
 use Rattle.judging.specs.Walking.{Passes}
 use Rattle.ledger.proofs.Giving.{then, idle, misfits, misfits-any, halted, not-going, misfitted-stopped, stop-going}
@@ -35,10 +35,10 @@ module _ {A : Type 0} {state list : List ℕ} {l : Ledger} {w : Walk A} (s : Sou
   stops {r} {q} {a} e f = rw (e, f) (misfits state list l q a s)
 
 -- What did not fit does not go on.
-misfitted-ends : (l : Ledger) (q : ℕ) {r : Ledger} → r ≡ misfitted l q → r .stop ≡ Going → ⊥
+misfitted-ends : (l : Ledger) (q : ℕ) {r : Ledger} → r ≡ misfitted l q → stop-of r ≡ Going → ⊥
 misfitted-ends l q {r} e g =
     let h = misfitted-stopped l q in
-    let f : Stopped (h .0) ≡ Going = sym (h .1) ∙ ap (λ k. k .stop) (sym e) ∙ g in
+    let f : Stopped (h .0) ≡ Going = sym (h .1) ∙ ap stop-of (sym e) ∙ g in
     let z : _≡_ {A = ℕ} 0 1 = cc in
     omega arith
 
@@ -48,20 +48,20 @@ misfitted-ends l q {r} e g =
 pub record Comes {X : Type 0} (state : List ℕ) (b : Book) (w : Walk X) (r : Book) (So : X → Type 0) : Type 0 where
   pub value : X
   pub gives : Gives state b w r value
-  pub so : r .ledger .stop ≡ Going → So value
+  pub so : stop-of (r .ledger) ≡ Going → So value
 
 module _ {X Y : Type 0} (state : List ℕ) (b m : Book) (w : Walk X) {So : X → Type 0} (g : X → Walk Y) {Then : Y → Type 0} (c : Comes state b w m So) where
   -- Where a part has stopped, so has the whole.
-  pub comes-halted : Y → (m .ledger .stop ≡ Going → ⊥) → Comes state b (and-then w g) m Then
+  pub comes-halted : Y → (stop-of (m .ledger) ≡ Going → ⊥) → Comes state b (and-then w g) m Then
   comes-halted y n =
-      let s = not-going (m .ledger .stop) n in
+      let s = not-going (stop-of (m .ledger)) n in
       record { value = y; gives = halted state b m (s .0) w (c .value) g y (c .gives) (s .1); so = λ e. absurd (n e) }
 
   -- The rest follows from its value; where it goes on, from any that is so.
   pub comes-on : (r : Book) → Comes state m (g (c .value)) r Then → Comes state b (and-then w g) r Then
   comes-on r d = record { value = d .value; gives = then state b m r w (c .value) g (d .value) (c .gives) (d .gives); so = d .so }
 
-  pub comes-then : (r : Book) → m .ledger .stop ≡ Going → ((x : X) → So x → Comes state m (g x) r Then) → Comes state b (and-then w g) r Then
+  pub comes-then : (r : Book) → stop-of (m .ledger) ≡ Going → ((x : X) → So x → Comes state m (g x) r Then) → Comes state b (and-then w g) r Then
   comes-then r e f = comes-on r (f (c .value) (c .so e))
 
 -- A part whose value does not matter, and then another value.
@@ -99,15 +99,15 @@ comes-passes state b w e r list c = record { gives = c .gives; ends = c .so }
 
 -- A test on the interval of a judgement is one on the interval that it is of.
 pub passes-on : (state bytes : List ℕ) (j : Judgement) (A : Formula) (a b : Time) → On bytes j A a b → (w : Time → Time → Test) (k : Book) (e : ℕ) (r : Checked) (list : List ℕ)
-    → Passes state k (w (j .from) (j .to)) e r list → Passes state k (w a b) e r list
+    → Passes state k (w (from-of j) (to-of j)) e r list → Passes state k (w a b) e r list
 passes-on state bytes j A a b on w k e r list p = rw (← (on .from), ← (on .to)) p
 
 -- A part, and then a test that is passed; where the part has stopped, the end says nothing.
 module _ {X : Type 0} (state : List ℕ) (b : Book) (w : Walk X) {So : X → Type 0} (l : Ledger) (list : List ℕ) (c : Comes state b w (book l list) So) (g : X → Test) (e : ℕ) where
-  pub passes-halted : (l .stop ≡ Going → ⊥) → (next : ℕ) → Passes state b (and-then w g) e (record { ledger = l; next = next }) list
+  pub passes-halted : (stop-of l ≡ Going → ⊥) → (next : ℕ) → Passes state b (and-then w g) e (record { ledger = l; next = next }) list
   passes-halted n next = comes-passes state b (and-then w g) e (record { ledger = l; next = next }) list (comes-halted state b (book l list) w g c tt n)
 
-  pub passes-then : l .stop ≡ Going → (r : Checked) (list′ : List ℕ) → (Sound (book l list) → (x : X) → So x → Passes state (book l list) (g x) e r list′)
+  pub passes-then : stop-of l ≡ Going → (r : Checked) (list′ : List ℕ) → (Sound (book l list) → (x : X) → So x → Passes state (book l list) (g x) e r list′)
       → Passes state b (and-then w g) e r list′
   passes-then going r list′ rest =
       comes-passes state b (and-then w g) e r list′
@@ -120,10 +120,10 @@ unfolding unless-stopped
 never-granted Going answer x e = let z : _≡_ {A = ℕ} 0 1 = cc in omega arith
 never-granted (Stopped before) answer x e = let z : _≡_ {A = ℕ} 0 1 = cc in omega arith
 
-misfit-stops : {A : Type 0} (state : List ℕ) (b r : Book) (q : ℕ) (a : A) → Gives state b (misfit q) r a → r .ledger .stop ≡ Going → ⊥
+misfit-stops : {A : Type 0} (state : List ℕ) (b r : Book) (q : ℕ) (a : A) → Gives state b (misfit q) r a → stop-of (r .ledger) ≡ Going → ⊥
 unfolding resume run
 misfit-stops state b r q a h e =
-    never-granted (b .ledger .stop) (StepUnfit q) (a, kept-of r) (sym (stop-going (r .ledger .stop) (granted (a, kept-of r)) e) ∙ h .resumed)
+    never-granted (stop-of (b .ledger)) (StepUnfit q) (a, kept-of r) (sym (stop-going (stop-of (r .ledger)) (granted (a, kept-of r)) e) ∙ h .resumed)
 
 -- 26, before its second step.
 pub comes-used : (state buffer : List ℕ) (q : ℕ) (list : List ℕ) (l : Ledger) (F : Formula) (a b t1 t2 : Time) (middle next : ℕ) (r : Application)

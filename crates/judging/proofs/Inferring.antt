@@ -24,7 +24,7 @@ use Rattle.judging.specs.declared.judge.Scope.{Scope}
 use Rattle.judging.specs.declared.judge.Inferred.{Inferred}
 use Rattle.judging.specs.declared.judge.Application.{Application}
 use Rattle.judging.specs.declared.walk.Checked.{Checked}
-use Rattle.ledger.specs.Books.{Book, book, Sound}
+use Rattle.ledger.specs.Books.{stop-of, Book, book, Sound}
 use Rattle.formula.specs.Meaning.{On}
 use Rattle.judging.specs.RowsOf.{Assumed, Certified, most-rows}
 use Rattle.judging.specs.Judging.{view-in, and-then, use-local, use-certificate, first-side, second-side, put-in, Yields, Used}
@@ -140,14 +140,14 @@ module _ (buffer proof state certificates assumptions : List ℕ) (scope : Scope
           comes-inferred state buffer (book ledger list) _ (found .middle) inferred list₁ (first-part cs Γ (found .part) (found .middle) sound around (found .part-reads))
 
       -- Where that has stopped.
-      pub infer-apply-stopped : (inferred .ledger .stop ≡ Going → ⊥) → By ApplyTag inferred list₁
+      pub infer-apply-stopped : (stop-of (inferred .ledger) ≡ Going → ⊥) → By ApplyTag inferred list₁
       infer-apply-stopped n cs Γ M e sound around reads =
           let found = apply-read proof (length cs) left (scope .count) at M e reads in
           rw (found .is, apply-walk cs Γ view at (found .part) (found .other) (found .from) (found .to))
           (comes-yields state buffer (book ledger list) _ e inferred list₁
           (comes-halted state (book ledger list) (book (inferred .ledger) list₁) _ _ (whole-comes cs Γ M e sound around found) (top, found .from, found .to) n))
 
-      module _ (going : inferred .ledger .stop ≡ Going) (application : Application)
+      module _ (going : stop-of (inferred .ledger) ≡ Going) (application : Application)
           (puts : (state list : List ℕ) (F : Formula) (a b t1 t2 : Time) (c n h : ℕ) (N : Check) (e₂ e₃ e₄ : ℕ) → Sound (book (inferred .ledger) list) → On buffer (inferred .judgement) F a b → n ≤ left
           → check-step proof c n h (inferred .next) ≡ some (N, e₂) → time proof c e₂ ≡ some (t1, e₃) → time proof c e₃ ≡ some (t2, e₄)
           → Used state buffer at list (inferred .ledger) F a b t1 t2 (inferred .next) e₄ application) where
@@ -163,7 +163,7 @@ module _ (buffer proof state certificates assumptions : List ℕ) (scope : Scope
             sound on (omega arith) (rw ends (found .other-reads)) (found .from-reads) (found .to-reads))
 
         -- Where it is no implication, or cannot be put to use then.
-        pub infer-apply-unused : (r : Inferred) → r .ledger ≡ application .ledger → (application .ledger .stop ≡ Going → ⊥) → By ApplyTag r list₁
+        pub infer-apply-unused : (r : Inferred) → r .ledger ≡ application .ledger → (stop-of (application .ledger) ≡ Going → ⊥) → By ApplyTag r list₁
         infer-apply-unused r same n cs Γ M e sound around reads =
             let found = apply-read proof (length cs) left (scope .count) at M e reads in
             let whole = whole-comes cs Γ M e sound around found in
@@ -175,7 +175,7 @@ module _ (buffer proof state certificates assumptions : List ℕ) (scope : Scope
             (top, found .from, found .to) n))))
 
         -- And with its second step checked.
-        pub infer-apply : application .ledger .stop ≡ Going → (checked : Checked) (list₂ : List ℕ)
+        pub infer-apply : stop-of (application .ledger) ≡ Going → (checked : Checked) (list₂ : List ℕ)
             → Checks buffer proof state certificates assumptions scope (application .ledger) list₁ left buffer (application .premise) (application .middle) checked list₂
             → By ApplyTag (record { ledger = checked .ledger; judgement = application .conclusion; next = application .next }) list₂
         infer-apply goes checked list₂ checks cs Γ M e sound around reads =

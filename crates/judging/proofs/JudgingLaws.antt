@@ -4,6 +4,8 @@ use mathlib.Core.Path.{_≡_, refl, _∙_, ap}
 use mathlib.Core.List.{List}
 use mathlib.Core.Logic.{_⊎_, inl, inr}
 use native.Mathlib.Omega.{arith}
+use Rattle.procap.specs.Numbered.{time-numbers}
+use Rattle.procap.proofs.Numbered.{time-back}
 use Rattle.procap.specs.declared.answer.Answer.{Answer}
 use Rattle.procap.specs.declared.time.Time.{Time}
 use Rattle.procap.specs.declared.time.Time.the-variants.{Ctime}
@@ -15,8 +17,8 @@ use Rattle.ledger.specs.declared.Ledger.{Ledger}
 use Rattle.formula.specs.declared.parts.Judgement.{Judgement}
 use Rattle.judging.specs.declared.judge.Inferred.{Inferred}
 use Rattle.judging.specs.declared.judge.Application.{Application}
-use Rattle.ledger.specs.Books.{Book, book, Sound, Gives, misfitted}
-use Rattle.formula.specs.Meaning.{Means, On}
+use Rattle.ledger.specs.Books.{stop-of, Book, book, Sound, Gives, misfitted}
+use Rattle.formula.specs.Meaning.{from-of, to-of, Means, On}
 use Rattle.judging.specs.Judging.{and-then, and-sides, implies-sides, two-orders, fits-goal, Takes, takes, unfit, Yields, Used, used, unused}
 use Rattle.ledger.proofs.Giving.{then, goes-or-stopped}
 use Rattle.judging.proofs.Coming.{stops, comes-on, comes-halted, comes-taken, comes-inferred, comes-yields}
@@ -69,7 +71,7 @@ module _ {state buffer list : List ℕ} {l : Ledger} {w : Walk walk.Judgement} {
 module _ {state buffer : List ℕ} {b : Book} {w : Walk walk.Judgement} {e : ℕ} {inferred : Inferred} {list : List ℕ}
     (y : Yields state buffer b w e inferred list) (g : walk.Judgement → Walk walk.Judgement) (r : Inferred) where
   -- A step after one that has stopped.
-  pub halts : (inferred .ledger .stop ≡ Going → ⊥) → r .ledger ≡ inferred .ledger → Yields state buffer b (and-then w g) e r list
+  pub halts : (stop-of (inferred .ledger) ≡ Going → ⊥) → r .ledger ≡ inferred .ledger → Yields state buffer b (and-then w g) e r list
   halts n f =
       comes-yields state buffer b (and-then w g) e r list
       (rw f (comes-halted state b (book (inferred .ledger) list) w g (comes-inferred state buffer b w e inferred list y) (top, Ctime, Ctime) n))
@@ -87,18 +89,18 @@ module _ {state buffer : List ℕ} {b : Book} {w : Walk walk.Judgement} {e : ℕ
 -- One side of the conjunction that was inferred, by what was taken of it.
 pub one-side : {state buffer : List ℕ} {b : Book} {w : Walk walk.Judgement} {e : ℕ} {inferred : Inferred} {list : List ℕ} (q : ℕ)
     (side : Formula × Formula → Formula) (r : Inferred) → Yields state buffer b w e inferred list
-    → ((F : Formula) → inferred .ledger .stop ≡ Going → Means buffer 0 (inferred .judgement .formula) F
-    → Takes (and-sides q F) q (inferred .ledger) (r .ledger) (λ x. On buffer (r .judgement) (side x) (inferred .judgement .from) (inferred .judgement .to)))
-    → ((inferred .ledger .stop ≡ Going → ⊥) → r .ledger ≡ inferred .ledger)
+    → ((F : Formula) → stop-of (inferred .ledger) ≡ Going → Means buffer 0 (inferred .judgement .formula) F
+    → Takes (and-sides q F) q (inferred .ledger) (r .ledger) (λ x. On buffer (r .judgement) (side x) (from-of (inferred .judgement)) (to-of (inferred .judgement))))
+    → ((stop-of (inferred .ledger) ≡ Going → ⊥) → r .ledger ≡ inferred .ledger)
     → r .next ≡ inferred .next
     → Yields state buffer b (and-then w (λ j. and-sides q (j .0) >>= λ x. done (side x, j .1, j .2))) e r list
 one-side {state} {buffer} {b} {w} {e} {inferred} {list} q side r y going stopped next =
-    by (goes-or-stopped (inferred .ledger .stop))
+    by (goes-or-stopped (stop-of (inferred .ledger)))
   where
     after : walk.Judgement → Walk walk.Judgement
     after j = and-sides q (j .0) >>= λ x. done (side x, j .1, j .2)
 
-    by : (inferred .ledger .stop ≡ Going) ⊎ ((answer : Answer) × (inferred .ledger .stop ≡ Stopped answer))
+    by : (stop-of (inferred .ledger) ≡ Going) ⊎ ((answer : Answer) × (stop-of (inferred .ledger) ≡ Stopped answer))
         → Yields state buffer b (and-then w after) e r list
     by (inl h) =
         let o = y .on h in
@@ -107,7 +109,7 @@ one-side {state} {buffer} {b} {w} {e} {inferred} {list} q side r y going stopped
         (takes-yields r (y .gives .sound) (next ∙ y .ends h)
         (takes-then (after (y .formula, y .from, y .to)) (λ x. (side x, y .from, y .to)) refl (λ x so. rw (o .from, o .to) at so) both))
     by (inr h) =
-        let ends : inferred .ledger .stop ≡ Going → ⊥ = λ g. let z : _≡_ {A = ℕ} 0 1 = cc (g, h .1) in omega arith in
+        let ends : stop-of (inferred .ledger) ≡ Going → ⊥ = λ g. let z : _≡_ {A = ℕ} 0 1 = cc (g, h .1) in omega arith in
         halts y after r ends (stopped ends)
 
 -- 26, before its second step, by what was taken of the implication and by its two orders.
@@ -115,8 +117,8 @@ pub put-to-use : {state buffer list : List ℕ} {l m : Ledger} {F : Formula} {fr
     (first second : Judgement) (r : Application) → from ≡ a → to ≡ b → begin ≡ t1 → end ≡ t2 → Sound (book l list)
     → Takes (implies-sides q F) q l m (λ x. On buffer first (x .0) from to × On buffer second (x .1) from to)
     → (Sound (book m list) → Gives state (book m list) (two-orders q from begin end to) (book (r .ledger) list) tt)
-    → r .premise ≡ record { formula = first .formula; from = begin; to = end }
-    → r .conclusion ≡ record { formula = second .formula; from = begin; to = end }
+    → r .premise ≡ record { formula = first .formula; from = time-numbers begin; to = time-numbers end }
+    → r .conclusion ≡ record { formula = second .formula; from = time-numbers begin; to = time-numbers end }
     → r .middle ≡ middle → r .next ≡ next
     → Used state buffer q list l F a b t1 t2 middle next r
 unfolding _>>=_
@@ -124,9 +126,9 @@ put-to-use {state} {buffer} {list} {l} {m} {F} {from} {to} {begin} {end} {q = q}
     rw (← f, ← g, ← h, ← k) (by t)
   where
     -- A side, on the times that it is put to use on.
-    put : {part side : Judgement} {A : Formula} → part ≡ record { formula = side .formula; from = begin; to = end } → On buffer side A from to
+    put : {part side : Judgement} {A : Formula} → part ≡ record { formula = side .formula; from = time-numbers begin; to = time-numbers end } → On buffer side A from to
         → On buffer part A begin end
-    put e o = rw e (record { means = o .means; from = refl; to = refl })
+    put e o = rw e (record { means = o .means; from = time-back begin; to = time-back end })
 
     by : Takes (implies-sides q F) q l m (λ x. On buffer first (x .0) from to × On buffer second (x .1) from to)
         → Used state buffer q list l F from to begin end middle next r

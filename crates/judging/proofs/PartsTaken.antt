@@ -13,7 +13,7 @@ use Rattle.ledger.specs.declared.Ledger.{Ledger}
 use Rattle.formula.specs.declared.parts.FormulaAt.{FormulaAt}
 use Rattle.formula.specs.declared.parts.Judgement.{Judgement}
 use Rattle.ledger.specs.Books.{misfitted}
-use Rattle.formula.specs.Meaning.{tag-of, begin, Means, On}
+use Rattle.formula.specs.Meaning.{from-of, to-of, tag-of, begin, Means, On}
 use Rattle.judging.specs.Judging.{sides, TwoSided, Takes, takes, unfit}
 use Rattle.formula.proofs.Shapes.{inside, TwoParts, and-shape, implies-shape, not-and, not-implies}
 use Rattle.judging.proofs.WalkParts.{and-parts, no-and, implies-parts, no-implies}
@@ -30,7 +30,7 @@ EndsAt bytes place end =
 -- A part that begins at a place, on the same interval.
 pub part-on : {bytes : List ℕ} (j : Judgement) {A : Formula} {part : Judgement} {at place : ℕ}
     → part ≡ record { formula = begin (j .formula) at; from = j .from; to = j .to } → at ≡ place
-    → Means bytes 0 (begin (j .formula) place) A → On bytes part A (j .from) (j .to)
+    → Means bytes 0 (begin (j .formula) place) A → On bytes part A (from-of j) (to-of j)
 part-on j e f m = rw (e, f) (record { means = m; from = refl; to = refl })
 
 module _ {bytes : List ℕ} {f : FormulaAt} {F : Formula} (m : Means bytes 0 f F) (q : ℕ) where
@@ -73,7 +73,7 @@ pub sides-there : {bytes : List ℕ} (j : Judgement) {F : Formula} (m : Means by
     → After bytes (j .formula .at) at → EndsAt bytes at end
     → one ≡ record { formula = begin (j .formula) at; from = j .from; to = j .to }
     → other ≡ record { formula = begin (j .formula) end; from = j .from; to = j .to }
-    → Takes (sides wanted q F) q l l (λ x. On bytes one (x .0) (j .from) (j .to) × On bytes other (x .1) (j .from) (j .to))
+    → Takes (sides wanted q F) q l l (λ x. On bytes one (x .0) (from-of j) (to-of j) × On bytes other (x .1) (from-of j) (to-of j))
 sides-there {bytes} j m q wanted {l} {one} {other} {at} {end} two tag next ends e f =
     let (A, B, d, parts) = sided m q wanted two .there tag in
     let first = parts .first .means in

@@ -4,6 +4,8 @@ use mathlib.Core.Path.{_≡_, refl, sym, _∙_, ap}
 use mathlib.Core.Bool.{Bool, true, false}
 use mathlib.Core.List.{List}
 use mathlib.Core.Option.{some, none}
+use Rattle.procap.specs.Numbered.{time-numbers, time-of}
+use Rattle.procap.proofs.Numbered.{time-back}
 use Rattle.procap.specs.Facts.{spelled, fact-of}
 use Rattle.procap.specs.declared.time.Time.{Time}
 use Rattle.procap.specs.declared.bytes.FactRead.{FactRead}
@@ -97,7 +99,7 @@ SpanTold bytes terms at q l r =
     (sorts : List Sort) (x y : tree.Place) (middle end : ℕ) → FewTerms terms
     → argument bytes sorts at ≡ some (x, middle) → argument bytes sorts middle ≡ some (y, end)
     → Takes (two-times q (fill-place 0 (terms-of terms) x) (fill-place 0 (terms-of terms) y)) q l (r .ledger)
-    (λ t. (r .from ≡ t .0) × (r .to ≡ t .1) × (r .next ≡ end))
+    (λ t. (r .from ≡ time-numbers (t .0)) × (r .to ≡ time-numbers (t .1)) × (r .next ≡ end))
 
 -- ── Formulas ──
 
@@ -113,7 +115,7 @@ module _ {bytes : List ℕ} {f : FormulaAt} {F : Formula} (m : Means bytes 0 f F
   -- The two times of an "at" or of an order.
   span-there : (q : ℕ) {l : Ledger} {span : Span} {x y : tree.Place} {middle end : ℕ} → Stands bytes 0 f (m .sorts) (f .at + 1) x middle
       → Stands bytes 0 f (m .sorts) middle y end → SpanTold bytes (f .terms) at q l span
-      → Takes (two-times q x y) q l (span .ledger) (λ t. (span .from ≡ t .0) × (span .to ≡ t .1) × (span .next ≡ end))
+      → Takes (two-times q x y) q l (span .ledger) (λ t. (span .from ≡ time-numbers (t .0)) × (span .to ≡ time-numbers (t .1)) × (span .next ≡ end))
   span-there q {middle = middle} {end} one other told =
       let reads : argument bytes (m .sorts) at ≡ some (one .written, middle) = rw (next (inside bytes 0 f m)) (one .reads) in
       rw (one .filled, other .filled) at (told (m .sorts) (one .written) (other .written) middle end (m .few) reads (other .reads))
@@ -125,25 +127,25 @@ module _ {bytes : List ℕ} {f : FormulaAt} {F : Formula} (m : Means bytes 0 f F
   at-taken q tag told e =
       let s = at-shape bytes 0 f m tag in
       takes-then (at-parts q F) (λ t. (s .body, t .0, t .1)) (at-there q (s .is))
-      (λ t so. rw (e, so .0, so .1, so .2) (record { means = s .part .means; from = refl; to = refl }))
+      (λ t so. rw (e, so .0, so .1, so .2) (record { means = s .part .means; from = time-back (t .0); to = time-back (t .1) }))
       (span-there q (s .first) (s .second) told)
 
   -- An order, asked.
   pub order-taken : (q : ℕ) {state list : List ℕ} {l r : Ledger} {span : Span} → tag-of bytes (f .at) ≡ OrderTag
       → SpanTold bytes (f .terms) at q l span → Sound (book l list)
-      → (Sound (book (span .ledger) list) → Gives state (book (span .ledger) list) (ask-order q (span .from) (span .to)) (book r list) tt)
+      → (Sound (book (span .ledger) list) → Gives state (book (span .ledger) list) (ask-order q (time-of (span .from)) (time-of (span .to))) (book r list) tt)
       → Gives state (book l list) (order-goal q F) (book r list) tt
   order-taken q {state} {list} {l} {r} {span} tag told sound ask =
       let s = order-shape bytes 0 f m tag in
       let first = span-given (span-there q (s .first) (s .second) told) in
       rw (order-there q (s .is))
-      (then state (book l list) (book (span .ledger) list) (book r list) (two-times q (s .left) (s .right)) (span .from, span .to)
+      (then state (book l list) (book (span .ledger) list) (book r list) (two-times q (s .left) (s .right)) (time-of (span .from), time-of (span .to))
       (λ t. ask-order q (t .0) (t .1)) tt first (ask (first .sound)))
     where
       span-given : {w : Walk (Time × Time)} {end : ℕ}
-          → Takes w q l (span .ledger) (λ t. (span .from ≡ t .0) × (span .to ≡ t .1) × (span .next ≡ end))
-          → Gives state (book l list) w (book (span .ledger) list) (span .from, span .to)
-      span-given (takes t d e so) = rw (e, so .0, so .1) (passes sound d)
+          → Takes w q l (span .ledger) (λ t. (span .from ≡ time-numbers (t .0)) × (span .to ≡ time-numbers (t .1)) × (span .next ≡ end))
+          → Gives state (book l list) w (book (span .ledger) list) (time-of (span .from), time-of (span .to))
+      span-given (takes t d e so) = rw (e, so .0, so .1, time-back (t .0), time-back (t .1)) (passes sound d)
       span-given (unfit d e) = stops sound d e
 
   -- Who says, and what.

@@ -12,7 +12,6 @@ use lib.ListN.{length, getD, take, set, length-set}
 use lib.Seq.{sets, getD-set-same, getD-set-other, getD-append-add, length-take-le, take-suc, ext-getD}
 use lib.Dec.{eqb}
 use Rattle.procap.specs.Tells.{pick}
-use Rattle.procap.specs.Numbered.{kind-of, value-of, of-numbers}
 use Rattle.procap.specs.declared.time.Time.{Time}
 use Rattle.procap.specs.declared.fact.Term.the-variants.{When}
 use Rattle.procap.proofs.Numbered.{time-numbered}
@@ -20,7 +19,7 @@ use Rattle.judging.specs.declared.rows.Row.{Row}
 use Rattle.judging.specs.declared.rows.Whose.{Whose}
 use Rattle.judging.specs.declared.rows.Whose.the-variants.{Plain, Claim}
 use Rattle.formula.specs.PutIn.{terms-numbers}
-use Rattle.judging.specs.RowsOf.{numbers-in, time-of, time-in, whose-in, row-in, row-numbers}
+use Rattle.judging.specs.RowsOf.{numbers-in, time-in, whose-in, row-in, row-numbers}
 use Rattle.judging.specs.RowNumbers.{whose-kind, whose-value}
 
 -- ── Numbers stored one after another ──
@@ -111,7 +110,7 @@ module _ (xs ys : List ℕ) (s t : ℕ) where
       ap₂ (λ (a b : ℕ). pick (eqb a 0) Plain (Claim b)) (first-alike same) (same 1 (omega arith))
 
   time-alike : Alike 2 xs s ys t → time-in xs s ≡ time-in ys t
-  time-alike same = ap₂ (λ (a b : ℕ). time-of (of-numbers a b)) (first-alike same) (same 1 (omega arith))
+  time-alike same = λ d. record { kind = first-alike same d; second = same 1 (omega arith) d }
 
   numbers-alike : (n : ℕ) → Alike n xs s ys t → numbers-in xs s n ≡ numbers-in ys t n
   numbers-alike n same =
@@ -159,32 +158,28 @@ abbrev numbers-of : Row → List ℕ
 numbers-of row =
     whose-kind (row .whose)
     ∷ whose-value (row .whose)
-    ∷ kind-of (When (row .judgement .from))
-    ∷ value-of (When (row .judgement .from))
-    ∷ kind-of (When (row .judgement .to))
-    ∷ value-of (When (row .judgement .to))
+    ∷ row .judgement .from .kind
+    ∷ row .judgement .from .second
+    ∷ row .judgement .to .kind
+    ∷ row .judgement .to .second
     ∷ row .judgement .formula .at
     ∷ row .judgement .formula .terms .count
     ∷ row .judgement .formula .terms .numbers
 
 -- Its parts put one after another are all of them.
-pub row-put : (before : List ℕ) (start : ℕ) {first second third fourth after : List ℕ} {k₁ v₁ k₂ v₂ k₃ v₃ : ℕ} (row : Row)
+pub row-put : (before : List ℕ) (start : ℕ) {first second third fourth after : List ℕ} {k₁ v₁ : ℕ} (row : Row)
     → k₁ ≡ whose-kind (row .whose) → v₁ ≡ whose-value (row .whose) → first ≡ sets before start (k₁ ∷ v₁ ∷ [])
-    → k₂ ≡ kind-of (When (row .judgement .from)) → v₂ ≡ value-of (When (row .judgement .from)) → second ≡ sets first (start + 2) (k₂ ∷ v₂ ∷ [])
-    → k₃ ≡ kind-of (When (row .judgement .to)) → v₃ ≡ value-of (When (row .judgement .to)) → third ≡ sets second (start + 4) (k₃ ∷ v₃ ∷ [])
+    → second ≡ sets first (start + 2) (row .judgement .from .kind ∷ row .judgement .from .second ∷ [])
+    → third ≡ sets second (start + 4) (row .judgement .to .kind ∷ row .judgement .to .second ∷ [])
     → fourth ≡ sets third (start + 6) (row .judgement .formula .at ∷ row .judgement .formula .terms .count ∷ [])
     → after ≡ sets fourth (start + 8) (row .judgement .formula .terms .numbers)
     → after ≡ sets before start (numbers-of row)
-row-put before start row a b one c d two e f three four five = rw (five, four, three, two, one, a, b, c, d, e, f) (simp towards-suc)
+row-put before start row a b one two three four five = rw (five, four, three, two, one, a, b) (simp towards-suc)
 
 -- Each part is read back.
 whose-back : (w : Whose) → pick (eqb (whose-kind w) 0) Plain (Claim (whose-value w)) ≡ w
 whose-back Plain = refl
 whose-back (Claim k) = refl
-
-time-back : (t : Time) → time-of (of-numbers (kind-of (When t)) (value-of (When t))) ≡ t
-unfolding time-of
-time-back t = ap time-of (time-numbered t)
 
 row-back : (row : Row) → length (row .judgement .formula .terms .numbers) ≡ terms-numbers → row-in (numbers-of row) 0 ≡ row
 unfolding row-in whose-in
@@ -195,8 +190,8 @@ row-back row e = λ d. record {
       at = row .judgement .formula .at;
       terms = record { count = row .judgement .formula .terms .count; numbers = sym numbers-back d };
     };
-    from = time-back (row .judgement .from) d;
-    to = time-back (row .judgement .to) d;
+    from = row .judgement .from;
+    to = row .judgement .to;
   };
 }
   where

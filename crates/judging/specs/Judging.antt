@@ -22,7 +22,7 @@ use Rattle.judging.specs.declared.judge.View.{View}
 use Rattle.judging.specs.declared.judge.View.the-variants.{NoView, ViewOf}
 use Rattle.judging.specs.declared.judge.Inferred.{Inferred}
 use Rattle.judging.specs.declared.judge.Application.{Application}
-use Rattle.ledger.specs.Books.{Book, book, Gives, misfitted}
+use Rattle.ledger.specs.Books.{stop-of, Book, book, Gives, misfitted}
 use Rattle.formula.specs.Meaning.{On}
 
 -- One walk, and then another.
@@ -158,8 +158,8 @@ pub record Yields (state buffer : List ℕ) (b : Book) (w : Walk walk.Judgement)
   pub from : Time
   pub to : Time
   pub gives : Gives state b w (book (r .ledger) list) (formula, from, to)
-  pub on : r .ledger .stop ≡ Going → On buffer (r .judgement) formula from to
-  pub ends : r .ledger .stop ≡ Going → r .next ≡ e
+  pub on : stop-of (r .ledger) ≡ Going → On buffer (r .judgement) formula from to
+  pub ends : stop-of (r .ledger) ≡ Going → r .next ≡ e
 
 -- 26, before its second step: an implication put to use on [t1,t2], or nothing of the kind.
 pub data Used (state buffer : List ℕ) (q : ℕ) (list : List ℕ) (l : Ledger) (F : Formula) (a b t1 t2 : Time) (middle next : ℕ) (r : Application) : Type 0 where

@@ -7,11 +7,8 @@ use lib.ListN.{length, getD}
 use lib.Dec.{eqb}
 use Rattle.procap.specs.Lists.{nth}
 use Rattle.procap.specs.Tells.{pick}
-use Rattle.procap.specs.Numbered.{of-numbers}
 use Rattle.procap.specs.declared.time.Time.{Time}
-use Rattle.procap.specs.declared.time.Time.the-variants.{Ctime}
-use Rattle.procap.specs.declared.fact.Term.{Term}
-use Rattle.procap.specs.declared.fact.Term.the-variants.{Name, When}
+use Rattle.procap.specs.declared.time.TimeNumbers.{TimeNumbers}
 use Rattle.bl.specs.Trees.{Formula}
 use Rattle.bl.specs.Rules.{Assumption, plain, claim, shut}
 use Rattle.bl.specs.Certificates.{Statement, most-certificates}
@@ -27,25 +24,20 @@ most-rows = 32
 
 -- How many numbers a row takes: two for whose it is, two for each end of its interval, its place, its count of terms, and their numbers.
 abbrev pub row-numbers : ℕ
-row-numbers = 24
+row-numbers = 16
 
 -- How many numbers all rows take.
 abbrev pub all-numbers : ℕ
-all-numbers = 768
+all-numbers = 512
 
 -- So many numbers of the rows.
 unfoldable pub numbers-in : List ℕ → ℕ → ℕ → List ℕ
 numbers-in rows at zero = []
 numbers-in rows at (suc n) = getD rows at 0 ∷ numbers-in rows (at + 1) n
 
--- The time that a term is; of a name ctime.
-unfoldable pub time-of : Term → Time
-time-of (Name n) = Ctime
-time-of (When t) = t
-
--- The time that two numbers of the rows stand for.
-abbrev pub time-in : List ℕ → ℕ → Time
-time-in rows at = time-of (of-numbers (getD rows at 0) (getD rows (at + 1) 0))
+-- Two numbers of the rows, as those of a time.
+abbrev pub time-in : List ℕ → ℕ → TimeNumbers
+time-in rows at = record { kind = getD rows at 0; second = getD rows (at + 1) 0 }
 
 -- Whose a row is.
 unfoldable pub whose-in : List ℕ → ℕ → Whose

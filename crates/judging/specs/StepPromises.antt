@@ -17,7 +17,7 @@ use Rattle.bl.specs.Walk as walk
 use Rattle.ledger.specs.declared.Ledger.{Ledger}
 use Rattle.ledger.specs.Books.{Book, book, Sound, Gives}
 use Rattle.formula.specs.declared.parts.Judgement.{Judgement}
-use Rattle.formula.specs.Meaning.{Means, On}
+use Rattle.formula.specs.Meaning.{Means, On, from-of, to-of}
 use Rattle.judging.specs.declared.judge.Scope.{Scope}
 use Rattle.judging.specs.declared.judge.Inferred.{Inferred}
 use Rattle.judging.specs.declared.judge.Sides.{Sides}
@@ -50,7 +50,7 @@ UsesCertificate proof rows scope q l r =
 abbrev pub TakesSides : List ℕ → ℕ → FormulaTag → Judgement → Ledger → Sides → Type 0
 TakesSides bytes q wanted j l r =
     (F : Formula) → TwoSided wanted → Means bytes 0 (j .formula) F
-    → Takes (sides wanted q F) q l (r .ledger) (λ x. On bytes (r .first) (x .0) (j .from) (j .to) × On bytes (r .second) (x .1) (j .from) (j .to))
+    → Takes (sides wanted q F) q l (r .ledger) (λ x. On bytes (r .first) (x .0) (from-of j) (to-of j) × On bytes (r .second) (x .1) (from-of j) (to-of j))
 
 -- 28, 29: an "at" is taken apart.
 abbrev pub TakesAt : List ℕ → ℕ → Judgement → Ledger → Inside → Type 0
@@ -61,7 +61,7 @@ TakesAt bytes q j l r =
 abbrev pub TakesSays : List ℕ → ℕ → Judgement → Ledger → Inside → Type 0
 TakesSays bytes q j l r =
     (F : Formula) → Means bytes 0 (j .formula) F
-    → Takes (says-parts q F) q l (r .ledger) (λ x. (r .principal ≡ x .0) × On bytes (r .judgement) (x .1) (j .from) (j .to))
+    → Takes (says-parts q F) q l (r .ledger) (λ x. (r .principal ≡ x .0) × On bytes (r .judgement) (x .1) (from-of j) (to-of j))
 
 -- 23, 24, 27: what was inferred is gone on with.
 abbrev pub Continues : List ℕ → Inferred → (walk.Judgement → Walk walk.Judgement) → Inferred → Type 0
@@ -93,4 +93,4 @@ abbrev pub FitsGoal : List ℕ → List ℕ → ℕ → Inferred → Judgement �
 FitsGoal buffer bytes q inferred goal r =
     (state list : List ℕ) (F : Formula) (a b : Time) (G : Formula)
     → Sound (book (inferred .ledger) list) → On buffer (inferred .judgement) F a b → Means bytes 0 (goal .formula) G
-    → Gives state (book (inferred .ledger) list) (fits-goal q F a b G (goal .from) (goal .to)) (book r list) tt
+    → Gives state (book (inferred .ledger) list) (fits-goal q F a b G (from-of goal) (to-of goal)) (book r list) tt

@@ -20,8 +20,8 @@ use Rattle.judging.specs.declared.rows.Row.{Row}
 use Rattle.judging.specs.declared.judge.Scope.{Scope}
 use Rattle.judging.specs.declared.judge.Inferred.{Inferred}
 use Rattle.judging.specs.declared.walk.Checked.{Checked}
-use Rattle.ledger.specs.Books.{Book, book, Sound, Gives}
-use Rattle.formula.specs.Meaning.{Means}
+use Rattle.ledger.specs.Books.{stop-of, Book, book, Sound, Gives}
+use Rattle.formula.specs.Meaning.{Means, from-of, to-of}
 use Rattle.judging.specs.RowsOf.{RowIs, Assumed, Certified, row-in, all-numbers}
 use Rattle.judging.specs.Judging.{view-in, Yields}
 
@@ -41,7 +41,7 @@ pub record Keeps (count : ℕ) (before after : List ℕ) : Type 0 where
 -- The walk w, from the book b, was passed or stopped, and its step ends at e.
 pub record Passes (state : List ℕ) (b : Book) (w : Test) (e : ℕ) (r : Checked) (list : List ℕ) : Type 0 where
   pub gives : Gives state b w (book (r .ledger) list) tt
-  pub ends : r .ledger .stop ≡ Going → r .next ≡ e
+  pub ends : stop-of (r .ledger) ≡ Going → r .next ≡ e
 
 module _ (buffer proof state certificates assumptions : List ℕ) (scope : Scope) (ledger : Ledger) (list : List ℕ) (left : ℕ) where
   -- From a sound book, in what stands around.
@@ -54,7 +54,7 @@ module _ (buffer proof state certificates assumptions : List ℕ) (scope : Scope
     abbrev pub ChecksStep : List ℕ → Judgement → Check → ℕ → Checked → List ℕ → Type 0
     ChecksStep goal-bytes goal N e r list′ =
         (G : Formula) → Means goal-bytes 0 (goal .formula) G
-        → Passes state (book ledger list) (check cs Γ (view-in (scope .view)) N G (goal .from) (goal .to)) e r list′
+        → Passes state (book ledger list) (check cs Γ (view-in (scope .view)) N G (from-of goal) (to-of goal)) e r list′
 
   -- The call `infer` at a place.
   abbrev pub Infers : ℕ → Inferred → List ℕ → Type 0
@@ -96,4 +96,4 @@ module _ (buffer proof state certificates assumptions : List ℕ) (scope : Scope
       → RowIs buffer row (scope .count) (scope .shut) x
       → check-step proof (length cs) left (suc (scope .count)) next ≡ some (N, e)
       → Means goal-bytes 0 (goal .formula) G
-      → Passes state (book ledger list) (check cs (x ∷ Γ) (view-in (scope .view)) N G (goal .from) (goal .to)) e r list′
+      → Passes state (book ledger list) (check cs (x ∷ Γ) (view-in (scope .view)) N G (from-of goal) (to-of goal)) e r list′

@@ -20,6 +20,7 @@ use ledger::ask_order;
 use procap::bytes::past;
 use procap::fact::Term;
 use procap::time::Time;
+use procap::time::TimeNumbers;
 use steps::past_step;
 use steps::reader::index_at;
 use steps::time_at;
@@ -27,14 +28,16 @@ ghost use mathlib.Core.Path.{_≡_};
 ghost use mathlib.Core.List.{List};
 ghost use mathlib.Core.Option.{some};
 ghost use Prim.Native.Nat.{ℕ};
+ghost use Rattle.procap.specs.Numbered.{«time-numbers»};
+ghost use Rattle.procap.specs.Writable.{TermInForm};
 ghost use Rattle.bl.specs.Trees.{Sort, Formula};
 ghost use Rattle.bl.specs.Trees as tree;
 ghost use Rattle.bl.specs.Formulas.{argument};
 ghost use Rattle.bl.specs.Steps as steps;
 ghost use Rattle.bl.specs.Walk as walk;
-ghost use Rattle.ledger.specs.Books.{misfitted, Leads};
+ghost use Rattle.ledger.specs.Books.{«stop-of», misfitted, Leads};
 ghost use Rattle.formula.specs.PutIn.{«terms-of», FewTerms, «fill-place»};
-ghost use Rattle.formula.specs.Meaning.{begin, Means, On};
+ghost use Rattle.formula.specs.Meaning.{begin, Means, On, «from-of», «to-of»};
 ghost use Rattle.judging.specs.Judging.{«view-in», sides, «and-sides», «top-goal», «order-goal», «first-side», «second-side», «put-in», Takes};
 ghost use Rattle.judging.specs.StepPromises.{UsesRow, UsesLocal, UsesCertificate, TakesSides, TakesAt, TakesSays, Continues, PutsToUse, MeetsGoal, MeetsFact, FitsGoal};
 ghost use Rattle.judging.specs.Pieces.{«two-times», «binder-of»};
@@ -76,8 +79,8 @@ pub struct Inside {
 // Two times that stand one after the other, and where they end. Where the ledger has stopped, the rest says nothing.
 struct Span {
     pub ledger: Ledger,
-    pub from: Time,
-    pub to: Time,
+    pub from: TimeNumbers,
+    pub to: TimeNumbers,
     pub next: usize,
 }
 
@@ -91,7 +94,7 @@ pub struct Application {
 }
 
 // A formula on an interval.
-fn on_interval(formula: FormulaAt, from: Time, to: Time) -> Judgement
+fn on_interval(formula: FormulaAt, from: TimeNumbers, to: TimeNumbers) -> Judgement
     ensures { λ r. ⌜ r ≡ record { formula = formula; from = from; to = to } ⌝ }
 {
     Judgement {
@@ -244,8 +247,8 @@ pub(crate) fn sides_of(
 
 // Both sides of the conjunction that was inferred, where the walk goes on.
 fn conjuncts(buffer: &[u8], offset: usize, inferred: Inferred) -> Sides
-    ensures going { λ r. ⌜ ((F : Formula) → inferred .ledger .stop ≡ Stop.Going → Means (now (buffer .entry)) 0 (inferred .judgement .formula) F → Takes («and-sides» offset F) offset (inferred .ledger) (r .ledger) (λ x. On (now (buffer .entry)) (r .first) (x .0) (inferred .judgement .from) (inferred .judgement .to) × On (now (buffer .entry)) (r .second) (x .1) (inferred .judgement .from) (inferred .judgement .to))) ⌝ }
-    ensures stopped { λ r. ⌜ ((inferred .ledger .stop ≡ Stop.Going → ⊥) → r .ledger ≡ inferred .ledger) ⌝ }
+    ensures going { λ r. ⌜ ((F : Formula) → «stop-of» (inferred .ledger) ≡ Stop.Going → Means (now (buffer .entry)) 0 (inferred .judgement .formula) F → Takes («and-sides» offset F) offset (inferred .ledger) (r .ledger) (λ x. On (now (buffer .entry)) (r .first) (x .0) («from-of» (inferred .judgement)) («to-of» (inferred .judgement)) × On (now (buffer .entry)) (r .second) (x .1) («from-of» (inferred .judgement)) («to-of» (inferred .judgement)))) ⌝ }
+    ensures stopped { λ r. ⌜ ((«stop-of» (inferred .ledger) ≡ Stop.Going → ⊥) → r .ledger ≡ inferred .ledger) ⌝ }
 {
     let ledger = inferred.ledger;
     let judgement = inferred.judgement;
@@ -311,11 +314,14 @@ pub(crate) fn put_to_use(
     let t2 = time_at(proof, t1.next);
     let begin = t1.time;
     let end = t2.time;
-    let asked = ask_order(after_parts, offset, from, begin);
+    let asked = ask_order(after_parts, offset, from.time(), begin);
+    let after_asked = ask_order(asked, offset, end, to.time());
+    let starts = begin.numbers();
+    let ends = end.numbers();
     Application {
-        ledger: ask_order(asked, offset, end, to),
-        premise: on_interval(one, begin, end),
-        conclusion: on_interval(other, begin, end),
+        ledger: after_asked,
+        premise: on_interval(one, starts, ends),
+        conclusion: on_interval(other, starts, ends),
         middle: inferred.next,
         next: t2.next,
     }
@@ -323,7 +329,7 @@ pub(crate) fn put_to_use(
 
 // 27: the for-all that was inferred, with a term of its sort put in.
 pub(crate) fn instance(buffer: &[u8], offset: usize, inferred: Inferred, term: Term) -> Inferred
-    ensures { λ r. ⌜ Continues (now (buffer .entry)) inferred («put-in» offset term) r ⌝ }
+    ensures { λ r. ⌜ (TermInForm term → Continues (now (buffer .entry)) inferred («put-in» offset term) r) ⌝ }
 {
     let ledger = inferred.ledger;
     let judgement = inferred.judgement;
@@ -385,7 +391,7 @@ pub(crate) fn lifted(bytes: &[u8], offset: usize, judgement: Judgement, ledger: 
 
 // Two times that stand one after the other.
 fn span_at(bytes: &[u8], at: usize, terms: Terms, offset: usize, ledger: Ledger) -> Span
-    ensures { λ r. ⌜ ((sorts : List Sort) (x y : tree.Place) (middle end : ℕ) → FewTerms terms → argument (now (bytes .entry)) sorts at ≡ some (x, middle) → argument (now (bytes .entry)) sorts middle ≡ some (y, end) → Takes («two-times» offset («fill-place» 0 («terms-of» terms) x) («fill-place» 0 («terms-of» terms) y)) offset ledger (r .ledger) (λ t. (r .from ≡ t .0) × (r .to ≡ t .1) × (r .next ≡ end))) ⌝ }
+    ensures { λ r. ⌜ ((sorts : List Sort) (x y : tree.Place) (middle end : ℕ) → FewTerms terms → argument (now (bytes .entry)) sorts at ≡ some (x, middle) → argument (now (bytes .entry)) sorts middle ≡ some (y, end) → Takes («two-times» offset («fill-place» 0 («terms-of» terms) x) («fill-place» 0 («terms-of» terms) y)) offset ledger (r .ledger) (λ t. (r .from ≡ «time-numbers» (t .0)) × (r .to ≡ «time-numbers» (t .1)) × (r .next ≡ end))) ⌝ }
 {
     let one = place_at(bytes, at, terms, 0);
     let other = place_at(bytes, one.next, terms, 0);
@@ -405,8 +411,8 @@ fn span_at(bytes: &[u8], at: usize, terms: Terms, offset: usize, ledger: Ledger)
     };
     Span {
         ledger: ledger,
-        from: from,
-        to: to,
+        from: from.numbers(),
+        to: to.numbers(),
         next: other.next,
     }
 }
@@ -417,8 +423,8 @@ fn no_span(ledger: Ledger, offset: usize) -> Span
 {
     Span {
         ledger: ledger.misfit(offset),
-        from: Time::Ctime,
-        to: Time::Ctime,
+        from: Time::ctime().numbers(),
+        to: Time::ctime().numbers(),
         next: 0,
     }
 }
@@ -506,7 +512,7 @@ pub(crate) fn order(bytes: &[u8], offset: usize, goal: Judgement, ledger: Ledger
     let after_span = span.ledger;
     let left = span.from;
     let right = span.to;
-    ask_order(after_span, offset, left, right)
+    ask_order(after_span, offset, left.time(), right.time())
 }
 
 // An inferring step where one is checked: the same formula, on an interval around the goal's.
@@ -538,6 +544,6 @@ pub(crate) fn within(
         MOST_FORMULA_LEVELS,
     );
     let after_compared = compared.ledger;
-    let asked = ask_order(after_compared, offset, a, c);
-    ask_order(asked, offset, d, b)
+    let asked = ask_order(after_compared, offset, a.time(), c.time());
+    ask_order(asked, offset, d.time(), b.time())
 }

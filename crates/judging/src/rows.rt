@@ -4,8 +4,7 @@ use formula::parts::Judgement;
 use formula::terms::TERMS_NUMBERS;
 use formula::terms::Terms;
 use ledger::number_in;
-use procap::fact::Term;
-use procap::time::Time;
+use procap::time::TimeNumbers;
 ghost use mathlib.Core.Path.{_≡_};
 ghost use mathlib.Core.List.{[], _∷_};
 ghost use Prim.Native.Nat.{ℕ, _+_, _≤_, _<_};
@@ -18,9 +17,9 @@ ghost use Rattle.judging.specs.RowNumbers.{«whose-kind», «whose-value
 // How many rows there are at the most.
 pub const MOST_ROWS: usize = 32;
 // How many numbers a row takes.
-pub const ROW_NUMBERS: usize = 24;
+pub const ROW_NUMBERS: usize = 16;
 // How many numbers all rows take.
-pub const ALL_NUMBERS: usize = 768;
+pub const ALL_NUMBERS: usize = 512;
 
 // Whose an assumption is: a plain one, or a claim of this principal.
 pub enum Whose {
@@ -56,15 +55,14 @@ pub struct Row {
     pub judgement: Judgement,
 }
 
-// The time that two numbers of the rows stand for.
-fn time_in(rows: &[u64], at: usize) -> Time
+// Two numbers of the rows, as those of a time.
+fn time_in(rows: &[u64], at: usize) -> TimeNumbers
     requires { ⌜ at < 1000 ⌝ }
     ensures { λ r. ⌜ r ≡ «time-in» (now (rows .entry)) at ⌝ }
 {
-    let term = Term::of_numbers(number_in(rows, at), number_in(rows, at + 1));
-    match term {
-        Term::Name(_) => Time::Ctime,
-        Term::When(time) => time,
+    TimeNumbers {
+        kind: number_in(rows, at),
+        second: number_in(rows, at + 1),
     }
 }
 
@@ -159,11 +157,9 @@ pub fn put_row(rows: &mut [u64], index: usize, row: Row)
     let formula = judgement.formula;
     let terms = formula.terms;
     let numbers = terms.numbers;
-    let first = Term::When(from);
-    let last = Term::When(to);
     put_two(rows, start, whose.kind(), whose.value());
-    put_two(rows, start + 2, first.kind(), first.value());
-    put_two(rows, start + 4, last.kind(), last.value());
+    put_two(rows, start + 2, from.kind, from.second);
+    put_two(rows, start + 4, to.kind, to.second);
     put_two(rows, start + 6, formula.at as u64, terms.count as u64);
     put_numbers(rows, start + 8, numbers);
 }

@@ -26,8 +26,9 @@ use Rattle.state.specs.Standing.{Stands}
 use Rattle.ledger.specs.declared.Reading.{Reading}
 use Rattle.ledger.specs.declared.Reading.the-variants.{Office, Press}
 use Rattle.ledger.specs.declared.Ledger.{Ledger}
-use Rattle.ledger.specs.Books.{book, Sound, fact-numbers, list-numbers, fact-in, facts-in, Gives, stopped-by, kept-of, reading-of, facts-said, resume, unless-stopped}
+use Rattle.ledger.specs.Books.{book, Sound, fact-numbers, list-numbers, fact-in, facts-in, Gives, stop-of, reading-in, keeping, stopped-by, kept-of, reading-of, facts-said, resume, unless-stopped}
 use Rattle.ledger.specs.Putting.{KeptBefore}
+use Rattle.ledger.proofs.Stopping.{Stops, false-stops, full-stops, fault-stops}
 use Rattle.ledger.proofs.Giving.{refuses, same-sound}
 use Rattle.ledger.proofs.Listing.{facts-counted, more-sound, facts-more}
 
@@ -39,24 +40,24 @@ asked x q = ask x q (done tt)
 
 module _ (state list : List ℕ) (l : Ledger) (x : Question) (q : ℕ) where
   -- Where a question is granted, the walk goes on with what is left.
-  grants : (list′ : List ℕ) (r : Ledger) → r .reading ≡ l .reading → r .stop ≡ l .stop → Sound (book r list′)
-      → answered (reading-of state (l .reading)) x q (kept-of (book l list)) ≡ granted (kept-of (book r list′))
+  grants : (list′ : List ℕ) (r : Ledger) → reading-in r ≡ reading-in l → stop-of r ≡ stop-of l → Sound (book r list′)
+      → answered (reading-of state (reading-in l)) x q (kept-of (book l list)) ≡ granted (kept-of (book r list′))
       → Gives state (book l list) (asked x q) (book r list′) tt
   unfolding resume run go-on
   grants list′ r e f s h = record {
     same-reading = e;
     sound = s;
     resumed =
-        ap (λ t. unless-stopped t (run (reading-of state (r .reading)) (done (tt {0})) (kept-of (book r list′)))) f
-        ∙ ap (λ y. unless-stopped (l .stop) (go-on y (λ k. granted (tt {0}, k)))) (sym h);
+        ap (λ t. unless-stopped t (run (reading-of state (reading-in r)) (done (tt {0})) (kept-of (book r list′)))) f
+        ∙ ap (λ y. unless-stopped (stop-of l) (go-on y (λ k. granted (tt {0}, k)))) (sym h);
   }
 
   -- Where it is refused, the walk stops.
-  denies : (answer : Answer) → Sound (book l list)
-      → answered (reading-of state (l .reading)) x q (kept-of (book l list)) ≡ refused answer
+  denies : (answer : Answer) → Stops answer → Sound (book l list)
+      → answered (reading-of state (reading-in l)) x q (kept-of (book l list)) ≡ refused answer
       → Gives state (book l list) (asked x q) (book (stopped-by answer l) list) tt
   unfolding run go-on
-  denies answer s h = refuses state list l answer (asked x q) tt s (rw h)
+  denies answer k s h = refuses state list l answer (asked x q) tt k s (rw h)
 
 -- ── At the office ──
 
@@ -65,60 +66,60 @@ learnt : (state : List ℕ) (o : Reading) (x : Question) (q : ℕ) (s : Kept) �
 unfolding reading-of answered
 learnt state o x q s e = rw e
 
-module _ (state list : List ℕ) (l : Ledger) (q : ℕ) (t u : Time) (d : Decision) (s : Sound (book l list)) (o : l .reading ≡ Office) (h : d ≡ decided t u) where
+module _ (state list : List ℕ) (l : Ledger) (q : ℕ) (t u : Time) (d : Decision) (s : Sound (book l list)) (o : reading-in l ≡ Office) (h : d ≡ decided t u) where
   -- An order narrows the moments as it was decided.
-  pub narrows : (r : Ledger) → r .reading ≡ l .reading → r .stop ≡ l .stop → r .count ≡ l .count
+  pub narrows : (r : Ledger) → reading-in r ≡ reading-in l → stop-of r ≡ stop-of l → r .count ≡ l .count
       → narrow q (kept-of (book l list)) d ≡ granted (kept-of (book r list))
       → Gives state (book l list) (ask-order q t u) (book r list) tt
   unfolding learn
-  narrows r e f g k = grants state list l (at-most t u) q list r e f (same-sound list l r g s) (learnt state (l .reading) _ q _ o ∙ rw (← h) k)
+  narrows r e f g k = grants state list l (at-most t u) q list r e f (same-sound list l r g s) (learnt state (reading-in l) _ q _ o ∙ rw (← h) k)
 
   -- An order that is decided false stops the walk.
   pub order-fails : d ≡ Fails → Gives state (book l list) (ask-order q t u) (book (stopped-by (OrderFalse q) l) list) tt
   unfolding learn narrow
-  order-fails k = denies state list l (at-most t u) q (OrderFalse q) s (learnt state (l .reading) _ q _ o ∙ rw (← h, k))
+  order-fails k = denies state list l (at-most t u) q (OrderFalse q) (false-stops q) s (learnt state (reading-in l) _ q _ o ∙ rw (← h, k))
 
-module _ (state list : List ℕ) (l : Ledger) (q : ℕ) (f : Fact) (s : Sound (book l list)) (o : l .reading ≡ Office) where
+module _ (state list : List ℕ) (l : Ledger) (q : ℕ) (f : Fact) (s : Sound (book l list)) (o : reading-in l ≡ Office) where
   -- A fact that is listed leaves the book as it is.
   pub already-listed : In (spelled f) (facts-in list (l .count)) → Gives state (book l list) (ask-fact q (spelled f)) (book l list) tt
   unfolding learn list-fact kept-of
   already-listed h =
       grants state list l (holds (spelled f)) q list l refl refl s
-      (learnt state (l .reading) _ q _ o ∙ if-pos (in? spelled? (spelled f) (facts-in list (l .count))) h _ _)
+      (learnt state (reading-in l) _ q _ o ∙ if-pos (in? spelled? (spelled f) (facts-in list (l .count))) h _ _)
 
   module _ (new : In (spelled f) (facts-in list (l .count)) → ⊥) where
     -- A new one for which there is no room stops the walk.
     pub list-full : (l .count < most-facts → ⊥) → Gives state (book l list) (ask-fact q (spelled f)) (book (stopped-by (FactsFull q) l) list) tt
     unfolding learn list-fact kept-of
     list-full n =
-        denies state list l (holds (spelled f)) q (FactsFull q) s
-        (learnt state (l .reading) _ q _ o
+        denies state list l (holds (spelled f)) q (FactsFull q) (full-stops q) s
+        (learnt state (reading-in l) _ q _ o
         ∙ if-neg (in? spelled? (spelled f) (facts-in list (l .count))) new _ _
         ∙ if-neg (decLt (length (facts-in list (l .count))) most-facts) (λ h. n (rw facts-counted at h)) _ _)
 
     -- A new one for which there is room is listed last.
     pub listed-last : (more : List ℕ) (r : Ledger) → l .count < most-facts → length more ≡ list-numbers
         → fact-in more (l .count) ≡ f → KeptBefore (l .count * fact-numbers) list more → f ≡ fact-of (spelled f)
-        → r ≡ record { stop = l .stop; reading = l .reading; from = l .from; to = l .to; count = l .count + 1 }
+        → r ≡ keeping l (l .from) (l .to) (l .count + 1)
         → Gives state (book l list) (ask-fact q (spelled f)) (book r more) tt
     unfolding learn list-fact kept-of
     listed-last more r h room put kept form e =
-        grants state list l (holds (spelled f)) q more r (ap (λ x. x .reading) e) (ap (λ x. x .stop) e)
+        grants state list l (holds (spelled f)) q more r (ap reading-in e) (ap stop-of e)
         (more-sound list more l f put kept r s room h form (ap (λ x. x .count) e))
-        (learnt state (l .reading) _ q _ o
+        (learnt state (reading-in l) _ q _ o
         ∙ if-neg (in? spelled? (spelled f) (facts-in list (l .count))) new _ _
         ∙ if-pos (decLt (length (facts-in list (l .count))) most-facts) (rw facts-counted h) _ _
         ∙ rw e (ap (λ fs. granted record { from = l .from; to = l .to; facts = fs }) (sym (facts-more list more l f put kept))))
 
 -- ── At a press ──
 
-module _ (state list : List ℕ) (l : Ledger) (m : ℕ) (x : Question) (q : ℕ) (s : Sound (book l list)) (o : l .reading ≡ Press m) where
+module _ (state list : List ℕ) (l : Ledger) (m : ℕ) (x : Question) (q : ℕ) (s : Sound (book l list)) (o : reading-in l ≡ Press m) where
   -- What the state says.
   said : List Spelled
   said = facts-said (stated state)
 
   -- A question is true there or not.
-  met : answered (reading-of state (l .reading)) x q (kept-of (book l list)) ≡ ite (true? m said x) (granted (kept-of (book l list))) (refused (fault x q))
+  met : answered (reading-of state (reading-in l)) x q (kept-of (book l list)) ≡ ite (true? m said x) (granted (kept-of (book l list))) (refused (fault x q))
   unfolding reading-of answered said
   met = ap (λ y. answered (reading-of state y) x q (kept-of (book l list))) o
 
@@ -130,9 +131,9 @@ module _ (state list : List ℕ) (l : Ledger) (m : ℕ) (x : Question) (q : ℕ)
   -- One that is false stops the walk.
   false-at-press : (True m (facts-said (stated state)) x → ⊥) → Gives state (book l list) (asked x q) (book (stopped-by (fault x q) l) list) tt
   unfolding said
-  false-at-press n = denies state list l x q (fault x q) s (met ∙ if-neg (true? m said x) n _ _)
+  false-at-press n = denies state list l x q (fault x q) (fault-stops x q) s (met ∙ if-neg (true? m said x) n _ _)
 
-module _ (state list : List ℕ) (l : Ledger) (m q : ℕ) (t u : Time) (s : Sound (book l list)) (o : l .reading ≡ Press m) where
+module _ (state list : List ℕ) (l : Ledger) (m q : ℕ) (t u : Time) (s : Sound (book l list)) (o : reading-in l ≡ Press m) where
   -- An order at a press.
   pub order-true : AtMost m t u → Gives state (book l list) (ask-order q t u) (book l list) tt
   unfolding True
@@ -156,7 +157,7 @@ said-stands bytes f h = by (stated bytes) refl h
     by (some σ) e h = (σ, e, h)
 
 -- A fact at a press is looked for with the moment put in.
-module _ (state list : List ℕ) (l : Ledger) (m q : ℕ) (f put : Fact) (s : Sound (book l list)) (o : l .reading ≡ Press m) (e : put ≡ fact-at-moment m f) where
+module _ (state list : List ℕ) (l : Ledger) (m q : ℕ) (f put : Fact) (s : Sound (book l list)) (o : reading-in l ≡ Press m) (e : put ≡ fact-at-moment m f) where
   -- It is spelled as it is asked for.
   as-asked : spelled put ≡ spelled-at-moment m (spelled f)
   as-asked = ap spelled e ∙ spelled-put m f

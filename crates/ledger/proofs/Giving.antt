@@ -12,7 +12,8 @@ use Rattle.bl.specs.Readings.{Kept, run, answered}
 use Rattle.ledger.specs.declared.Stop.{Stop}
 use Rattle.ledger.specs.declared.Stop.the-variants.{Going, Stopped}
 use Rattle.ledger.specs.declared.Ledger.{Ledger}
-use Rattle.ledger.specs.Books.{Book, book, Sound, Gives, misfitted, stopped-by, kept-of, reading-of, resume, unless-stopped}
+use Rattle.ledger.specs.Books.{Book, book, Sound, Gives, stop-of, reading-in, misfitted, stopped-by, kept-of, reading-of, resume, unless-stopped}
+use Rattle.ledger.proofs.Stopping.{Stops, unfit-stops, stopped-now, stopped-before, stopped-reading, stopped-count}
 
 -- ── One line of a `do` ──
 
@@ -56,10 +57,10 @@ resume-then : {A B : Type 0} (state : List ℕ) (b m : Book) (w : Walk A) (a : A
     → Gives state b w m a → resume state b (w >>= g) ≡ resume state m (g a)
 unfolding resume kept-of
 resume-then state b m w a g h =
-    let o = reading-of state (b .ledger .reading) in
-    stop-then (b .ledger .stop) o w g (kept-of b)
+    let o = reading-of state (reading-in (b .ledger)) in
+    stop-then (stop-of (b .ledger)) o w g (kept-of b)
     ∙ ap (λ x. go-on x (λ r. run o (g (r .0)) (r .1))) (sym (h .resumed))
-    ∙ rw (h .same-reading) (stop-done (m .ledger .stop) o a g (kept-of m))
+    ∙ rw (h .same-reading) (stop-done (stop-of (m .ledger)) o a g (kept-of m))
 
 -- A stop that is a stop gives its answer.
 pub stop-refused : {A : Type 0} (t : Stop) (answer : Answer) (o : Outcome A) → t ≡ Stopped answer → unless-stopped t o ≡ refused answer
@@ -88,42 +89,33 @@ idle state b a s = record { same-reading = refl; sound = s; resumed = refl }
 pub same-sound : (list : List ℕ) (l r : Ledger) → r .count ≡ l .count → Sound (book l list) → Sound (book r list)
 same-sound list l r e s = record { room = s .room; few = rw e (s .few); in-form = λ i h. s .in-form i (rw e at h) }
 
--- The answer that stops a ledger is its first.
-stopped-now : (l : Ledger) (answer : Answer) → l .stop ≡ Going → stopped-by answer l .stop ≡ Stopped answer
-unfolding stopped-by
-stopped-now l answer e = rw e
-
-stopped-before : (l : Ledger) (answer before : Answer) → l .stop ≡ Stopped before → stopped-by answer l .stop ≡ Stopped before
-unfolding stopped-by
-stopped-before l answer before e = rw e
-
 -- A book goes on, or has stopped.
 pub goes-or-stopped : (s : Stop) → (s ≡ Going) ⊎ ((answer : Answer) × (s ≡ Stopped answer))
 goes-or-stopped Going = inl refl
 goes-or-stopped (Stopped answer) = inr (answer, refl)
 
 -- A walk that comes to an answer stops the book with it, unless the book had stopped before.
-pub refuses : {A : Type 0} (state list : List ℕ) (l : Ledger) (answer : Answer) (w : Walk A) (a : A) → Sound (book l list)
-    → run (reading-of state (l .reading)) w (kept-of (book l list)) ≡ refused answer
+pub refuses : {A : Type 0} (state list : List ℕ) (l : Ledger) (answer : Answer) (w : Walk A) (a : A) → Stops answer → Sound (book l list)
+    → run (reading-of state (reading-in l)) w (kept-of (book l list)) ≡ refused answer
     → Gives state (book l list) w (book (stopped-by answer l) list) a
-unfolding resume stopped-by
-refuses state list l answer w a s h = record {
-  same-reading = refl;
-  sound = same-sound list l (stopped-by answer l) refl s;
-  resumed = ⊎-elim now before (goes-or-stopped (l .stop));
+unfolding resume
+refuses state list l answer w a k s h = record {
+  same-reading = stopped-reading answer l;
+  sound = same-sound list l (stopped-by answer l) (stopped-count answer l) s;
+  resumed = ⊎-elim now before (goes-or-stopped (stop-of l));
 }
   where
-    now : l .stop ≡ Going → resume state (book (stopped-by answer l) list) (done a) ≡ resume state (book l list) w
-    now e = stop-refused _ answer _ (stopped-now l answer e) ∙ sym (stop-going (l .stop) _ e ∙ h)
+    now : stop-of l ≡ Going → resume state (book (stopped-by answer l) list) (done a) ≡ resume state (book l list) w
+    now e = stop-refused _ answer _ (stopped-now l answer k e) ∙ sym (stop-going (stop-of l) _ e ∙ h)
 
-    before : (first : Answer) × (l .stop ≡ Stopped first) → resume state (book (stopped-by answer l) list) (done a) ≡ resume state (book l list) w
-    before e = stop-refused _ (e .0) _ (stopped-before l answer (e .0) (e .1)) ∙ sym (stop-refused (l .stop) (e .0) _ (e .1))
+    before : (first : Answer) × (stop-of l ≡ Stopped first) → resume state (book (stopped-by answer l) list) (done a) ≡ resume state (book l list) w
+    before e = stop-refused _ (e .0) _ (stopped-before l answer (e .0) (e .1)) ∙ sym (stop-refused (stop-of l) (e .0) _ (e .1))
 
 -- A step that does not fit.
 pub misfits : {A : Type 0} (state list : List ℕ) (l : Ledger) (q : ℕ) (a : A) → Sound (book l list)
     → Gives state (book l list) (misfit q) (book (misfitted l q) list) a
 unfolding run
-misfits state list l q a s = refuses state list l (StepUnfit q) (misfit q) a s refl
+misfits state list l q a s = refuses state list l (StepUnfit q) (misfit q) a (unfit-stops q) s refl
 
 -- What comes to nothing comes to it with any value.
 pub misfits-any : {A B : Type 0} (state : List ℕ) (b r : Book) (q : ℕ) (a : A) (x : B) → Gives state b (misfit q) r a → Gives state b (misfit q) r x
@@ -131,17 +123,17 @@ unfolding _>>=_
 misfits-any state b r q a x h = then state b r r (misfit q) a (λ _. done x) x h (idle state r x (h .sound))
 
 -- A book that has stopped stays as it is, whatever the walk.
-pub stays : {A : Type 0} (state : List ℕ) (b : Book) (answer : Answer) (w : Walk A) (a : A) → b .ledger .stop ≡ Stopped answer → Sound b → Gives state b w b a
+pub stays : {A : Type 0} (state : List ℕ) (b : Book) (answer : Answer) (w : Walk A) (a : A) → stop-of (b .ledger) ≡ Stopped answer → Sound b → Gives state b w b a
 unfolding resume
 stays state b answer w a e s = record {
   same-reading = refl;
   sound = s;
-  resumed = stop-refused (b .ledger .stop) answer _ e ∙ sym (stop-refused (b .ledger .stop) answer _ e);
+  resumed = stop-refused (stop-of (b .ledger)) answer _ e ∙ sym (stop-refused (stop-of (b .ledger)) answer _ e);
 }
 
 -- What has stopped after one line is what the whole comes to.
 pub halted : {A B : Type 0} (state : List ℕ) (b r : Book) (answer : Answer) (w : Walk A) (a : A) (g : A → Walk B) (x : B)
-    → Gives state b w r a → r .ledger .stop ≡ Stopped answer → Gives state b (w >>= g) r x
+    → Gives state b w r a → stop-of (r .ledger) ≡ Stopped answer → Gives state b (w >>= g) r x
 halted state b r answer w a g x h e = then state b r r w a g x h (stays state r answer (g a) x e (h .sound))
 
 -- What does not go on has stopped.
@@ -150,8 +142,8 @@ not-going Going n = absurd (n refl)
 not-going (Stopped answer) n = (answer, refl)
 
 -- After a misfit a ledger has stopped.
-pub misfitted-stopped : (l : Ledger) (q : ℕ) → (answer : Answer) × (misfitted l q .stop ≡ Stopped answer)
+pub misfitted-stopped : (l : Ledger) (q : ℕ) → (answer : Answer) × (stop-of (misfitted l q) ≡ Stopped answer)
 misfitted-stopped l q = ⊎-elim
-    (λ e. (StepUnfit q, stopped-now l (StepUnfit q) e))
+    (λ e. (StepUnfit q, stopped-now l (StepUnfit q) (unfit-stops q) e))
     (λ e. (e .0, stopped-before l (StepUnfit q) (e .0) (e .1)))
-    (goes-or-stopped (l .stop))
+    (goes-or-stopped (stop-of l))

@@ -1,4 +1,5 @@
 -- Laws on going on from a ledger.
+pub mod Stopping
 pub mod Giving
 pub mod Asking
 pub mod Stored

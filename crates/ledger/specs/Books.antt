@@ -1,16 +1,20 @@
 -- A walk that goes on from a ledger and the list of facts beside it.
-use Prim.Native.Nat.{ℕ, zero, suc, _+_, _*_, _%_, _≤_, _<_}
+use Prim.Native.Nat.{ℕ, zero, suc, _+_, _-_, _*_, _%_, _≤_, _<_}
 use mathlib.Core.Path.{_≡_}
 use mathlib.Core.List.{List, [], _∷_, _++_}
 use mathlib.Core.Option.{Option, some, none}
 use lib.ListN.{length, getD}
+use lib.Dec.{eqb}
+use Rattle.procap.specs.Tells.{pick}
+use Rattle.procap.specs.Times.{earliest, latest}
+use Rattle.procap.specs.Answers.{number-of, place-of}
 use Rattle.procap.specs.Facts.{Spelled, spelled, fact-of}
 use Rattle.procap.specs.Numbered.{of-numbers}
 use Rattle.procap.specs.Procaps.{most-facts}
 use Rattle.procap.specs.States.{stated}
 use Rattle.procap.specs.Outcome.{Outcome, refused}
 use Rattle.procap.specs.declared.answer.Answer.{Answer}
-use Rattle.procap.specs.declared.answer.Answer.the-variants.{StepUnfit}
+use Rattle.procap.specs.declared.answer.Answer.the-variants.{StepUnfit, OrderFalse, FactsFull, FactMissing}
 use Rattle.procap.specs.declared.fact.Argument.{Argument}
 use Rattle.procap.specs.declared.fact.Fact.{Fact}
 use Rattle.bl.specs.Questions.{Walk, done, Test}
@@ -34,6 +38,44 @@ list-numbers = 160
 pub record Book : Type 0 where
   pub ledger : Ledger
   pub list : List ℕ
+
+-- A ledger with every moment left, read at the office (0) or at a press (its moment plus one).
+abbrev pub opened : ℕ → Ledger
+opened n = record { number = 0; place = 0; press = n; from = earliest; to = latest; count = 0 }
+
+-- The ledger at the start of a walk.
+unfoldable pub begun : Reading → Ledger
+begun Office = opened 0
+begun (Press m) = opened (m + 1)
+
+-- A moment of the clock, if the reading has one.
+unfoldable pub OnClock : Reading → Type 0
+OnClock Office = Unit {0}
+OnClock (Press m) = m ≤ latest
+
+-- What stopped a walk, by the number and the place of the answer; 0 while it goes on.
+unfoldable pub stop-by : ℕ → ℕ → Stop
+stop-by n p =
+    pick (eqb n 0) Going
+    (pick (eqb n (number-of (StepUnfit p))) (Stopped (StepUnfit p))
+    (pick (eqb n (number-of (OrderFalse p))) (Stopped (OrderFalse p))
+    (pick (eqb n (number-of (FactsFull p))) (Stopped (FactsFull p)) (Stopped (FactMissing p)))))
+
+-- The same of a ledger.
+abbrev pub stop-of : Ledger → Stop
+stop-of l = stop-by (l .number) (l .place)
+
+-- How a ledger's walk is read: 0 is the office, and any other number the moment after the press's.
+unfoldable pub reading-by : ℕ → Reading
+reading-by n = pick (eqb n 0) Office (Press (n - 1))
+
+-- The same of a ledger.
+abbrev pub reading-in : Ledger → Reading
+reading-in l = reading-by (l .press)
+
+-- The ledger with these moments left and so many facts listed.
+abbrev pub keeping : Ledger → ℕ → ℕ → ℕ → Ledger
+keeping l from to count = record { number = l .number; place = l .place; press = l .press; from = from; to = to; count = count }
 
 abbrev pub book : Ledger → List ℕ → Book
 book l list = record { ledger = l; list = list }
@@ -84,21 +126,20 @@ unless-stopped (Stopped answer) o = refused answer
 
 -- A walk read on from a book.
 unfoldable pub resume : {A : Type 0} → List ℕ → Book → Walk A → Outcome (A × Kept)
-resume state b w = unless-stopped (b .ledger .stop) (run (reading-of state (b .ledger .reading)) w (kept-of b))
+resume state b w = unless-stopped (stop-of (b .ledger)) (run (reading-of state (reading-in (b .ledger))) w (kept-of b))
 
 -- The work of the walk w, from the book b, led to the book b′ and the value a.
 pub record Gives {A : Type 0} (state : List ℕ) (b : Book) (w : Walk A) (b′ : Book) (a : A) : Type 0 where
-  pub same-reading : b′ .ledger .reading ≡ b .ledger .reading
+  pub same-reading : reading-in (b′ .ledger) ≡ reading-in (b .ledger)
   pub sound : Sound b′
   pub resumed : resume state b′ (done a) ≡ resume state b w
 
 -- The ledger stopped by an answer, unless it was before.
 unfoldable pub stopped-by : Answer → Ledger → Ledger
-stopped-by answer l = record { stop = first-stop (l .stop); reading = l .reading; from = l .from; to = l .to; count = l .count }
-  where
-    first-stop : Stop → Stop
-    first-stop Going = Stopped answer
-    first-stop (Stopped before) = Stopped before
+stopped-by answer l =
+    pick (eqb (l .number) 0)
+    (record { number = number-of answer; place = place-of answer; press = l .press; from = l .from; to = l .to; count = l .count })
+    l
 
 -- The ledger after a step that does not fit.
 abbrev pub misfitted : Ledger → ℕ → Ledger

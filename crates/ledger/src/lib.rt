@@ -8,6 +8,7 @@ use procap::procap::MOST_FACTS;
 use procap::procap::Procap;
 use procap::procap::Request;
 use procap::procap::VERSION;
+use procap::time::CLOCK_SECONDS;
 use procap::time::Decision;
 use procap::time::LATEST_SECOND;
 use procap::time::Time;
@@ -20,11 +21,11 @@ ghost use Prim.Native.Nat.{ℕ, _+_, _*_, _≤_, _<_, min, max};
 ghost use lib.ListN.{length, getD};
 ghost use Rattle.procap.specs.Lists.{In};
 ghost use Rattle.procap.specs.Tells.{Tells};
-ghost use Rattle.procap.specs.Times.{earliest, latest, decided};
+ghost use Rattle.procap.specs.Times.{decided};
 ghost use Rattle.procap.specs.Facts.{spelled, «fact-of», «argument-of», «no-argument», «most-terms»};
 ghost use Rattle.procap.specs.Procaps.{«most-facts», «procap-of»};
 ghost use Rattle.bl.specs.Questions.{«ask-order», «ask-fact»};
-ghost use Rattle.ledger.specs.Books.{book, Sound, Gives, Leads, «list-numbers», «fact-numbers», «argument-in», «facts-in», «fact-in», «stopped-by», misfitted};
+ghost use Rattle.ledger.specs.Books.{OnClock, begun, opened, keeping, «stop-of», «reading-in», book, Sound, Gives, Leads, «list-numbers», «fact-numbers», «argument-in», «facts-in», «fact-in», «stopped-by», misfitted};
 ghost use Rattle.ledger.specs.Putting.{KeptBefore};
 
 // How many numbers a listed fact takes: its predicate, its count, and two for each term.
@@ -44,23 +45,35 @@ pub enum Stop {
     Stopped(Answer),
 }
 
-// What a walk has come to: whether it goes on, how it is read, the moments that are left and how many facts are listed.
+// What a walk has come to, in plain numbers, which are handed on faster than enums: the number and the place of the answer that stopped it, zeros while it goes on; 0 where it is read at the office, and else the moment of the press plus one; the moments that are left; and how many facts are listed.
 pub struct Ledger {
-    pub stop: Stop,
-    pub reading: Reading,
+    pub number: u64,
+    pub place: usize,
+    pub press: u64,
     pub from: u64,
     pub to: u64,
     pub count: usize,
 }
 
 impl Ledger {
-    // The ledger at the start of a walk.
+    // The ledger at the start of a walk, at the office or at a moment of the clock.
     pub fn begin(reading: Reading) -> Ledger
-        ensures { λ r. ⌜ r ≡ record { stop = Stop.Going; reading = reading; from = earliest; to = latest; count = 0 } ⌝ }
+        ensures { λ r. ⌜ (OnClock reading → r ≡ begun reading) ⌝ }
+    {
+        match reading {
+            Reading::Office => Ledger::open(0),
+            Reading::Press(moment) => Ledger::open(moment % CLOCK_SECONDS + 1),
+        }
+    }
+
+    // A ledger with every moment left, read at the office, by 0, or at a press.
+    fn open(press: u64) -> Ledger
+        ensures { λ r. ⌜ r ≡ opened press ⌝ }
     {
         Ledger {
-            stop: Stop::Going,
-            reading: reading,
+            number: 0,
+            place: 0,
+            press: press,
             from: 0,
             to: LATEST_SECOND,
             count: 0,
@@ -69,30 +82,40 @@ impl Ledger {
 
     // Whether the walk goes on.
     pub fn goes_on(self) -> bool
-        ensures { λ r. ⌜ Tells r (self .stop ≡ Stop.Going) ⌝ }
+        ensures { λ r. ⌜ Tells r («stop-of» self ≡ Stop.Going) ⌝ }
     {
-        let stop = self.stop;
-        match stop {
-            Stop::Going => true,
-            Stop::Stopped(_) => false,
+        self.number == 0
+    }
+
+    // Whether the walk goes on, or the answer that stopped it.
+    pub fn stop(self) -> Stop
+        ensures { λ r. ⌜ r ≡ «stop-of» self ⌝ }
+    {
+        let number = self.number;
+        let place = self.place;
+        match number {
+            0 => Stop::Going,
+            3 => Stop::Stopped(Answer::StepUnfit(place)),
+            4 => Stop::Stopped(Answer::OrderFalse(place)),
+            6 => Stop::Stopped(Answer::FactsFull(place)),
+            _ => Stop::Stopped(Answer::FactMissing(place)),
         }
     }
 
     // The ledger, stopped by this answer unless it was before.
-    pub fn stopped(self, answer: Answer) -> Ledger
+    fn stopped(self, answer: Answer) -> Ledger
         ensures { λ r. ⌜ r ≡ «stopped-by» answer self ⌝ }
     {
-        let stop = self.stop;
-        let reading = self.reading;
-        match stop {
-            Stop::Going => Ledger {
-                stop: Stop::Stopped(answer),
-                reading: reading,
-                from: self.from,
-                to: self.to,
-                count: self.count,
-            },
-            Stop::Stopped(_) => self,
+        if self.number != 0 {
+            return self;
+        }
+        Ledger {
+            number: answer.number(),
+            place: answer.place(),
+            press: self.press,
+            from: self.from,
+            to: self.to,
+            count: self.count,
         }
     }
 
@@ -103,29 +126,33 @@ impl Ledger {
         self.stopped(Answer::StepUnfit(offset))
     }
 
+    // The ledger with these moments left and so many facts listed.
+    fn keeping(self, from: u64, to: u64, count: usize) -> Ledger
+        ensures { λ r. ⌜ r ≡ keeping self from to count ⌝ }
+    {
+        Ledger {
+            number: self.number,
+            place: self.place,
+            press: self.press,
+            from: from,
+            to: to,
+            count: count,
+        }
+    }
+
     // The ledger with what the office's decision about an order leaves of its moments.
     fn narrowed(self, offset: usize, decision: Decision) -> Ledger
-        ensures { λ r. ⌜ ((state list : List ℕ) (left right : Time) → Sound (book self list) → self .reading ≡ Reading.Office → decision ≡ decided left right → Gives state (book self list) («ask-order» offset left right) (book r list) tt) ⌝ }
+        ensures { λ r. ⌜ ((state list : List ℕ) (left right : Time) → Sound (book self list) → «reading-in» self ≡ Reading.Office → decision ≡ decided left right → Gives state (book self list) («ask-order» offset left right) (book r list) tt) ⌝ }
     {
-        let before = self.stop;
-        let reading = self.reading;
         match decision {
             Decision::Holds => self,
             Decision::Fails => self.stopped(Answer::OrderFalse(offset)),
-            Decision::RaisesFrom(second) => Ledger {
-                stop: before,
-                reading: reading,
-                from: larger(self.from, second),
-                to: self.to,
-                count: self.count,
-            },
-            Decision::LowersTo(second) => Ledger {
-                stop: before,
-                reading: reading,
-                from: self.from,
-                to: smaller(self.to, second),
-                count: self.count,
-            },
+            Decision::RaisesFrom(second) => {
+                self.keeping(larger(self.from, second), self.to, self.count)
+            }
+            Decision::LowersTo(second) => {
+                self.keeping(self.from, smaller(self.to, second), self.count)
+            }
         }
     }
 }
@@ -148,21 +175,17 @@ fn smaller(one: u64, other: u64) -> u64
 pub fn ask_order(ledger: Ledger, offset: usize, left: Time, right: Time) -> Ledger
     ensures { λ r. ⌜ Leads ledger («ask-order» offset left right) r ⌝ }
 {
-    let stop = ledger.stop;
-    let reading = ledger.reading;
-    match stop {
-        Stop::Stopped(_) => ledger,
-        Stop::Going => match reading {
-            Reading::Office => ledger.narrowed(offset, decide(left, right)),
-            Reading::Press(moment) => {
-                if at_most(moment, left, right) {
-                    ledger
-                } else {
-                    ledger.stopped(Answer::OrderFalse(offset))
-                }
-            }
-        },
+    if !ledger.goes_on() {
+        return ledger;
     }
+    let press = ledger.press;
+    if press == 0 {
+        return ledger.narrowed(offset, decide(left, right));
+    }
+    if at_most(press - 1, left, right) {
+        return ledger;
+    }
+    ledger.stopped(Answer::OrderFalse(offset))
 }
 
 // Does the fact hold?
@@ -175,26 +198,22 @@ pub fn ask_fact(
 ) -> Ledger
     ensures { λ r. ⌜ (Sound (book ledger (now (facts .entry))) → fact ≡ «fact-of» (spelled fact) → fact .count ≤ «most-terms» → Gives (now (state .entry)) (book ledger (now (facts .entry))) («ask-fact» offset (spelled fact)) (book r (now (facts .exit))) tt) ⌝ }
 {
-    let stop = ledger.stop;
-    let reading = ledger.reading;
-    match stop {
-        Stop::Stopped(_) => ledger,
-        Stop::Going => match reading {
-            Reading::Office => list_fact(facts, ledger, offset, fact),
-            Reading::Press(moment) => {
-                if stands_in(state, fact.at_moment(moment)) {
-                    ledger
-                } else {
-                    ledger.stopped(Answer::FactMissing(offset))
-                }
-            }
-        },
+    if !ledger.goes_on() {
+        return ledger;
     }
+    let press = ledger.press;
+    if press == 0 {
+        return list_fact(facts, ledger, offset, fact);
+    }
+    if stands_in(state, fact.at_moment(press - 1)) {
+        return ledger;
+    }
+    ledger.stopped(Answer::FactMissing(offset))
 }
 
 // The fact goes to the end of the office's list, unless it stands there or the list is full.
 fn list_fact(facts: &mut [u64], ledger: Ledger, offset: usize, fact: Fact) -> Ledger
-    ensures { λ r. ⌜ ((state : List ℕ) → Sound (book ledger (now (facts .entry))) → ledger .reading ≡ Reading.Office → fact ≡ «fact-of» (spelled fact) → Gives state (book ledger (now (facts .entry))) («ask-fact» offset (spelled fact)) (book r (now (facts .exit))) tt) ⌝ }
+    ensures { λ r. ⌜ ((state : List ℕ) → Sound (book ledger (now (facts .entry))) → «reading-in» ledger ≡ Reading.Office → fact ≡ «fact-of» (spelled fact) → Gives state (book ledger (now (facts .entry))) («ask-fact» offset (spelled fact)) (book r (now (facts .exit))) tt) ⌝ }
 {
     let count = ledger.count;
     // No sound book counts more.
@@ -208,15 +227,7 @@ fn list_fact(facts: &mut [u64], ledger: Ledger, offset: usize, fact: Fact) -> Le
         return ledger.stopped(Answer::FactsFull(offset));
     }
     put_fact(facts, count, fact);
-    let stop = ledger.stop;
-    let reading = ledger.reading;
-    Ledger {
-        stop: stop,
-        reading: reading,
-        from: ledger.from,
-        to: ledger.to,
-        count: count + 1,
-    }
+    ledger.keeping(ledger.from, ledger.to, count + 1)
 }
 
 // Whether the list has room for one fact more after so many.

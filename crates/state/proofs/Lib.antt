@@ -1,4 +1,6 @@
 -- Laws that the crate's proofs cite.
 pub mod Terms
+pub mod Widths
 pub mod Passes
 pub mod Finding
+pub mod Holding

@@ -7,7 +7,7 @@ ghost use mathlib.Core.Path.{_≡_};
 ghost use Prim.Native.Nat.{_+_, _≤_, _<_};
 ghost use lib.ListN.{length, getD};
 ghost use Rattle.procap.specs.Bytes.{term};
-ghost use Rattle.procap.specs.Reading.{TermReads};
+ghost use Rattle.procap.specs.Reading.{TermReads, InFormRead};
 
 // The lent bytes of a proof and a place in them.
 pub struct Reader<'a> {
@@ -25,7 +25,8 @@ impl<'a> Reader<'a> {
 
     // The term at its place and the place after it, or none.
     fn term(self) -> TermRead
-        ensures { λ r. ⌜ TermReads (term (now (self .entry .proof)) (self .entry .at)) r ⌝ }
+        ensures reads { λ r. ⌜ TermReads (term (now (self .entry .proof)) (self .entry .at)) r ⌝ }
+        ensures in_form { λ r. ⌜ InFormRead r ⌝ }
     {
         term_in(self.proof, self.at)
     }
@@ -67,7 +68,8 @@ pub fn index_at(proof: &[u8], at: usize) -> u8
 
 // The term at a place of the proof and the place after it, or none.
 pub(crate) fn term_read(proof: &[u8], at: usize) -> TermRead
-    ensures { λ r. ⌜ TermReads (term (now (proof .entry)) at) r ⌝ }
+    ensures reads { λ r. ⌜ TermReads (term (now (proof .entry)) at) r ⌝ }
+    ensures in_form { λ r. ⌜ InFormRead r ⌝ }
 {
     Reader {
         proof: proof,
@@ -84,7 +86,8 @@ fn byte_in(proof: &[u8], at: usize) -> u8
 
 // A term in the lent bytes and the place after it, or none.
 fn term_in(proof: &[u8], at: usize) -> TermRead
-    ensures { λ r. ⌜ TermReads (term (now (proof .entry)) at) r ⌝ }
+    ensures reads { λ r. ⌜ TermReads (term (now (proof .entry)) at) r ⌝ }
+    ensures in_form { λ r. ⌜ InFormRead r ⌝ }
 {
     if at >= proof.len() {
         return TermRead::NoTerm;

@@ -12,10 +12,11 @@ use lib.Seq.{length-take-le, getD-take, getD-drop, drop-drop, ext-getD}
 use Rattle.procap.specs.Facts.{Spelled}
 use Rattle.procap.proofs.Rebuilt.{SpelledInForm}
 use Rattle.procap.proofs.Readers.{so-read}
+use Rattle.text.specs.Words.{bytes-of}
 use Rattle.text.specs.Text.{fact-text}
 use Rattle.text.specs.Reader.{fact-line}
 use Rattle.text.specs.Places.{ReadsAt}
-use Rattle.text.proofs.Readers.{Takes}
+use Rattle.text.proofs.Readers.{Takes, parted}
 use Rattle.text.proofs.Spellings.{fact-read, fact-found}
 
 -- ── Bytes at two places ──
@@ -103,16 +104,30 @@ said-again bytes at other said after n h k l = record {
 
 -- ── Lines ──
 
+-- The word with which the line of a fact begins, and how many bytes it takes.
+abbrev word : List ℕ
+word = bytes-of "fact="
+
+abbrev word-bytes : ℕ
+word-bytes = 5
+
+-- What spells a fact begins with it.
+word-said : {bytes : List ℕ} {at after : ℕ} (f : Spelled) → Takes bytes at (fact-text f) after → (next : ℕ) × Takes bytes at word next
+unfolding fact-text
+word-said f h = parted word _ h (λ next said _. (next, said))
+
 module _ (text : List ℕ) (at : ℕ) (f : Spelled) (end : ℕ) (h : ReadsAt text at f end) where
   -- A line that reads as a fact is the fact's spelling.
   line-said : Takes text at (fact-text f) end × SpelledInForm f
   line-said = so-read (fact-line text at) h (fact-read at)
 
   module _ (other : ℕ) (g : Spelled) (e : ℕ) (k : ReadsAt text other g e) where
+    other-said : Takes text other (fact-text g) e
+    other-said = so-read (fact-line text other) k (fact-read other) .0
+
     -- The same fact has the same bytes.
     same-bytes : f ≡ g → Alike text at other (length (fact-text f))
-    same-bytes s =
-        said-twice text at other (fact-text f) end e (line-said .0) (rw (sym s) at (so-read (fact-line text other) k (fact-read other) .0))
+    same-bytes s = said-twice text at other (fact-text f) end e (line-said .0) (rw (sym s) at other-said)
 
     -- The same bytes are the same fact.
     same-fact : (n : ℕ) → Alike text at other n → length (fact-text f) ≤ n → f ≡ g
@@ -120,13 +135,35 @@ module _ (text : List ℕ) (at : ℕ) (f : Spelled) (end : ℕ) (h : ReadsAt tex
         let found = fact-found f (line-said .1) (said-again text at other (fact-text f) end n (line-said .0) a l) in
         ap (λ r. r .0) (Option·some-injective (f, other + length (fact-text f)) (g, e) (sym found ∙ k))
 
-    module _ (i j : ℕ) (m : Matched text at other i j) where
-      -- So before the line's end the next bytes of the same fact are the same.
+    -- Whatever the facts, the lines begin with the same word.
+    pub same-word : Alike text at other word-bytes
+    same-word =
+        let one = word-said f (line-said .0) in
+        let two = word-said g other-said in
+        said-twice text at other word (one .0) (two .0) (one .1) (two .1)
+
+    module _ (i j : ℕ) (m : Matched text (at + word-bytes) (other + word-bytes) i j) where
+      -- So where the bytes behind the word are the same, those from the beginning are.
+      from-the-word : Matched text at other i j
+      from-the-word = record { passed = omega (arith, m .passed); level = omega (arith, m .passed, m .level); alike = alike }
+        where
+          alike : Alike text at other (i - at)
+          alike n l =
+              elim (decLt n word-bytes) [
+                | yes p ↦ same-word n p
+                | no q ↦
+                    let one : at + word-bytes + (n - word-bytes) ≡ at + n = omega arith in
+                    let two : other + word-bytes + (n - word-bytes) ≡ other + n = omega arith in
+                    rw (one, two) at (m .alike (n - word-bytes) (omega (arith, m .passed)))
+              ]
+
+      -- Before the line's end the next bytes of the same fact are the same.
       pub next-same : i < end → f ≡ g → SameByte text i j
       next-same l s =
+          let m = from-the-word in
           let here : at + (i - at) ≡ i = omega (arith, m .passed) in
           rw (here, ← m .level) at (same-bytes s (i - at) (omega (arith, m .passed, line-said .0 .place)))
 
       -- And where the bytes are the same up to its end, so are the facts.
       pub all-same : end ≤ i → f ≡ g
-      all-same l = same-fact (i - at) (m .alike) (omega (arith, line-said .0 .place))
+      all-same l = same-fact (i - at) (from-the-word .alike) (omega (arith, line-said .0 .place))

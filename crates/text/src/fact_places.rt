@@ -15,6 +15,9 @@ ghost use Rattle.procap.specs.Bytes.{many};
 ghost use Rattle.text.specs.Reader.{«fact-line»};
 ghost use Rattle.text.specs.Places.{OnLines, LinesReads, ReadsAt};
 
+// How many bytes the word takes with which every line of a fact begins.
+const WORD_BYTES: usize = 5;
+
 // Whether lines of facts were read, no two of them alike, where each begins, and the place after them.
 pub struct LinesRead {
     pub found: bool,
@@ -85,8 +88,14 @@ fn stood_before(
 fn same_line(text: &[u8], at: usize, end: usize, other: usize) -> bool
     ensures { λ r. ⌜ ((f g : Spelled) (e : ℕ) → ReadsAt (now (text .entry)) at f end → ReadsAt (now (text .entry)) other g e → Tells r (f ≡ g)) ⌝ }
 {
-    let mut i = at;
-    let mut k = other;
+    if text.len() <= at {
+        return false;
+    }
+    if text.len() <= other {
+        return false;
+    }
+    let mut i = at + WORD_BYTES;
+    let mut k = other + WORD_BYTES;
     while i < end {
         if text.len() <= i {
             return false;

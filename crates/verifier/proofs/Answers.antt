@@ -33,7 +33,7 @@ use Rattle.ledger.specs.declared.Stop.{Stop}
 use Rattle.ledger.specs.declared.Stop.the-variants.{Going, Stopped}
 use Rattle.ledger.specs.declared.Ledger.{Ledger}
 use Rattle.verifier.specs.declared.verify.Verified.{Verified}
-use Rattle.ledger.specs.Books.{Book, book, list-numbers, Sound, facts-in, kept-of, facts-said, reading-of, resume}
+use Rattle.ledger.specs.Books.{OnClock, stop-of, Book, book, list-numbers, Sound, facts-in, kept-of, facts-said, reading-of, resume}
 use Rattle.ledger.proofs.Giving.{stop-refused, stop-going}
 use Rattle.verifier.specs.Verifying.{Taken, Walked, Stops, CaseReads, verified-case, checked-case, HandsOver}
 use Rattle.verifier.proofs.CertificateLaws.{statements-count}
@@ -137,24 +137,24 @@ module _ (r : Request) (records : List Certificate) (buffer proof : List ℕ) {s
 -- ── The walk's end ──
 
 -- A book that has stopped is refused with its answer, one that goes on is granted what it keeps.
-resume-stopped : (state : List ℕ) (b : Book) (answer : Answer) → b .ledger .stop ≡ Stopped answer → resume state b (done (tt {0})) ≡ refused answer
+resume-stopped : (state : List ℕ) (b : Book) (answer : Answer) → stop-of (b .ledger) ≡ Stopped answer → resume state b (done (tt {0})) ≡ refused answer
 unfolding resume
 resume-stopped state b answer e = stop-refused _ answer _ e
 
-resume-going : (state : List ℕ) (b : Book) → b .ledger .stop ≡ Going → resume state b (done (tt {0})) ≡ granted (tt, kept-of b)
+resume-going : (state : List ℕ) (b : Book) → stop-of (b .ledger) ≡ Going → resume state b (done (tt {0})) ≡ granted (tt, kept-of b)
 unfolding resume run
 resume-going state b e = stop-going _ _ e
 
 module _ (r : Request) (buffer proof state rows : List ℕ) (reading : Reading) (list : List ℕ) (l : Ledger) (list′ : List ℕ)
-    (room : length list ≡ list-numbers) (walked : Walked r buffer proof state rows reading list l list′)
+    (on-clock : OnClock reading) (room : length list ≡ list-numbers) (walked : Walked r buffer proof state rows reading list l list′)
     (cs : List Statement) (N : Check) (reads : CaseReads rows buffer proof cs N) where
   came : Sound (book l list′) × (resume state (book l list′) (done (tt {0})) ≡ run (reading-of state reading) (walk r cs N) start)
-  came = walked cs N room (reads .certified) (reads .proof-reads)
+  came = walked cs N on-clock room (reads .certified) (reads .proof-reads)
 
-  walk-stopped : (answer : Answer) → l .stop ≡ Stopped answer → run (reading-of state reading) (walk r cs N) start ≡ refused answer
+  walk-stopped : (answer : Answer) → stop-of l ≡ Stopped answer → run (reading-of state reading) (walk r cs N) start ≡ refused answer
   walk-stopped answer e = sym (came .1) ∙ resume-stopped state (book l list′) answer e
 
-  walk-done : l .stop ≡ Going → run (reading-of state reading) (walk r cs N) start ≡ granted (tt, kept-of (book l list′))
+  walk-done : stop-of l ≡ Going → run (reading-of state reading) (walk r cs N) start ≡ granted (tt, kept-of (book l list′))
   walk-done e = sym (came .1) ∙ resume-going state (book l list′) e
 
   module _ (at-office : reading ≡ Office) (v : Verified) where
@@ -162,11 +162,11 @@ module _ (r : Request) (buffer proof state rows : List ℕ) (reading : Reading) 
     unfolding reading-of
     office-run = rw at-office refl
 
-    pub verify-stopped : (answer : Answer) → l .stop ≡ Stopped answer → v ≡ record { answer = answer; procap = empty-procap } → HandsOver (verified-case r cs N) v
+    pub verify-stopped : (answer : Answer) → stop-of l ≡ Stopped answer → v ≡ record { answer = answer; procap = empty-procap } → HandsOver (verified-case r cs N) v
     unfolding verified-case
     verify-stopped answer e f = hands-refusal _ answer v (refused-on _ _ answer (sym office-run ∙ walk-stopped answer e)) f
 
-    pub verify-issued : l .stop ≡ Going → (Sound (book l list′) → HandsOver (issue r (kept-of (book l list′))) v) → HandsOver (verified-case r cs N) v
+    pub verify-issued : stop-of l ≡ Going → (Sound (book l list′) → HandsOver (issue r (kept-of (book l list′))) v) → HandsOver (verified-case r cs N) v
     unfolding verified-case
     verify-issued e k =
         rw (goes-on (run office (walk r cs N) start) (λ w. issue r (w .1)) (tt, kept-of (book l list′)) (sym office-run ∙ walk-done e)) (k (came .0))
@@ -179,13 +179,13 @@ module _ (r : Request) (buffer proof state rows : List ℕ) (reading : Reading) 
     press-reads : read-press m state ≡ granted σ
     press-reads = reads-press m state σ in-range says
 
-    pub check-stopped : (a : Answer) → l .stop ≡ Stopped a → a ≡ answer-of (checked-case r cs N m state)
+    pub check-stopped : (a : Answer) → stop-of l ≡ Stopped a → a ≡ answer-of (checked-case r cs N m state)
     unfolding checked-case answer-of
     check-stopped a e =
         sym (ap answer-of (goes-on (read-press m state) (λ σ′. go-on (run (press m σ′) (walk r cs N) start) (λ w. granted (w .0))) σ press-reads
         ∙ refused-on (run (press m σ) (walk r cs N) start) (λ w. granted (w .0)) a (sym press-run ∙ walk-stopped a e)))
 
-    pub check-accepted : l .stop ≡ Going → Granted ≡ answer-of (checked-case r cs N m state)
+    pub check-accepted : stop-of l ≡ Going → Granted ≡ answer-of (checked-case r cs N m state)
     unfolding checked-case answer-of
     check-accepted e =
         sym (ap answer-of (goes-on (read-press m state) (λ σ′. go-on (run (press m σ′) (walk r cs N) start) (λ w. granted (w .0))) σ press-reads

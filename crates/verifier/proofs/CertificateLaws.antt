@@ -11,6 +11,7 @@ use borrow.Author.Tests.{leb-true, le-leb, lt-leb, not-true, not-false}
 use borrow.Author.Count.{below-more}
 use lib.ListN.{length, getD, take, drop}
 use lib.Dec.{leb}
+use Rattle.procap.proofs.Numbered.{time-back}
 use Rattle.procap.specs.Lists.{nth}
 use Rattle.procap.specs.Tells.{Tells}
 use Rattle.procap.specs.Outcome.{Outcome, granted, refused, go-on}
@@ -207,8 +208,8 @@ row-certifies buffer c s e =
           reads = formula-in-shifted buffer (c .start) (c .length) (h .inside) A (h .reads);
           filled = fill-nothing 0 A;
         };
-        from = refl;
-        to = refl;
+        from = time-back (c .from);
+        to = time-back (c .to);
       };
     })
 

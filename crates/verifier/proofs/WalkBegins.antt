@@ -1,10 +1,10 @@
 -- From a case that reads to the call of the walk: the reader finds the proof's step at the start, nothing is assumed, and the ledger keeps what verify starts with.
-use Prim.Native.Nat.{ℕ}
+use Prim.Native.Nat.{ℕ, _+_, _-_}
 use native.Mathlib.Omega.{arith}
 use mathlib.Core.Path.{_≡_, refl, _∙_}
 use mathlib.Core.List.{List, []}
 use lib.ListN.{length}
-use Rattle.procap.specs.Times.{earliest, latest}
+use Rattle.procap.specs.Numbered.{time-numbers, time-of}
 use Rattle.procap.specs.declared.time.Time.the-variants.{Ctime}
 use Rattle.procap.specs.declared.procap.Request.{Request}
 use Rattle.bl.specs.Trees.{Check}
@@ -15,13 +15,14 @@ use Rattle.bl.specs.Walk.{walk}
 use Rattle.bl.specs.Readings.{start, run}
 use Rattle.bl.proofs.Called.{proof-step}
 use Rattle.ledger.specs.declared.Reading.{Reading}
-use Rattle.ledger.specs.declared.Stop.the-variants.{Going}
+use Rattle.ledger.specs.declared.Reading.the-variants.{Office, Press}
 use Rattle.ledger.specs.declared.Ledger.{Ledger}
 use Rattle.judging.specs.declared.judge.Scope.{Scope}
 use Rattle.judging.specs.declared.judge.View.the-variants.{NoView}
 use Rattle.formula.specs.declared.parts.Judgement.{Judgement}
 use Rattle.judging.specs.declared.walk.Checked.{Checked}
-use Rattle.ledger.specs.Books.{book, list-numbers, Sound, facts-in, kept-of, reading-of, unless-stopped, resume}
+use Rattle.ledger.proofs.Stopping.{at-press}
+use Rattle.ledger.specs.Books.{OnClock, begun, stop-by, reading-by, book, list-numbers, Sound, facts-in, kept-of, reading-of, unless-stopped, resume}
 use Rattle.formula.specs.PutIn.{no-terms}
 use Rattle.formula.specs.Meaning.{Means}
 use Rattle.judging.specs.RowsOf.{Assumed, all-numbers}
@@ -29,43 +30,45 @@ use Rattle.judging.specs.Judging.{view-in}
 use Rattle.judging.specs.Walking.{Around, Checks}
 use Rattle.verifier.specs.Verifying.{Walked}
 
--- The ledger at the start.
-abbrev begun : Reading → Ledger
-begun reading = record { stop = Going; reading = reading; from = earliest; to = latest; count = 0 }
-
+-- The ledger at the start is sound.
 begun-sound : (reading : Reading) (list : List ℕ) → length list ≡ list-numbers → Sound (book (begun reading) list)
-begun-sound reading list room = record { room = room; few = omega arith; in-form = λ i h. absurd (omega arith) }
+unfolding begun
+begun-sound Office list room = record { room = room; few = omega arith; in-form = λ i h. absurd (omega arith) }
+begun-sound (Press m) list room = record { room = room; few = omega arith; in-form = λ i h. absurd (omega arith) }
 
 -- A walk read on from there is the walk read from what verify starts with.
 begun-resumes : (state list : List ℕ) (reading : Reading) (r : Request) (cs : List Statement) (N : Check)
     → resume state (book (begun reading) list) (walk r cs N) ≡ run (reading-of state reading) (walk r cs N) start
-unfolding resume unless-stopped kept-of facts-in
-begun-resumes state list reading r cs N = refl
+unfolding resume unless-stopped kept-of facts-in begun stop-by reading-by
+begun-resumes state list Office r cs N = refl
+begun-resumes state list (Press m) r cs N =
+    let same : m + 1 - 1 ≡ m = omega arith in
+    rw (at-press (m + 1) (λ e. omega arith), same)
 
 -- Where the walk of a request begins: nothing is assumed, and there is no view.
 abbrev outermost : Scope
 outermost = record { count = 0; shut = 0; view = NoView }
 
 abbrev goal-on-ctime : Judgement
-goal-on-ctime = record { formula = record { at = 0; terms = no-terms }; from = Ctime; to = Ctime }
+goal-on-ctime = record { formula = record { at = 0; terms = no-terms }; from = time-numbers Ctime; to = time-numbers Ctime }
 
 walk-of-goal : (r : Request) (buffer proof state rows assumptions goal-bytes : List ℕ) (reading : Reading) (list : List ℕ) (c : Checked) (list′ : List ℕ)
     → length assumptions ≡ all-numbers
     → Means goal-bytes 0 (record { at = 0; terms = no-terms }) (goal r)
     → Checks buffer proof state rows assumptions outermost (begun reading) list most-proof-levels goal-bytes goal-on-ctime 0 c list′
     → Walked r buffer proof state rows reading list (c .ledger) list′
-unfolding Assumed walk view-in
-walk-of-goal r buffer proof state rows assumptions goal-bytes reading list c list′ all-there means checks cs N room certified reads =
+unfolding Assumed walk view-in time-of
+walk-of-goal r buffer proof state rows assumptions goal-bytes reading list c list′ all-there means checks cs N on-clock room certified reads =
     let around : Around buffer rows assumptions outermost most-proof-levels cs [] = record { certified = certified; assumed = tt; shut-inside = omega arith; room = omega arith; all-there = all-there } in
     let passes = checks cs [] N (length proof) (begun-sound reading list room) around (proof-step (length cs) proof N reads) (goal r) means in
     (passes .gives .sound, passes .gives .resumed ∙ begun-resumes state list reading r cs N)
 
 -- So the walk from the goal of a request, with the ledger at its start, is the walk of the proof.
 pub walk-of-request : (r : Request) (buffer proof state rows assumptions goal-bytes : List ℕ) (reading : Reading) (list : List ℕ) (c : Checked) (list′ : List ℕ) (l : Ledger) (j : Judgement)
-    → l ≡ begun reading → j ≡ goal-on-ctime
+    → (OnClock reading → l ≡ begun reading) → j ≡ goal-on-ctime
     → length assumptions ≡ all-numbers
     → Means goal-bytes 0 (record { at = 0; terms = no-terms }) (goal r)
     → Checks buffer proof state rows assumptions outermost l list most-proof-levels goal-bytes j 0 c list′
     → Walked r buffer proof state rows reading list (c .ledger) list′
-walk-of-request r buffer proof state rows assumptions goal-bytes reading list c list′ l j is-begun is-goal all-there means checks =
-    walk-of-goal r buffer proof state rows assumptions goal-bytes reading list c list′ all-there means (rw (is-begun, is-goal) at checks)
+walk-of-request r buffer proof state rows assumptions goal-bytes reading list c list′ l j is-begun is-goal all-there means checks cs N on-clock =
+    walk-of-goal r buffer proof state rows assumptions goal-bytes reading list c list′ all-there means (rw (is-begun on-clock, is-goal) at checks) cs N on-clock

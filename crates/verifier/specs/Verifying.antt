@@ -5,6 +5,7 @@ use mathlib.Core.List.{List}
 use mathlib.Core.Option.{some}
 use lib.ListN.{length, getD}
 use Rattle.procap.specs.Desk.{read-press}
+use Rattle.procap.specs.Numbered.{time-numbers}
 use Rattle.procap.specs.Outcome.{Outcome, granted, refused, go-on, answer-of, procap-handed}
 use Rattle.procap.specs.declared.time.Time.the-variants.{Moment}
 use Rattle.procap.specs.declared.procap.Request.{Request}
@@ -22,7 +23,7 @@ use Rattle.ledger.specs.declared.Stop.{Stop}
 use Rattle.ledger.specs.declared.Stop.the-variants.{Going, Stopped}
 use Rattle.verifier.specs.declared.verify.Verified.{Verified}
 use Rattle.ledger.specs.declared.Ledger.{Ledger}
-use Rattle.ledger.specs.Books.{book, list-numbers, Sound, reading-of, resume}
+use Rattle.ledger.specs.Books.{OnClock, book, list-numbers, Sound, reading-of, resume}
 use Rattle.judging.specs.declared.rows.Row.{Row}
 use Rattle.judging.specs.declared.rows.Whose.the-variants.{Claim}
 use Rattle.formula.specs.PutIn.{no-terms}
@@ -36,7 +37,7 @@ no-record = record { principal = 0; from = Moment 0; to = Moment 0; start = 0; l
 abbrev pub row-of : Certificate → Row
 row-of c = record {
   whose = Claim (c .principal);
-  judgement = record { formula = record { at = c .start; terms = no-terms }; from = c .from; to = c .to };
+  judgement = record { formula = record { at = c .start; terms = no-terms }; from = time-numbers (c .from); to = time-numbers (c .to) };
 }
 
 -- A record is well formed.
@@ -46,7 +47,7 @@ WellFormedRecord buffer c = (s : Statement) × (statement-of buffer c ≡ some s
 -- The ledger and the list at the end are what the walk of the proof comes to.
 abbrev pub Walked : Request → List ℕ → List ℕ → List ℕ → List ℕ → Reading → List ℕ → Ledger → List ℕ → Type 0
 Walked r buffer proof state rows reading list l list′ =
-    (cs : List Statement) (N : Check) → length list ≡ list-numbers → Certified buffer rows cs → proof-in (length cs) proof ≡ some N
+    (cs : List Statement) (N : Check) → OnClock reading → length list ≡ list-numbers → Certified buffer rows cs → proof-in (length cs) proof ≡ some N
     → Sound (book l list′) × (resume state (book l list′) (done (tt {0})) ≡ run (reading-of state reading) (walk r cs N) start)
 
 -- An outcome goes on with a value, or is stopped by its answer.

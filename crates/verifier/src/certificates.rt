@@ -130,8 +130,8 @@ fn row_of(certificate: Certificate) -> Row
     };
     let judgement = Judgement {
         formula: formula,
-        from: from,
-        to: to,
+        from: from.numbers(),
+        to: to.numbers(),
     };
     Row {
         whose: Whose::Claim(certificate.principal as u64),

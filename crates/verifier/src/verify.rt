@@ -88,7 +88,7 @@ fn verify_case(request: Request, rows: &[u64], buffer: &[u8], proof: &[u8]) -> V
         &mut facts,
         Reading::Office,
     );
-    let stop = ledger.stop;
+    let stop = ledger.stop();
     match stop {
         Stop::Stopped(answer) => refused(answer),
         Stop::Going => issued(request, ledger, &facts),
@@ -189,7 +189,7 @@ fn check_case(
         &mut facts,
         Reading::Press(moment),
     );
-    let stop = ledger.stop;
+    let stop = ledger.stop();
     match stop {
         Stop::Stopped(answer) => answer,
         Stop::Going => Answer::Granted,

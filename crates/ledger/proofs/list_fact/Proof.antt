@@ -1,6 +1,6 @@
 -- A sound book has room for its facts and counts no more. The fact is listed, or the list is full, or the fact is put at its end.
 use borrow.Author.Needs.{needs}
-use mathlib.Core.Path.{refl, _∙_}
+use mathlib.Core.Path.{_∙_}
 use native.Mathlib.Omega.{arith}
 use Rattle.procap.proofs.Telling.{holds, fails, holds-else, fails-where}
 use Rattle.ledger.proofs.Asking.{already-listed, list-full, listed-last}
@@ -46,22 +46,26 @@ put-fact-requires c κs =
     let room = c .before .before .has-room in
     holds-else (room .result) (c .before .if3 .left) (room .ensures)
 
-add-t20 : tie.Need-add-t20
-add-t20 c = search needs
+add-keeping : tie.Need-add-keeping
+add-keeping c = search needs
+
+keeping-requires : tie.Need-keeping-requires
+keeping-requires c κs = search needs
 
 same-length-3 : tie.Need-same-length-3
 same-length-3 c = search needs
 
 returns-4 : tie.Need-returns-4
 returns-4 c =
-    let put = c .before .before .put-fact in
-    let at-room = c .before .before .before .before .before in
+    let at-put = c .before .before .before in
+    let put = at-put .put-fact in
+    let at-room = at-put .before .before .before in
     let room = at-room .has-room in
-    let fits = holds-else (room .result) (c .before .before .before .before .if3 .left) (room .ensures) in
+    let fits = holds-else (room .result) (at-put .before .before .if3 .left) (room .ensures) in
     let listed = at-room .before .before .before .is-listed in
     let new = fails (listed .result) (at-room .before .before .if2 .left) (listed .ensures) in
     λ state s o form.
-    listed-last _ _ _ _ _ s o new _ _ (fits .1) (put .kept .0 ∙ fits .0) (put .ensures .0) (put .ensures .1) form refl
+    listed-last _ _ _ _ _ s o new _ _ (fits .1) (put .kept .0 ∙ fits .0) (put .ensures .0) (put .ensures .1) form (c .keeping .ensures)
 
 pub list-fact-spec : {M : Type 1} → statement M
 list-fact-spec =
@@ -77,6 +81,7 @@ list-fact-spec =
     same-length-2
     returns-3
     put-fact-requires
-    add-t20
+    add-keeping
+    keeping-requires
     same-length-3
     returns-4)

@@ -36,7 +36,7 @@ returns-3 c =
     rw
     (by-tag _ _ _ (c .before .before .before .before .before .if1 .left) (c .before .before .before .of .ensures)
     (sym (told .ensures) ∙ not-false (told .result) (c .before .if2 .left)))
-    (c .term-by .ensures)
+    (c .term-by .ensures .0)
 
 pub settled-term-at-spec : {M : Type 1} → statement M
 settled-term-at-spec =

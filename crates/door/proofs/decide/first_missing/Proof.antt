@@ -1,4 +1,4 @@
--- The loop has passed the facts that hold; one that does not stand in the state is the first missing.
+-- The loop has passed the facts that hold; one that does not is the first missing.
 use borrow.Author.Needs.{needs}
 use Prim.Native.Nat.{_-_}
 use native.Mathlib.Omega.{arith}
@@ -24,16 +24,13 @@ mul-fact c = omega arith
 element-copy-out-fact : tie.Need-element-copy-out-fact Inv-loop μ-loop
 element-copy-out-fact c = omega arith
 
-at-moment-requires : tie.Need-at-moment-requires Inv-loop μ-loop
-at-moment-requires c κs = search needs
-
-stands-in-requires : tie.Need-stands-in-requires Inv-loop μ-loop
-stands-in-requires c κs = search needs
+holds-at-requires : tie.Need-holds-at-requires Inv-loop μ-loop
+holds-at-requires c κs = search needs
 
 returns : tie.Need-returns Inv-loop μ-loop
 returns c =
-    let told = c .before .stands-in in
-    listed-missing _ _ _ (search mapped) (search needs) _ (search needs) (search needs) _ (c .before .before .at-moment .ensures) (fails-where (told .result) (c .if1 .taken) (told .ensures))
+    let told = c .before .holds-at in
+    listed-missing _ _ _ (search mapped) (search needs) _ (search needs) (search needs) (λ σ s. fails-where (told .result) (c .if1 .taken) (told .ensures σ s))
 
 add-i : tie.Need-add-i Inv-loop μ-loop
 add-i c = omega arith
@@ -43,8 +40,8 @@ loop-less c = omega arith
 
 loop-again : tie.Need-loop-again Inv-loop μ-loop
 loop-again c =
-    let told = c .before .stands-in in
-    one-more-listed _ _ _ (search mapped) (search needs) _ (search needs) (search needs) _ (c .before .before .at-moment .ensures) (holds-else (told .result) (c .if1 .left) (told .ensures))
+    let told = c .before .holds-at in
+    one-more-listed _ _ _ (search mapped) (search needs) _ (search needs) (search needs) (λ σ s. holds-else (told .result) (c .if1 .left) (told .ensures σ s))
 
 returns-2 : tie.Need-returns-2 Inv-loop μ-loop
 returns-2 c = all-listed-passed _ _ _ (search mapped) (search needs) _ (c .before .loop .inv) (c .loop-test .left)
@@ -58,8 +55,7 @@ first-missing-spec =
     loop-holds
     mul-fact
     element-copy-out-fact
-    at-moment-requires
-    stands-in-requires
+    holds-at-requires
     returns
     add-i
     loop-less

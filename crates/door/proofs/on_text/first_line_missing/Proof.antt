@@ -1,4 +1,4 @@
--- The loop has passed the lines whose facts hold; one whose fact, read again, does not stand in the state has the first missing.
+-- The loop has passed the lines whose facts hold; one whose fact, read again, does not hold has the first missing.
 use borrow.Author.Needs.{needs}
 use Prim.Native.Nat.{_-_}
 use native.Mathlib.Omega.{arith}
@@ -25,19 +25,16 @@ array-read-fact-at c = omega arith
 fact-at-requires : tie.Need-fact-at-requires Inv-loop μ-loop
 fact-at-requires c κs = search needs
 
-at-moment-requires : tie.Need-at-moment-requires Inv-loop μ-loop
-at-moment-requires c κs = search needs
-
-stands-in-requires : tie.Need-stands-in-requires Inv-loop μ-loop
-stands-in-requires c κs = search needs
+holds-at-requires : tie.Need-holds-at-requires Inv-loop μ-loop
+holds-at-requires c κs = search needs
 
 returns : tie.Need-returns Inv-loop μ-loop
 returns c =
-    let told = c .before .stands-in in
-    let reads = c .before .before .before .before in
+    let told = c .before .holds-at in
+    let reads = c .before .before .before in
     let here = reads .before .before .loop .inv in
-    line-missing here (omega arith) (reads .before .loop-test .taken) (reads .fact-at .result) (reads .fact-at .ensures) _ (c .before .before .at-moment .ensures)
-    (fails-where (told .result) (c .if1 .taken) (told .ensures))
+    line-missing here (omega arith) (reads .before .loop-test .taken) (reads .fact-at .result) (reads .fact-at .ensures)
+    (λ σ s. fails-where (told .result) (c .if1 .taken) (told .ensures σ s))
 
 add-i : tie.Need-add-i Inv-loop μ-loop
 add-i c = omega arith
@@ -47,11 +44,11 @@ loop-less c = omega arith
 
 loop-again : tie.Need-loop-again Inv-loop μ-loop
 loop-again c =
-    let told = c .before .stands-in in
-    let reads = c .before .before .before .before in
+    let told = c .before .holds-at in
+    let reads = c .before .before .before in
     let here = reads .before .before .loop .inv in
-    one-more-line here (omega arith) (reads .before .loop-test .taken) (reads .fact-at .result) (reads .fact-at .ensures) _ (c .before .before .at-moment .ensures)
-    (holds-else (told .result) (c .if1 .left) (told .ensures))
+    one-more-line here (omega arith) (reads .before .loop-test .taken) (reads .fact-at .result) (reads .fact-at .ensures)
+    (λ σ s. holds-else (told .result) (c .if1 .left) (told .ensures σ s))
 
 returns-2 : tie.Need-returns-2 Inv-loop μ-loop
 returns-2 c = all-lines-passed (c .before .loop .inv) (omega arith) (c .loop-test .left)
@@ -66,8 +63,7 @@ first-line-missing-spec =
     mul-fact-at
     array-read-fact-at
     fact-at-requires
-    at-moment-requires
-    stands-in-requires
+    holds-at-requires
     returns
     add-i
     loop-less

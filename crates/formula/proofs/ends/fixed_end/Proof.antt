@@ -15,7 +15,7 @@ enum-told : tie.Need-enum-told
 enum-told c = search needs
 
 returns : tie.Need-returns
-returns c = λ sorts. no-term _ _ _ sorts (term-told _ (c .enum-told .given .1) (c .before .before .term-by .ensures))
+returns c = λ sorts. no-term _ _ _ sorts (term-told _ (c .enum-told .given .1) (c .before .before .term-by .ensures .0))
 
 enum-told-2 : tie.Need-enum-told-2
 enum-told-2 c = search needs
@@ -26,12 +26,12 @@ enum-told-3 c = search needs
 returns-2 : tie.Need-returns-2
 returns-2 c =
     let read = c .before .before .before in
-    λ sorts. a-name _ _ _ sorts _ _ _ (c .enum-told2 .given .1) (term-told _ (read .term .given .1) (read .before .before .term-by .ensures))
+    λ sorts. a-name _ _ _ sorts _ _ _ (c .enum-told2 .given .1) (term-told _ (read .term .given .1) (read .before .before .term-by .ensures .0))
 
 returns-3 : tie.Need-returns-3
 returns-3 c =
     let read = c .before .before .before in
-    λ sorts. a-time _ _ _ sorts _ _ _ (c .enum-told3 .given .1) (term-told _ (read .term .given .1) (read .before .before .term-by .ensures))
+    λ sorts. a-time _ _ _ sorts _ _ _ (c .enum-told3 .given .1) (term-told _ (read .term .given .1) (read .before .before .term-by .ensures .0))
 
 pub fixed-end-spec : {M : Type 1} → statement M
 fixed-end-spec =

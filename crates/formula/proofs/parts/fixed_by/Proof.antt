@@ -23,11 +23,11 @@ no-place-requires c κs = search needs
 returns : tie.Need-returns
 unfolding place-of
 returns c t e h =
-    let same = same-read _ (term-told _ (c .before .term .given .1) (c .before .before .before .term-by .ensures)) h in
+    let same = same-read _ (term-told _ (c .before .term .given .1) (c .before .before .before .term-by .ensures .0)) h in
     (ap fixed (same .0), same .1)
 
 returns-2 : tie.Need-returns-2
-returns-2 c t e h = absurd (not-read _ (term-told _ (c .before .enum-told .given .1) (c .before .before .before .term-by .ensures)) h)
+returns-2 c t e h = absurd (not-read _ (term-told _ (c .before .enum-told .given .1) (c .before .before .before .term-by .ensures .0)) h)
 
 pub fixed-by-spec : {M : Type 1} → statement M
 fixed-by-spec =

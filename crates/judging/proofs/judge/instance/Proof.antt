@@ -13,7 +13,7 @@ goes-on-requires c κs = search needs
 returns : tie.Need-returns
 returns c =
     let told = c .before .goes-on in
-    λ state b w e list y. halts y _ _ (fails-where (told .result) (c .if1 .taken) (told .ensures)) refl
+    λ form state b w e list y. halts y _ _ (fails-where (told .result) (c .if1 .taken) (told .ensures)) refl
 
 binder-of-requires : tie.Need-binder-of-requires
 binder-of-requires c κs = search needs
@@ -33,7 +33,7 @@ returns-2 c =
     let bound = told .before .before in
     let entered = bound .before in
     let going = holds-else (entered .before .goes-on .result) (entered .if1 .left) (entered .before .goes-on .ensures) in
-    λ state b w e list y.
+    λ form state b w e list y.
     goes-on y _ _
     (yields-nothing _ (y .gives .sound)
     (instance-missing (y .on going .means) _ _ _ _
@@ -55,13 +55,14 @@ returns-3 c =
     let bound = told .before .before in
     let entered = bound .before in
     let going = holds-else (entered .before .goes-on .result) (entered .if1 .left) (entered .before .goes-on .ensures) in
-    λ state b w e list y.
+    let put = c .before .before .with .ensures in
+    λ form state b w e list y.
     goes-on y _ _
     (takes-yields _ (y .gives .sound) (y .ends going)
     (instance-there _ (y .on going) _ _
     (holds-else (told .before .is-a .result) (told .if2 .left) (told .before .is-a .ensures) ∙ bound .binder-of .ensures)
     (c .before .past .ensures .0)
-    (c .before .before .with .ensures)
+    (put .0, (put .1 .0, put .1 .1 form))
     (c .on-interval .ensures)))
 
 pub instance-spec : {M : Type 1} → statement M

@@ -30,10 +30,11 @@ on-interval-requires c κs = search needs
 
 returns-2 : tie.Need-returns-2
 returns-2 c =
-    let told = c .before .before .before .before in
+    let span = c .before .before .before .before in
+    let told = span .before .before in
     λ F m.
-    at-taken m (c .before .before .before .past .ensures .0) _ (holds-else (told .before .is-a .result) (told .if1 .left) (told .before .is-a .ensures))
-    (c .before .before .span-at .ensures)
+    at-taken m (span .before .past .ensures .0) _ (holds-else (told .before .is-a .result) (told .if1 .left) (told .before .is-a .ensures))
+    (span .span-at .ensures)
     (c .on-interval .ensures)
 
 pub lifted-spec : {M : Type 1} → statement M

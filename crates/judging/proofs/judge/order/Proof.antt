@@ -25,17 +25,24 @@ past-requires c κs = search needs
 span-at-requires : tie.Need-span-at-requires
 span-at-requires c κs = search needs
 
+time-requires : tie.Need-time-requires
+time-requires c κs = search needs
+
+time-requires-2 : tie.Need-time-requires-2
+time-requires-2 c κs = search needs
+
 ask-order-requires : tie.Need-ask-order-requires
 ask-order-requires c κs = search needs
 
 returns-2 : tie.Need-returns-2
 returns-2 c =
-    let told = c .before .before .before .before in
+    let span = c .before .before .before .before .before .before in
+    let told = span .before .before in
     λ state list G s m.
-    order-taken m (c .before .before .before .past .ensures .0) _ (holds-else (told .before .is-a .result) (told .if1 .left) (told .before .is-a .ensures))
-    (c .before .before .span-at .ensures)
+    order-taken m (span .before .past .ensures .0) _ (holds-else (told .before .is-a .result) (told .if1 .left) (told .before .is-a .ensures))
+    (span .span-at .ensures)
     s
-    (c .ask-order .ensures state list)
+    (rw (c .before .before .time .ensures, c .before .time2 .ensures) at (c .ask-order .ensures state list))
 
 pub order-spec : {M : Type 1} → statement M
 order-spec =
@@ -46,5 +53,7 @@ order-spec =
     returns
     past-requires
     span-at-requires
+    time-requires
+    time-requires-2
     ask-order-requires
     returns-2)

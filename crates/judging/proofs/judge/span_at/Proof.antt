@@ -82,13 +82,20 @@ returns-4 c =
     let name = is-fixed (p .second) (c .before .before .before .before .before .before .before .other-place .given .1) ∙ ap fixed (c .before .enum-told4 .given .1) in
     unfit (no-second-time _ _ (name-no-time name)) (c .no-span4 .ensures)
 
+numbers-requires : tie.Need-numbers-requires
+numbers-requires c κs = search needs
+
+numbers-requires-2 : tie.Need-numbers-requires-2
+numbers-requires-2 c κs = search needs
+
 returns-5 : tie.Need-returns-5
 returns-5 c =
+    let read = c .before .before in
     λ sorts x y middle end few one other.
-    let p = placed (c .before .before .before .before .before .before .before .before .before .before .before .before) sorts x y middle end few one other in
-    let first = is-fixed (p .first) (c .before .before .before .before .before .before .before .before .before .before .one-place .given .1) ∙ ap fixed (c .before .before .before .before .one-term .given .1) in
-    let second = is-fixed (p .second) (c .before .before .before .before .before .before .before .other-place .given .1) ∙ ap fixed (c .before .other-term .given .1) in
-    takes (_, _) (times-there _ first second) refl (refl, refl, p .ends)
+    let p = placed (read .before .before .before .before .before .before .before .before .before .before .before .before) sorts x y middle end few one other in
+    let first = is-fixed (p .first) (read .before .before .before .before .before .before .before .before .before .before .one-place .given .1) ∙ ap fixed (read .before .before .before .before .one-term .given .1) in
+    let second = is-fixed (p .second) (read .before .before .before .before .before .before .before .other-place .given .1) ∙ ap fixed (read .before .other-term .given .1) in
+    takes (_, _) (times-there _ first second) refl (c .before .numbers .ensures, c .numbers2 .ensures, p .ends)
 
 pub span-at-spec : {M : Type 1} → statement M
 span-at-spec =
@@ -112,4 +119,6 @@ span-at-spec =
     enum-told-4
     no-span-requires-4
     returns-4
+    numbers-requires
+    numbers-requires-2
     returns-5)

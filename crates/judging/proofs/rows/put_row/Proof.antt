@@ -1,4 +1,4 @@
--- Where the rows have no such index they stay as they are. Else the five calls store the 24 numbers of the row one after another, so the row stands
+-- Where the rows have no such index they stay as they are. Else the five calls store the 16 numbers of the row one after another, so the row stands
 -- there and the others stay.
 use Prim.Native.Nat.{_*_}
 use mathlib.Core.Path.{_≡_, refl}
@@ -33,23 +33,11 @@ put-two-requires c κs = search needs
 add-put-two : tie.Need-add-put-two
 add-put-two c = search needs
 
-kind-requires-2 : tie.Need-kind-requires-2
-kind-requires-2 c κs = search needs
-
-value-requires-2 : tie.Need-value-requires-2
-value-requires-2 c κs = search needs
-
 put-two-requires-2 : tie.Need-put-two-requires-2
 put-two-requires-2 c κs = search needs
 
 add-put-two-2 : tie.Need-add-put-two-2
 add-put-two-2 c = search needs
-
-kind-requires-3 : tie.Need-kind-requires-3
-kind-requires-3 c κs = search needs
-
-value-requires-3 : tie.Need-value-requires-3
-value-requires-3 c κs = search needs
 
 put-two-requires-3 : tie.Need-put-two-requires-3
 put-two-requires-3 c κs = search needs
@@ -78,9 +66,9 @@ returns-3 c =
     let rest = c .before .before in
     let fourth = rest .before .before .before .before in
     let third = fourth .before .before .before .before in
-    let second = third .before .before .before .before .before .before in
-    let first = second .before .before .before .before .before .before in
-    let inside = first .before .before .before .before .before .before .before .before .before in
+    let second = third .before .before .before .before in
+    let first = second .before .before .before .before in
+    let inside = first .before .before .before .before .before .before .before .before .before .before .before in
     let start = inside .before .before in
     let rows = start .args .rows .now in
     let index = start .args .index in
@@ -88,9 +76,7 @@ returns-3 c =
     let put =
     row-put rows (index * row-numbers) row
     (first .before .before .kind .ensures) (first .before .value .ensures) (first .put-two .ensures)
-    (second .before .before .kind2 .ensures) (second .before .value2 .ensures) (second .put-two2 .ensures)
-    (third .before .before .kind3 .ensures) (third .before .value3 .ensures) (third .put-two3 .ensures)
-    (fourth .put-two4 .ensures) (rest .put-numbers .ensures) in
+    (second .put-two2 .ensures) (third .put-two3 .ensures) (fourth .put-two4 .ensures) (rest .put-numbers .ensures) in
     (λ room below _. row-there rows index row (full start) put (omega (arith, room, below)), row-elsewhere rows index row (full start) put)
 
 pub put-row-spec : {M : Type 1} → statement M
@@ -104,12 +90,8 @@ put-row-spec =
     value-requires
     put-two-requires
     add-put-two
-    kind-requires-2
-    value-requires-2
     put-two-requires-2
     add-put-two-2
-    kind-requires-3
-    value-requires-3
     put-two-requires-3
     add-put-two-3
     put-two-requires-4

@@ -986,7 +986,7 @@ infer-returns-7 t c =
     let after-if1 = after-past .before in
     let start = after-if1 .before .before .before .before .before .before .before in (
       infer-tagged _ _ _ _ _ _ _ _ _ (start .args .left - 1) _ _ _ _ (omega (arith, after-if1 .if1 .left)) (sym (after-infer-tag-at .infer-tag-at .ensures) ∙ after-enum-told6 .enum-told6 .given .1)
-          (λ inside. infer-instance _ _ _ _ _ _ _ _ _ _ inside _ (after-past .past .ensures .0) _ _ (after-term-at .term-at .ensures) _ _ (after-infer3 .infer3 .ensures .0) _ (c .instance .ensures)),
+          (λ inside. infer-instance _ _ _ _ _ _ _ _ _ _ inside _ (after-past .past .ensures .0) _ _ (after-term-at .term-at .ensures .0) _ _ (after-infer3 .infer3 .ensures .0) _ (c .instance .ensures (after-term-at .term-at .ensures .1))),
       after-infer3 .infer3 .ensures .1,
     )
 

@@ -22,11 +22,17 @@ enum-known-decision c = search needs
 larger-requires : tie.Need-larger-requires
 larger-requires c κs = search needs
 
+keeping-requires : tie.Need-keeping-requires
+keeping-requires c κs = search needs
+
 enum-known-decision-2 : tie.Need-enum-known-decision-2
 enum-known-decision-2 c = search needs
 
 smaller-requires : tie.Need-smaller-requires
 smaller-requires c κs = search needs
+
+keeping-requires-2 : tie.Need-keeping-requires-2
+keeping-requires-2 c κs = search needs
 
 returns : tie.Need-returns
 unfolding narrow
@@ -37,11 +43,11 @@ returns-2 c = λ state list t u s o d. rw (c .stopped .ensures) (order-fails _ _
 
 returns-3 : tie.Need-returns-3
 unfolding narrow kept-of
-returns-3 c = λ state list t u s o d. narrows _ _ _ _ _ _ _ s o d _ refl refl refl (rw (c .before .before .decision .given .1, c .larger .ensures))
+returns-3 c = λ state list t u s o d. rw (c .keeping .ensures) (narrows _ _ _ _ _ _ _ s o d _ refl refl refl (rw (c .before .before .before .decision .given .1, c .before .larger .ensures)))
 
 returns-4 : tie.Need-returns-4
 unfolding narrow kept-of
-returns-4 c = λ state list t u s o d. narrows _ _ _ _ _ _ _ s o d _ refl refl refl (rw (c .before .before .decision2 .given .1, c .smaller .ensures))
+returns-4 c = λ state list t u s o d. rw (c .keeping2 .ensures) (narrows _ _ _ _ _ _ _ s o d _ refl refl refl (rw (c .before .before .before .decision2 .given .1, c .before .smaller .ensures)))
 
 pub narrowed-spec : {M : Type 1} → statement M
 narrowed-spec =
@@ -52,8 +58,10 @@ narrowed-spec =
     stopped-requires
     enum-known-decision
     larger-requires
+    keeping-requires
     enum-known-decision-2
     smaller-requires
+    keeping-requires-2
     returns
     returns-2
     returns-3

@@ -1,22 +1,23 @@
--- By cases of the stop: only the first answer is kept.
+-- By cases of the number: only the first answer is kept.
 use borrow.Author.Needs.{needs}
+use borrow.Author.Tests.{eq-eqb, ne-eqb}
 use Rattle.ledger.specs.Books.{stopped-by}
 use Rattle.ledger.proofs.Ledger.stopped.Statement.{statement}
 use Rattle.ledger.proofs.Ledger.stopped.Tie as tie
 
-enum-told : tie.Need-enum-told
-enum-told c = search needs
-
-enum-told-2 : tie.Need-enum-told-2
-enum-told-2 c = search needs
-
 returns : tie.Need-returns
 unfolding stopped-by
-returns c = rw (c .enum-told .given .1)
+returns c = rw (ne-eqb _ 0 (c .if1 .taken))
+
+number-requires : tie.Need-number-requires
+number-requires c κs = search needs
+
+place-requires : tie.Need-place-requires
+place-requires c κs = search needs
 
 returns-2 : tie.Need-returns-2
 unfolding stopped-by
-returns-2 c = rw (c .enum-told2 .given .1)
+returns-2 c = rw (eq-eqb _ 0 (c .before .before .if1 .left), c .before .number .ensures, c .place .ensures)
 
 pub stopped-spec : {M : Type 1} → statement M
-stopped-spec = tie.close (tie.spec enum-told enum-told-2 returns returns-2)
+stopped-spec = tie.close (tie.spec returns number-requires place-requires returns-2)

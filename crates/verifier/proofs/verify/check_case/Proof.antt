@@ -2,9 +2,10 @@
 use borrow.Author.Needs.{needs}
 use Rattle.verifier.proofs.Answers.{check-stopped, check-accepted, moment-above, state-says-nothing}
 use Rattle.procap.proofs.Telling.{holds-else, fails-where}
-use mathlib.Core.Path.{refl}
+use mathlib.Core.Path.{refl, sym, _∙_}
 use lib.ListN.{replicate}
 use Rattle.state.specs.Standing.{WellFormed}
+use Rattle.ledger.specs.Books.{OnClock}
 use Rattle.verifier.proofs.verify.check_case.Statement.{statement}
 use Rattle.verifier.proofs.verify.check_case.Tie as tie
 
@@ -28,6 +29,9 @@ slice-aggregate-walked c = search needs
 walked-requires : tie.Need-walked-requires
 walked-requires c κs = search needs
 
+stop-requires : tie.Need-stop-requires
+stop-requires c κs = search needs
+
 enum-known-stop : tie.Need-enum-known-stop
 enum-known-stop c = search needs
 
@@ -35,7 +39,21 @@ enum-told : tie.Need-enum-told
 enum-told c = search needs
 
 returns-3 : tie.Need-returns-3
+unfolding OnClock
 returns-3 c =
+    let walk = c .before .before .before .before .before in
+    let formed = walk .before .before in
+    let told = formed .before .well-formed in
+    let moment = formed .before .before in
+    let state = moment .before .before .before .before .before .args .state .now in
+    let says : WellFormed state = holds-else (told .result) (formed .if2 .left) (told .ensures) in
+    λ cs N reads.
+    check-stopped _ _ _ _ _ _ (replicate 160 0) _ _ (moment .if1 .left) refl (walk .walked .ensures) cs N reads _ refl (moment .if1 .left)
+    (says .0) (says .1) _ (sym (c .before .before .before .stop .ensures) ∙ c .before .stop2 .given .1)
+
+returns-4 : tie.Need-returns-4
+unfolding OnClock
+returns-4 c =
     let walk = c .before .before .before .before in
     let formed = walk .before .before in
     let told = formed .before .well-formed in
@@ -43,20 +61,8 @@ returns-3 c =
     let state = moment .before .before .before .before .before .args .state .now in
     let says : WellFormed state = holds-else (told .result) (formed .if2 .left) (told .ensures) in
     λ cs N reads.
-    check-stopped _ _ _ _ _ _ (replicate 160 0) _ _ refl (walk .walked .ensures) cs N reads _ refl (moment .if1 .left)
-    (says .0) (says .1) _ (c .before .stop .given .1)
-
-returns-4 : tie.Need-returns-4
-returns-4 c =
-    let walk = c .before .before .before in
-    let formed = walk .before .before in
-    let told = formed .before .well-formed in
-    let moment = formed .before .before in
-    let state = moment .before .before .before .before .before .args .state .now in
-    let says : WellFormed state = holds-else (told .result) (formed .if2 .left) (told .ensures) in
-    λ cs N reads.
-    check-accepted _ _ _ _ _ _ (replicate 160 0) _ _ refl (walk .walked .ensures) cs N reads _ refl (moment .if1 .left)
-    (says .0) (says .1) (c .enum-told .given .1)
+    check-accepted _ _ _ _ _ _ (replicate 160 0) _ _ (moment .if1 .left) refl (walk .walked .ensures) cs N reads _ refl (moment .if1 .left)
+    (says .0) (says .1) (sym (c .before .before .stop .ensures) ∙ c .enum-told .given .1)
 
 pub check-case-spec : {M : Type 1} → statement M
 check-case-spec =
@@ -67,6 +73,7 @@ check-case-spec =
     returns-2
     slice-aggregate-walked
     walked-requires
+    stop-requires
     enum-known-stop
     enum-told
     returns-3

@@ -23,33 +23,18 @@ sub-index-2 c = search needs
 returns-3 : tie.Need-returns-3
 returns-3 c few = absurd (omega (arith, few .few, c .if3 .taken))
 
-mul-of-numbers : tie.Need-mul-of-numbers
-mul-of-numbers c = search needs
+mul-of-number : tie.Need-mul-of-number
+mul-of-number c = search needs
 
-mul-of-numbers-2 : tie.Need-mul-of-numbers-2
-mul-of-numbers-2 c = search needs
+element-copy-out-of-number : tie.Need-element-copy-out-of-number
+element-copy-out-of-number c = search needs
 
-element-copy-out-of-numbers : tie.Need-element-copy-out-of-numbers
-element-copy-out-of-numbers c = search needs
-
-mul-of-numbers-3 : tie.Need-mul-of-numbers-3
-mul-of-numbers-3 c = search needs
-
-add-of-numbers : tie.Need-add-of-numbers
-add-of-numbers c = search needs
-
-mul-of-numbers-4 : tie.Need-mul-of-numbers-4
-mul-of-numbers-4 c = search needs
-
-element-copy-out-of-numbers-2 : tie.Need-element-copy-out-of-numbers-2
-element-copy-out-of-numbers-2 c = search needs
-
-of-numbers-requires : tie.Need-of-numbers-requires
-of-numbers-requires c κs = search needs
+of-number-requires : tie.Need-of-number-requires
+of-number-requires c κs = search needs
 
 returns-4 : tie.Need-returns-4
 unfolding place-of slot
-returns-4 c few = is-put _ _ _ (omega arith) _ (omega arith) (c .of-numbers .ensures)
+returns-4 c few = is-put _ _ _ (omega arith) _ (omega arith) (c .of-number .ensures)
 
 pub look-up-spec : {M : Type 1} → statement M
 look-up-spec =
@@ -60,12 +45,7 @@ look-up-spec =
     sub-index
     sub-index-2
     returns-3
-    mul-of-numbers
-    mul-of-numbers-2
-    element-copy-out-of-numbers
-    mul-of-numbers-3
-    add-of-numbers
-    mul-of-numbers-4
-    element-copy-out-of-numbers-2
-    of-numbers-requires
+    mul-of-number
+    element-copy-out-of-number
+    of-number-requires
     returns-4)
