@@ -90,11 +90,7 @@ fn case_with(input: &[u8], at: usize, request: Request, count: usize, bytes: &mu
 fn no_case(broken: usize) -> CaseRead
     ensures { λ r. ⌜ r .form ≡ Form.BrokenAt broken ⌝ }
 {
-    let request = Request {
-        who: 0,
-        what: 0,
-        right: 0,
-    };
+    let request = Request::none();
     let certificates = no_certificates();
     CaseRead {
         form: Form::BrokenAt(broken),
@@ -134,11 +130,7 @@ fn request_at(input: &[u8]) -> RequestRead
 fn no_request(broken: usize) -> RequestRead
     ensures { λ r. ⌜ r .form ≡ Form.BrokenAt broken ⌝ }
 {
-    let request = Request {
-        who: 0,
-        what: 0,
-        right: 0,
-    };
+    let request = Request::none();
     RequestRead {
         form: Form::BrokenAt(broken),
         request: request,

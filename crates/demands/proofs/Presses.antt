@@ -6,7 +6,7 @@ use mathlib.Core.Path.{_≡_, refl}
 use mathlib.Core.List.{List, [], _∷_}
 use Rattle.procap.specs.Lists.{All}
 use Rattle.procap.specs.Facts.{spelled}
-use Rattle.procap.specs.Procaps.{listed, empty-procap}
+use Rattle.procap.specs.Procaps.{listed, request-of, empty-procap}
 use Rattle.procap.specs.Answers.{number-of, place-of}
 use Rattle.procap.specs.Outcome.{answer-of, procap-handed}
 use Rattle.procap.specs.Writable.{TermInForm}
@@ -18,7 +18,7 @@ use Rattle.bl.proofs.CaseP.{request-P, records-P, buffer-P, proof-P, computes a
 use Rattle.text.specs.Words.{bytes-of}
 use Rattle.text.specs.Calls.{reading}
 use Rattle.text.proofs.Samples.{computes as texts-compute}
-use Rattle.door.specs.Door.{each-holds, opening, opening-text, request-of}
+use Rattle.door.specs.Door.{each-holds, opening, opening-text}
 
 -- Case P's text.
 abbrev pub text-P : String

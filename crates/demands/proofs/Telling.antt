@@ -8,20 +8,17 @@ use native.Mathlib.Decide.{decLe}
 use native.Mathlib.Omega.{arith}
 use lib.ListN.{length, take, drop}
 use lib.Seq.{take-append-seam}
-use Rattle.procap.specs.Times.{latest}
 use Rattle.procap.specs.Procaps.{empty-procap}
 use Rattle.procap.specs.Writable.{Writable}
 use Rattle.procap.specs.Answers.{number-of}
 use Rattle.procap.specs.Outcome.{Outcome, granted, refused, answer-of, procap-handed}
-use Rattle.procap.specs.States.{stated}
-use Rattle.procap.specs.Desk.{read-press}
 use Rattle.procap.specs.Deciding.{writable?}
 use Rattle.procap.specs.declared.answer.Answer.{Answer}
-use Rattle.procap.specs.declared.answer.Answer.the-variants.{Granted, StateMalformed, MomentAboveLatest, ProcapMalformed, BufferShort}
+use Rattle.procap.specs.declared.answer.Answer.the-variants.{Granted, ProcapMalformed, BufferShort}
 use Rattle.procap.specs.declared.procap.Request.{Request}
 use Rattle.procap.specs.declared.procap.Procap.{Procap}
 use Rattle.procap.proofs.Granted.{goes-on}
-use Rattle.procap.proofs.Refused.{IfRefused, go-on-refused, require-refused, or-else-refused}
+use Rattle.procap.proofs.Refused.{IfRefused, go-on-refused, require-refused, or-else-refused, press-refused}
 use Rattle.bl.specs.declared.Certificate.{Certificate}
 use Rattle.bl.specs.Calls.{verified, directly}
 use Rattle.bl.specs.Accepting.{AcceptedSomewhere}
@@ -87,19 +84,13 @@ procap-tells o h answer p told handed = (
 
 -- ── The office ──
 
--- No refusal of a press or of the direct check has the answer 0.
-press-refuses : (m : ℕ) (state : List ℕ) → IfRefused Refuses (read-press m state)
-unfolding read-press
-press-refuses m state =
-    go-on-refused Refuses _ _ (require-refused Refuses MomentAboveLatest (decLe m latest) (omega arith))
-    (λ _ _. or-else-refused Refuses StateMalformed (stated state) (omega arith))
-
 module _ (r : Request) (records : List Certificate) (buffer proof : List ℕ) where
+  -- No refusal of the direct check has the answer 0.
   directly-refuses : (m : ℕ) (state : List ℕ) → IfRefused Refuses (directly r records buffer proof m state)
   unfolding directly
   directly-refuses m state =
       go-on-refused Refuses _ _ (case-refused Refuses (λ i. omega arith) (omega arith) records buffer proof) λ x _.
-      go-on-refused Refuses _ _ (press-refuses m state) λ σ _.
+      go-on-refused Refuses _ _ (press-refused Refuses (omega arith) (omega arith) m state) λ σ _.
       go-on-refused Refuses _ _ (run-refused Refuses (λ q. omega arith) (λ q. omega arith) (λ q. omega arith) (λ q. omega arith) _ _ _) λ w _.
       tt
 

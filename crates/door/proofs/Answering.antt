@@ -6,20 +6,17 @@ use mathlib.Core.Logic.{_↔_}
 use native.Mathlib.Decide.{decLe}
 use native.Mathlib.Omega.{arith}
 use lib.ListN.{length}
-use Rattle.procap.specs.Times.{latest}
 use Rattle.procap.specs.Facts.{Spelled, spelled}
 use Rattle.procap.specs.Procaps.{listed, most-facts}
 use Rattle.procap.specs.Answers.{number-of, place-of}
 use Rattle.procap.specs.Outcome.{Outcome, granted, refused, answer-of}
-use Rattle.procap.specs.States.{stated}
-use Rattle.procap.specs.Desk.{read-press}
 use Rattle.procap.specs.Deciding.{writable?, request?, holds-at?}
 use Rattle.procap.specs.declared.answer.Answer.{Answer}
-use Rattle.procap.specs.declared.answer.Answer.the-variants.{StateMalformed, RequestDiffers, MomentOutside, FactMissing, MomentAboveLatest, ProcapMalformed}
+use Rattle.procap.specs.declared.answer.Answer.the-variants.{RequestDiffers, MomentOutside, FactMissing, ProcapMalformed}
 use Rattle.procap.specs.declared.procap.Request.{Request}
 use Rattle.procap.specs.declared.procap.Procap.{Procap}
 use Rattle.procap.proofs.Granted.{was-so}
-use Rattle.procap.proofs.Refused.{IfRefused, go-on-refused, require-refused, or-else-refused}
+use Rattle.procap.proofs.Refused.{IfRefused, go-on-refused, require-refused, or-else-refused, press-refused}
 use Rattle.procap.proofs.Indices.{made-length}
 use Rattle.text.specs.Reader.{text-in}
 use Rattle.text.specs.Calls.{reading}
@@ -33,16 +30,10 @@ Refuses answer = (0 < number-of answer) × (place-of answer < most-facts)
 abbrev pub RefusesWell : {A : Type 0} → Outcome A → Type 0
 RefusesWell x = IfRefused Refuses x
 
-press-refuses : (m : ℕ) (state : List ℕ) → RefusesWell (read-press m state)
-unfolding read-press
-press-refuses m state =
-    go-on-refused Refuses _ _ (require-refused Refuses MomentAboveLatest (decLe m latest) (omega arith, omega arith))
-    (λ _ _. or-else-refused Refuses StateMalformed (stated state) (omega arith, omega arith))
-
 pub before-refuses : (asked : Request) (from to : ℕ) (r : Request) (m : ℕ) (state : List ℕ) → RefusesWell (before-facts asked from to r m state)
 unfolding before-facts
 before-refuses asked from to r m state =
-    go-on-refused Refuses _ _ (press-refuses m state) λ σ _.
+    go-on-refused Refuses _ _ (press-refused Refuses (omega arith, omega arith) (omega arith, omega arith) m state) λ σ _.
     go-on-refused Refuses _ _ (require-refused Refuses RequestDiffers (request? r asked) (omega arith, omega arith)) λ _ _.
     go-on-refused Refuses _ _ (require-refused Refuses MomentOutside (decLe from m) (omega arith, omega arith)) λ _ _.
     go-on-refused Refuses _ _ (require-refused Refuses MomentOutside (decLe m to) (omega arith, omega arith)) λ _ _.
@@ -64,7 +55,7 @@ opening-refuses : (p : Procap) (r : Request) (m : ℕ) (state : List ℕ) → Re
 unfolding opening
 opening-refuses p r m state =
     go-on-refused Refuses _ _ (require-refused Refuses ProcapMalformed (writable? p) (omega arith, omega arith)) λ u e.
-    go-on-refused Refuses _ _ (press-refuses m state) λ σ _.
+    go-on-refused Refuses _ _ (press-refused Refuses (omega arith, omega arith) (omega arith, omega arith) m state) λ σ _.
     go-on-refused Refuses _ _ (require-refused Refuses RequestDiffers (request? r (p .request)) (omega arith, omega arith)) λ _ _.
     go-on-refused Refuses _ _ (require-refused Refuses MomentOutside (decLe (p .from) m) (omega arith, omega arith)) λ _ _.
     go-on-refused Refuses _ _ (require-refused Refuses MomentOutside (decLe m (p .to)) (omega arith, omega arith)) λ _ _.

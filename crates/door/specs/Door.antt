@@ -51,10 +51,6 @@ opening p r m state =
 unfoldable pub opening-text : List ℕ → Request → ℕ → List ℕ → Outcome (Unit {0})
 opening-text text r m state = go-on (reading text) λ p. opening p r m state
 
--- The request of three numbers.
-abbrev pub request-of : ℕ → ℕ → ℕ → Request
-request-of who what right = record { who = who; what = what; right = right }
-
 -- [Two questions] What is handed to C: 256 times the number plus the place.
 abbrev pub packed : Answer → ℕ
 packed answer = 256 * number-of answer + place-of answer

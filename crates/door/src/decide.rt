@@ -8,10 +8,10 @@ use state::well_formed;
 ghost use mathlib.Core.Path.{_≡_};
 ghost use Prim.Native.Nat.{_≤_};
 ghost use Rattle.procap.specs.Tells.{Tells};
-ghost use Rattle.procap.specs.Procaps.{listed, «most-facts»};
+ghost use Rattle.procap.specs.Procaps.{listed, «most-facts», «request-of»};
 ghost use Rattle.procap.specs.Writable.{Writable};
 ghost use Rattle.procap.specs.Outcome.{«answer-of»};
-ghost use Rattle.door.specs.Door.{NamesMissing, «before-facts», opening, «request-of»};
+ghost use Rattle.door.specs.Door.{NamesMissing, «before-facts», opening};
 
 // What the door answers to a press for a request of three numbers, at a moment in a state.
 pub(crate) fn decide(

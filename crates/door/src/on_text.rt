@@ -10,11 +10,11 @@ ghost use mathlib.Core.List.{List};
 ghost use Prim.Native.Nat.{_≤_, _<_};
 ghost use lib.ListN.{take};
 ghost use Rattle.procap.specs.Facts.{Spelled};
-ghost use Rattle.procap.specs.Procaps.{«most-facts»};
+ghost use Rattle.procap.specs.Procaps.{«most-facts», «request-of»};
 ghost use Rattle.text.specs.Places.{OnLines};
 ghost use Rattle.procap.specs.Answers.{«place-of»};
 ghost use Rattle.procap.specs.Outcome.{«answer-of»};
-ghost use Rattle.door.specs.Door.{«opening-text», «request-of», NamesMissing, packed};
+ghost use Rattle.door.specs.Door.{«opening-text», NamesMissing, packed};
 
 // What the door answers, as 256 times the number plus the place. 12 comes first, for bytes that are no text; a number that is no name is in no request.
 #[no_mangle]

@@ -9,10 +9,6 @@ use Rattle.door.specs.Door.{opening}
 use Rattle.from_c.specs.Records.{records-in}
 use Rattle.from_c.specs.Values.{value-in}
 
--- The request of three names.
-abbrev pub asked-for : ℕ → ℕ → ℕ → Request
-asked-for who what right = record { who = who; what = what; right = right }
-
 -- Verify, and then the text of the procap into a buffer with so much room.
 unfoldable pub verifying : Request → List ℕ → List ℕ → List ℕ → ℕ → Outcome (List ℕ)
 verifying r records buffer proof room = go-on (verified r (records-in records) buffer proof) λ p. writing p room

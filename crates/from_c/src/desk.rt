@@ -7,10 +7,11 @@ use procap::answer::Answer;
 use procap::procap::Request;
 use text::reader::read_text;
 ghost use mathlib.Core.Path.{_≡_};
+ghost use Rattle.procap.specs.Procaps.{«request-of»};
 ghost use Rattle.procap.specs.Outcome.{«answer-of»};
 ghost use Rattle.door.specs.Door.{«opening-text»};
 ghost use Rattle.from_c.specs.Packing.{packed};
-ghost use Rattle.from_c.specs.Calls.{«asked-for», «value-opening», «opened-of»};
+ghost use Rattle.from_c.specs.Calls.{«value-opening», «opened-of»};
 
 // What the door answers to a procap value, as one number: 12 for bytes that are no value.
 #[no_mangle]
@@ -22,16 +23,12 @@ pub extern "C" fn desk_door_on_value(
     moment: u64,
     state: &[u8],
 ) -> u64
-    ensures { λ r. ⌜ r ≡ packed («answer-of» («value-opening» (now (value .entry)) («asked-for» who what right) moment (now (state .entry)))) 0 ⌝ }
+    ensures { λ r. ⌜ r ≡ packed («answer-of» («value-opening» (now (value .entry)) («request-of» who what right) moment (now (state .entry)))) 0 ⌝ }
 {
     if value.len() != VALUE_BYTES {
         return as_number(Answer::ProcapMalformed, 0);
     }
-    let request = Request {
-        who: who,
-        what: what,
-        right: right,
-    };
+    let request = Request::of(who, what, right);
     as_number(open(value_of(value), request, moment, state), 0)
 }
 
@@ -46,7 +43,7 @@ pub extern "C" fn desk_presses(
     state: &[u8],
     presses: u64,
 ) -> u64
-    ensures { λ r. ⌜ r ≡ «opened-of» («opening-text» (now (text .entry)) («asked-for» who what right) moment (now (state .entry))) presses ⌝ }
+    ensures { λ r. ⌜ r ≡ «opened-of» («opening-text» (now (text .entry)) («request-of» who what right) moment (now (state .entry))) presses ⌝ }
 {
     let read = read_text(text);
     let answer = read.answer;
@@ -56,11 +53,7 @@ pub extern "C" fn desk_presses(
     let mut opened: u64 = 0;
     let mut i: u64 = 0;
     while i < presses {
-        let request = Request {
-            who: who,
-            what: what,
-            right: right,
-        };
+        let request = Request::of(who, what, right);
         let procap = read.procap;
         let pressed = open(procap, request, moment, state);
         if pressed.number() == 0 {

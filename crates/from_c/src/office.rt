@@ -12,13 +12,14 @@ use text::reader::read_text;
 use text::writer::write_text;
 ghost use mathlib.Core.Path.{_≡_};
 ghost use lib.ListN.{length};
+ghost use Rattle.procap.specs.Procaps.{«request-of»};
 ghost use Rattle.procap.specs.Outcome.{«answer-of»};
 ghost use Rattle.bl.specs.Calls.{directly};
 ghost use Rattle.text.specs.Calls.{«buffer-left»};
 ghost use Rattle.cases.specs.Calls.{answering};
 ghost use Rattle.from_c.specs.Packing.{packed, «packed-text»};
 ghost use Rattle.from_c.specs.Records.{«records-in»};
-ghost use Rattle.from_c.specs.Calls.{«asked-for», verifying, rewriting, «value-writing»};
+ghost use Rattle.from_c.specs.Calls.{verifying, rewriting, «value-writing»};
 
 // Verifies, and puts the text of the procap at the front of the buffer that is lent for it: 13 where it is shorter. The answer comes as one number.
 #[no_mangle]
@@ -31,14 +32,10 @@ pub extern "C" fn office_verify(
     proof: &[u8],
     out: &mut [u8],
 ) -> u64
-    ensures answer { λ r. ⌜ r ≡ «packed-text» (verifying («asked-for» who what right) (now (records .entry)) (now (buffer .entry)) (now (proof .entry)) (length (now (out .entry)))) ⌝ }
-    ensures buffer { λ r. ⌜ now (out .exit) ≡ «buffer-left» (verifying («asked-for» who what right) (now (records .entry)) (now (buffer .entry)) (now (proof .entry)) (length (now (out .entry)))) (now (out .entry)) ⌝ }
+    ensures answer { λ r. ⌜ r ≡ «packed-text» (verifying («request-of» who what right) (now (records .entry)) (now (buffer .entry)) (now (proof .entry)) (length (now (out .entry)))) ⌝ }
+    ensures buffer { λ r. ⌜ now (out .exit) ≡ «buffer-left» (verifying («request-of» who what right) (now (records .entry)) (now (buffer .entry)) (now (proof .entry)) (length (now (out .entry)))) (now (out .entry)) ⌝ }
 {
-    let request = Request {
-        who: who,
-        what: what,
-        right: right,
-    };
+    let request = Request::of(who, what, right);
     let table = records_in(records);
     let count = table.count;
     let lent = table.records;
@@ -65,13 +62,9 @@ pub extern "C" fn office_direct(
     moment: u64,
     state: &[u8],
 ) -> u64
-    ensures { λ r. ⌜ r ≡ packed («answer-of» (directly («asked-for» who what right) («records-in» (now (records .entry))) (now (buffer .entry)) (now (proof .entry)) moment (now (state .entry)))) 0 ⌝ }
+    ensures { λ r. ⌜ r ≡ packed («answer-of» (directly («request-of» who what right) («records-in» (now (records .entry))) (now (buffer .entry)) (now (proof .entry)) moment (now (state .entry)))) 0 ⌝ }
 {
-    let request = Request {
-        who: who,
-        what: what,
-        right: right,
-    };
+    let request = Request::of(who, what, right);
     let table = records_in(records);
     let count = table.count;
     let lent = table.records;

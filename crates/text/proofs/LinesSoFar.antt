@@ -14,7 +14,7 @@ use Rattle.procap.specs.Lists.{In, Distinct}
 use Rattle.procap.specs.Facts.{Spelled}
 use Rattle.procap.specs.Procaps.{most-facts}
 use Rattle.procap.specs.Bytes.{then, many}
-use Rattle.procap.proofs.InMore.{in-more, in-last, in-before}
+use Rattle.procap.proofs.InMore.{in-more, in-last, one-more-distinct}
 use Rattle.procap.proofs.ReadSoFar.{led-by, led-by-nothing, led-by-one, led-more, led-none, led-all}
 use Rattle.text.specs.Reader.{fact-line}
 use Rattle.text.specs.Places.{ReadsAt, OnLines, LinesFound, LinesReads}
@@ -23,18 +23,12 @@ use Rattle.text.proofs.OnLines.{on-more}
 
 -- ── No element twice ──
 
--- One element more that is not there yet leaves none twice; one that is there already is there twice, whatever follows.
-module _ {A : Type 0} (x : A) where
-  more-distinct : (xs : List A) → Distinct xs → (In x xs → ⊥) → Distinct (xs ++ (x ∷ []))
-  unfolding Distinct In
-  more-distinct [] d n = (λ h. h, tt)
-  more-distinct (y ∷ xs) d n = (λ h. d .0 (in-before y xs x (λ e. n (inl (sym e))) h), more-distinct xs (d .1) (λ h. n (inr h)))
-
-  there-twice : (xs ys : List A) → In x xs → Distinct ((xs ++ (x ∷ [])) ++ ys) → ⊥
-  unfolding Distinct In
-  there-twice [] ys h d = h
-  there-twice (y ∷ xs) ys (inl e) d = d .0 (in-more y (xs ++ (x ∷ [])) ys (in-last y xs x (sym e)))
-  there-twice (y ∷ xs) ys (inr h) d = there-twice xs ys h (d .1)
+-- One element more that is there already is there twice, whatever follows.
+there-twice : {A : Type 0} (x : A) (xs ys : List A) → In x xs → Distinct ((xs ++ (x ∷ [])) ++ ys) → ⊥
+unfolding Distinct In
+there-twice x [] ys h d = h
+there-twice x (y ∷ xs) ys (inl e) d = d .0 (in-more y (xs ++ (x ∷ [])) ys (in-last y xs x (sym e)))
+there-twice x (y ∷ xs) ys (inr h) d = there-twice x xs ys h (d .1)
 
 -- What is read with some values before it begins with these.
 led-some : {A : Type 0} (xs : List A) (o : Option (List A × ℕ)) (zs : List A) (e : ℕ) → led-by xs o ≡ some (zs, e) → (ys : List A) × (zs ≡ xs ++ ys)
@@ -118,7 +112,7 @@ module _ {text : List ℕ} {at count : ℕ} {places : List ℕ} {next i : ℕ} (
         facts = h .facts ++ (f ∷ []);
         counted = omega (arith, length-append (h .facts) (f ∷ []), h .counted);
         reads = more-read;
-        distinct = more-distinct f (h .facts) (h .distinct) n;
+        distinct = one-more-distinct f (h .facts) (h .distinct) n;
         on = rw (add-one, take-suc-set places i next (omega (arith, h .room))) (on-more text (take i places) (h .facts) next f end (h .on) r);
       }
 

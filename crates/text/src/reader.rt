@@ -128,11 +128,7 @@ fn look_over_facts(text: &[u8], request: Request, from: u64, to: u64, at: usize)
 fn nothing_seen() -> Overview
     ensures { λ r. ⌜ r .found ≡ Bool.false ⌝ }
 {
-    let request = Request {
-        who: 0,
-        what: 0,
-        right: 0,
-    };
+    let request = Request::none();
     Overview {
         found: false,
         request: request,
@@ -184,11 +180,7 @@ fn request_at(text: &[u8], at: usize) -> RequestRead
 fn no_request() -> RequestRead
     ensures { λ r. ⌜ r .found ≡ Bool.false ⌝ }
 {
-    let request = Request {
-        who: 0,
-        what: 0,
-        right: 0,
-    };
+    let request = Request::none();
     RequestRead {
         found: false,
         request: request,

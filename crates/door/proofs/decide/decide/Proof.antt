@@ -1,7 +1,7 @@
 -- What comes before the facts is the answer where it is no 0, and else the facts give it.
 use borrow.Author.Needs.{needs}
 use mathlib.Core.Path.{sym, _∙_}
-use Rattle.door.specs.Door.{request-of}
+use Rattle.procap.specs.Procaps.{request-of}
 use Rattle.door.proofs.BeforeFacts.{by-what-comes-before, by-the-facts}
 use Rattle.door.proofs.decide.decide.Statement.{statement}
 use Rattle.door.proofs.decide.decide.Tie as tie

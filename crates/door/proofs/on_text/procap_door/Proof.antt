@@ -2,11 +2,12 @@
 use mathlib.Core.Bool.{true}
 use mathlib.Core.Path.{_≡_, sym, ap, _∙_}
 use borrow.Author.Needs.{needs}
+use Rattle.procap.specs.Procaps.{request-of}
 use Rattle.procap.specs.Outcome.{answer-of}
 use Rattle.text.specs.Calls.{reading}
 use Rattle.text.specs.Places.{SeesBy}
 use Rattle.text.proofs.Readings.{overview-missing, overview-found}
-use Rattle.door.specs.Door.{opening-text, packed, request-of}
+use Rattle.door.specs.Door.{opening-text, packed}
 use Rattle.door.proofs.Texts.{no-text, small-place, seen-before, seen-by-the-facts}
 use Rattle.door.proofs.on_text.procap_door.Statement.{statement}
 use Rattle.door.proofs.on_text.procap_door.Tie as tie

@@ -37,6 +37,9 @@ as-number-requires c κs = search needs
 returns : tie.Need-returns
 returns c = c .as-number .ensures ∙ ap (λ a. packed a 0) (no-value-opens _ (c .before .if1 .taken) _ _ _)
 
+of-requires : tie.Need-of-requires
+of-requires c κs = search needs
+
 value-of-requires : tie.Need-value-of-requires
 value-of-requires c κs = search needs
 
@@ -50,7 +53,9 @@ returns-2 : tie.Need-returns-2
 returns-2 c =
     let asked = c .before in
     let value = asked .before in
-    let answered = value-opens _ (value .before .if1 .left) _ (value .value-of .ensures) _ _ _ _ (asked .open .ensures) in
+    let request = value .before in
+    let opened = rw (request .of .ensures) at (asked .open .ensures) in
+    let answered = value-opens _ (request .before .if1 .left) _ (value .value-of .ensures) _ _ _ _ opened in
     c .as-number2 .ensures ∙ ap (λ a. packed a 0) answered
 
 pub desk-door-on-value-spec : {M : Type 1} → statement M
@@ -59,6 +64,7 @@ desk-door-on-value-spec =
     (tie.spec
     as-number-requires
     returns
+    of-requires
     value-of-requires
     open-requires
     as-number-requires-2

@@ -5,15 +5,16 @@ use mathlib.Core.Path.{_≡_, sym, ap, _∙_}
 use mathlib.Core.Logic.{⊎-elim}
 use native.Mathlib.Omega.{arith}
 use borrow.Author.Needs.{needs}
+use Rattle.procap.specs.Procaps.{request-of}
 use Rattle.door.specs.Door.{opening-text}
-use Rattle.from_c.specs.Calls.{asked-for, opened-of}
+use Rattle.from_c.specs.Calls.{opened-of}
 use Rattle.from_c.proofs.Presses.{at-most-all, none-pressed, unread-presses, press-counts}
 use Rattle.from_c.proofs.desk.desk_presses.Statement.{statement}
 use Rattle.from_c.proofs.desk.desk_presses.Tie as tie
 
 abbrev Inv-loop : tie.InvT-loop
 Inv-loop text who what right moment state presses read opened₀ i₀ opened i =
-    (i ≤ presses) × (opened ≡ opened-of (opening-text text (asked-for who what right) moment state) i)
+    (i ≤ presses) × (opened ≡ opened-of (opening-text text (request-of who what right) moment state) i)
 
 abbrev μ-loop : tie.MeasureT-loop
 μ-loop text who what right moment state presses read opened₀ i₀ opened i = presses - i
@@ -32,6 +33,9 @@ returns c =
 loop-holds : tie.Need-loop-holds Inv-loop μ-loop
 loop-holds c = (omega arith, none-pressed _)
 
+of-requires : tie.Need-of-requires Inv-loop μ-loop
+of-requires c κs = search needs
+
 open-requires : tie.Need-open-requires Inv-loop μ-loop
 open-requires c κs = search needs
 
@@ -40,7 +44,7 @@ number-requires-2 c κs = search needs
 
 add-opened : tie.Need-add-opened Inv-loop μ-loop
 add-opened c =
-    let here = c .before .before .before .before .before .loop in
+    let here = c .before .before .before .before .before .before .loop in
     omega (arith, at-most-all _ _ _ (here .inv .1))
 
 add-i : tie.Need-add-i Inv-loop μ-loop
@@ -51,12 +55,13 @@ loop-less c = omega arith
 
 loop-again : tie.Need-loop-again Inv-loop μ-loop
 loop-again c =
-    let here = c .before .before .before .before .before in
+    let here = c .before .before .before .before .before .before in
     let read = here .before .before .before .read-text in
     let zero = sym (here .before .before .number .ensures) ∙ here .before .if1 .left in
-    let pressed = c .before .before .open in
+    let asked = c .before .before .before .before .of in
+    let pressed = rw (asked .ensures) at (c .before .before .open .ensures) in
     let number = c .before .number2 in
-    let counts = press-counts _ _ (read .ensures .0) _ _ _ _ (read .ensures .1) zero _ (pressed .ensures) _ _ (here .loop .inv .1) in (
+    let counts = press-counts _ _ (read .ensures .0) _ _ _ _ (read .ensures .1) zero _ pressed _ _ (here .loop .inv .1) in (
       omega arith,
       ⊎-elim
           (λ w. w .1 ∙ counts .0 (sym (number .ensures) ∙ w .0 .taken))
@@ -79,6 +84,7 @@ desk-presses-spec =
     number-requires
     returns
     loop-holds
+    of-requires
     open-requires
     number-requires-2
     add-opened

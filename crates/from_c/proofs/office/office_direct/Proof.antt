@@ -4,6 +4,9 @@ use Rattle.from_c.proofs.OfficeCalls.{packs-for-all}
 use Rattle.from_c.proofs.office.office_direct.Statement.{statement}
 use Rattle.from_c.proofs.office.office_direct.Tie as tie
 
+of-requires : tie.Need-of-requires
+of-requires c κs = search needs
+
 records-in-requires : tie.Need-records-in-requires
 records-in-requires c κs = search needs
 
@@ -15,9 +18,10 @@ as-number-requires c κs = search needs
 
 returns : tie.Need-returns
 returns c =
-    let lent = c .before .before .before .records-in in
-    packs-for-all _ _ _ _ _ (lent .ensures .1) _ _ _ _ (c .as-number .ensures) (c .before .direct-lent .ensures)
+    let lent = c .before .before .before in
+    let answers = rw (lent .before .of .ensures) at (c .before .direct-lent .ensures) in
+    packs-for-all _ _ _ _ _ (lent .records-in .ensures .1) _ _ _ _ (c .as-number .ensures) answers
 
 pub office-direct-spec : {M : Type 1} → statement M
 office-direct-spec =
-    tie.close (tie.spec records-in-requires direct-lent-requires as-number-requires returns)
+    tie.close (tie.spec of-requires records-in-requires direct-lent-requires as-number-requires returns)

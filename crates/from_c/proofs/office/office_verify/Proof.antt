@@ -2,14 +2,17 @@
 -- procap: if not, its answer is handed back; else the procap's text is written.
 use borrow.Author.Needs.{needs}
 use mathlib.Core.Path.{sym, _∙_}
+use Rattle.procap.specs.Procaps.{request-of}
 use Rattle.bl.specs.Calls.{verified}
 use Rattle.verifier.specs.Verifying.{HandsOver}
 use Rattle.from_c.specs.Records.{records-in}
-use Rattle.from_c.specs.Calls.{asked-for}
 use Rattle.from_c.proofs.HandedBack.{hands-back-refused, hands-back-so-written}
 use Rattle.from_c.proofs.OfficeCalls.{hands-over-all, verifying-stops, verifying-writes}
 use Rattle.from_c.proofs.office.office_verify.Statement.{statement}
 use Rattle.from_c.proofs.office.office_verify.Tie as tie
+
+of-requires : tie.Need-of-requires
+of-requires c κs = search needs
 
 records-in-requires : tie.Need-records-in-requires
 records-in-requires c κs = search needs
@@ -25,10 +28,12 @@ as-number-requires c κs = search needs
 
 -- What verify hands over is what it comes to for all records.
 handed : (c : tie.After-verify-lent)
-    → (let args = c .before .before .before .before .before .before .before .args in
-    HandsOver (verified (asked-for (args .who) (args .what) (args .right)) (records-in (args .records .now)) (args .buffer .now) (args .proof .now))
+    → (let args = c .before .before .before .before .before .before .before .before .args in
+    HandsOver (verified (request-of (args .who) (args .what) (args .right)) (records-in (args .records .now)) (args .buffer .now) (args .proof .now))
     (c .verify-lent .result))
-handed c = hands-over-all _ _ _ _ _ (c .before .before .records-in .ensures .1) _ (c .verify-lent .ensures)
+handed c =
+    let lent = c .before .before in
+    hands-over-all _ _ _ _ _ (lent .records-in .ensures .1) _ (rw (lent .before .of .ensures) at (c .verify-lent .ensures))
 
 returns : tie.Need-returns
 returns c =
@@ -58,6 +63,7 @@ pub office-verify-spec : {M : Type 1} → statement M
 office-verify-spec =
     tie.close
     (tie.spec
+    of-requires
     records-in-requires
     verify-lent-requires
     number-requires
