@@ -40,7 +40,7 @@ press: bin/press
 	@echo "who 2 presses Start for what 7 by right 9 at moment 1500:"
 	@bin/press examples/p.procap 2 7 9 1500 examples/loaded.state
 
-bin/press: $(NATIVE)/libdoor.a examples/press.c include/procap.h
+bin/press: door examples/press.c include/procap.h
 	@$(C) -o bin/press examples/press.c $(DOOR)
 	@tests/run_here.sh bin/press
 
@@ -94,12 +94,15 @@ test-c-memory:
 	valgrind -q --undef-value-errors=no --error-exitcode=9 bin/door_test 2000; \
 	else echo "no valgrind on this machine: the reads past a buffer's end that it would see were not looked for"; fi
 
-# The archives of the proved code that programs of this machine can link, plain and with counters for a fuzzer.
+# The archives of the proved code that programs of this machine can link; and the same with counters, for a fuzzer.
 archives: $(NATIVE)/libfrom_c.a $(NATIVE)/libdoor.a
 
 $(NATIVE)/lib%.a: tests/archive_here.sh $(shell find crates -name '*.rt') | kit
 	@mkdir -p bin
 	@tests/archive_here.sh $* > bin/archive_$*.log 2>&1 || { cat bin/archive_$*.log; exit 1; }
+
+$(NATIVE)/lib%_covered.a: $(NATIVE)/lib%.a
+	@tests/archive_here.sh $* covered
 
 # The second implementation: its own tests, and both implementations on the same cases, with the program on some of them.
 ifdef CARGO_MISSING
@@ -130,7 +133,7 @@ $(BENCH): archives $(shell find bench tests/rust/src -type f)
 endif
 
 # A fuzzer on the calls as C makes them, started from the examples: clang's libFuzzer, for a bounded time. What it finds stays in target/fuzz.
-fuzz: archives
+fuzz: $(NATIVE)/libfrom_c_covered.a $(NATIVE)/libdoor_covered.a
 	@mkdir -p target/fuzz/seeds target/fuzz/corpus
 	@$(CC) -O1 -Wall -Wextra -Werror -o target/fuzz/make_seeds tests/fuzz/seeds.c tests/c/case_bytes.c
 	@target/fuzz/make_seeds target/fuzz/seeds examples/*.case examples/*.procap

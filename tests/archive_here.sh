@@ -2,14 +2,28 @@
 # Makes archives of a crate that programs of this machine can link, in target/native. The crate is proved first.
 # The kit compiles for x86-64, and there libNAME.a is the archive that it makes. Elsewhere the kit's clang compiles the same module of LLVM
 # once more, with the same options, for the machine at hand: good for comparing and measuring, while the archive that is shipped is the one
-# for x86-64. libNAME_covered.a is the module compiled once more on every machine, so that a fuzzer sees which branches are taken.
-# usage: archive_here.sh NAME
+# for x86-64. With the word `covered` it is libNAME_covered.a instead: the module that was kept, compiled on every machine so that a fuzzer sees which
+# branches are taken.
+# usage: archive_here.sh NAME [covered]
 set -euo pipefail
 name=$1 machine=$(uname -m)
 native=$PWD/target/native
 kit=$(cd "$(dirname "$(rt doc)")/.." && pwd -P)
 clang=$kit/on/$machine/toolchain/bin/clang
 mkdir -p "$native"
+
+# Compiles the module for this machine, with these options more.
+compile() { # ARCHIVE OPTION..
+    local archive=$native/$1
+    shift
+    "$clang" "--target=$machine-unknown-linux-gnu" -ffunction-sections -fdata-sections -fPIC -O3 -w "$@" -c -x ir "$native/$name.bc" -o "${archive%.a}.o" 2> "${archive%.a}.log"
+    rm -f "$archive"
+    ar rcs "$archive" "${archive%.a}.o"
+}
+if [ "${2:-}" = covered ]; then
+    compile "lib${name}_covered.a" -fsanitize-coverage=inline-8bit-counters,pc-table,trace-cmp
+    exit
+fi
 
 # A kit beside the kit, whose clang also keeps the module that it is given.
 beside=$PWD/target/kit_beside
@@ -33,13 +47,4 @@ rm -f "$native/$name.bc"
 RATTLE_HOME=$beside "$beside/bin/rt" staticlib "$name"
 rm -rf "$beside"
 
-# Compiles the module for this machine, with these options more.
-compile() { # ARCHIVE OPTION..
-    local archive=$native/$1
-    shift
-    "$clang" "--target=$machine-unknown-linux-gnu" -ffunction-sections -fdata-sections -fPIC -O3 -w "$@" -c -x ir "$native/$name.bc" -o "${archive%.a}.o" 2> "${archive%.a}.log"
-    rm -f "$archive"
-    ar rcs "$archive" "${archive%.a}.o"
-}
 if [ "$machine" = x86_64 ]; then cp "target/staticlib/lib$name.a" "$native/lib$name.a"; else compile "lib$name.a"; fi
-compile "lib${name}_covered.a" -fsanitize-coverage=inline-8bit-counters,pc-table,trace-cmp

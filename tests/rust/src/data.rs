@@ -80,4 +80,12 @@ impl Answer {
     pub const fn refused(number: u64, place: u64) -> Answer {
         Answer { number, place }
     }
+
+    /// The answer that an outcome comes to.
+    pub fn of<T>(outcome: &Result<T, Answer>) -> Answer {
+        match outcome {
+            Ok(_) => Answer::GRANTED,
+            Err(refusal) => *refusal,
+        }
+    }
 }

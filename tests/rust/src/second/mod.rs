@@ -35,12 +35,12 @@ pub fn verify(case: &Case, watch: &mut impl Watch) -> Result<Procap, Answer> {
 
 /// What the direct check answers for a case at a moment, in a state.
 pub fn direct(case: &Case, moment: u64, state: &[u8], watch: &mut impl Watch) -> Answer {
-    answer(direct::direct(case, moment, state, watch))
+    Answer::of(&direct::direct(case, moment, state, watch))
 }
 
 /// What the door answers to a procap that can be written.
 pub fn door(procap: &Procap, request: Request, moment: u64, state: &[u8]) -> Answer {
-    answer(door::door(procap, request.into(), moment, state))
+    Answer::of(&door::door(procap, request.into(), moment, state))
 }
 
 /// What the door answers to a text. Numbers above 65,535 are in no procap's request.
@@ -53,7 +53,7 @@ pub fn door_on_text(
     state: &[u8],
 ) -> Answer {
     let asked = Asked { who, what, right };
-    answer(door::door_on_text(text, asked, moment, state))
+    Answer::of(&door::door_on_text(text, asked, moment, state))
 }
 
 /// The procap that a text spells, or 12.
@@ -102,9 +102,4 @@ pub fn printed(input: &[u8]) -> Vec<u8> {
 /// The case that an input of the program spells, or the refusal with the first line that does not.
 pub fn case_of(input: &[u8]) -> Result<Case, Answer> {
     program::case_of(input)
-}
-
-/// The answer that an outcome comes to.
-fn answer(outcome: Result<(), Answer>) -> Answer {
-    outcome.err().unwrap_or(Answer::GRANTED)
 }

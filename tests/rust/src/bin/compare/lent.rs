@@ -54,7 +54,7 @@ pub fn written(
     let text = outcome.unwrap_or_default();
     right[..text.len()].copy_from_slice(text);
     let should = Returned {
-        answer: outcome.err().unwrap_or(Answer::GRANTED),
+        answer: Answer::of(&outcome),
         length: text.len() as u64,
     };
     same(&should, &returned, || {

@@ -38,10 +38,11 @@ fn long_proof(asking: &Asking) -> Outcome {
         proof: &case.proof,
         ..asking.for_archive()
     };
-    let answer = second::verify(&case, &mut NoWatch).err();
-    let answer = Returned::plain(answer.unwrap_or(Answer::GRANTED));
+    let answer = Answer::of(&second::verify(&case, &mut NoWatch));
     let returned = archive::verify(&for_archive, &mut [0; 1300]);
-    same(&answer, &returned, || "verify, long proof".to_string())
+    same(&Returned::plain(answer), &returned, || {
+        "verify, long proof".to_string()
+    })
 }
 
 /// Asks for a press in a longer state, whose facts are all well formed.
@@ -65,13 +66,15 @@ fn long_state(asking: &Asking, procap: &Procap) -> Outcome {
 /// Asks about a procap's text and its value, both longer.
 fn long_text_and_value(procap: &Procap) -> Outcome {
     let text = lengthened(&second::text_of(procap).unwrap_or_default(), b"\n");
-    let answer = second::read_text(&text).err();
-    let answer = Returned::plain(answer.unwrap_or(Answer::GRANTED));
+    let answer = Answer::of(&second::read_text(&text));
     let returned = archive::rewrite(&text, &mut [0; 1300]);
-    same(&answer, &returned, || "rewrite, long text".to_string())?;
+    same(&Returned::plain(answer), &returned, || {
+        "rewrite, long text".to_string()
+    })?;
     let value = lengthened(&second::value_of(procap), &[0]);
-    let answer = second::read_value(&value).err();
-    let answer = Returned::plain(answer.unwrap_or(Answer::GRANTED));
+    let answer = Answer::of(&second::read_value(&value));
     let returned = archive::write(&value, &mut [0; 1300]);
-    same(&answer, &returned, || "write, long value".to_string())
+    same(&Returned::plain(answer), &returned, || {
+        "write, long value".to_string()
+    })
 }

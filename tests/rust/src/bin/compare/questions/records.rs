@@ -68,8 +68,7 @@ fn both(asking: &mut Asking, case: &Case, bytes: &[u8]) -> Outcome {
     let words = |what: &str| format!("{what} with the records {}", hex(bytes));
     let verified = second::verify(case, &mut NoWatch);
     let returned = archive::verify(&for_archive, &mut [0; 1300]);
-    let answer = verified.err().unwrap_or(Answer::GRANTED);
-    same(&answer, &returned.answer, || words("verify"))?;
+    same(&Answer::of(&verified), &returned.answer, || words("verify"))?;
     let answer = second::direct(case, moment, &[], &mut NoWatch);
     let returned = archive::direct(&for_archive, moment, &[]);
     same(&Returned::plain(answer), &returned, || {
