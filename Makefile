@@ -1,13 +1,18 @@
 # The commands of the project. `make` builds the program bin/check; `make test` is the one test command.
-.PHONY: program run press test layout kit door archives test-check test-c test-c-memory test-stack test-rust soak fuzz bench bench-instructions
+.PHONY: program run press test layout kit door archives test-check test-c test-c-linked test-c-memory test-stack test-rust soak fuzz bench bench-instructions
 SHELL := /bin/bash
 .SHELLFLAGS := -euo pipefail -c
 
-# The kit compiles for x86-64. On another machine its emulator runs what comes out, and C beside it takes a compiler for x86-64.
-X86_64 := $(filter x86_64,$(shell uname -m))
-C_COMPILER := $(if $(X86_64),$(CC),x86_64-linux-gnu-gcc)
-C := $(C_COMPILER) -std=c11 -Wall -Wextra -Wpedantic -Werror -O2 $(if $(X86_64),,-static)
+# The kit compiles for x86-64. On another machine an emulator runs what comes out, C beside it takes a compiler for x86-64, and the tests that look
+# at memory are left out. `make test EMULATED=yes` goes the same way on x86-64, where qemu-x86_64 is on the path.
+export EMULATED := $(filter-out x86_64,$(shell uname -m))
+C_COMPILER := $(if $(EMULATED),x86_64-linux-gnu-gcc,$(CC))
+C := $(C_COMPILER) -std=c11 -Wall -Wextra -Wpedantic -Werror -O2
 C_MISSING := $(if $(shell command -v $(C_COMPILER)),,yes)
+# How the tests from C are linked, on every machine: what they take from the C library is bound before they start, or stands in them. Bound at its
+# first call, the loader's work would count as the caller's stack.
+BOUND_AT_START := -Wl,-z,now
+STATIC := $(if $(filter /%,$(shell $(C_COMPILER) -print-file-name=libc.a 2> /dev/null)),-static)
 DOOR := target/staticlib/libdoor.a
 
 # Programs of this machine link these: the door, and the crate from_c, which has every call on numbers and byte slices.
@@ -41,8 +46,7 @@ press: bin/press
 	@bin/press examples/p.procap 2 7 9 1500 examples/loaded.state
 
 bin/press: door examples/press.c include/procap.h
-	@$(C) -o bin/press examples/press.c $(DOOR)
-	@tests/run_here.sh bin/press
+	@$(call linked,,press,examples/press.c $(DOOR))
 
 # Everything that a landing must pass: the layout of the files, every proof, then the tests that run. The last line is the count that decides.
 test: kit layout
@@ -67,31 +71,39 @@ door: kit
 test-check: program $(if $(C_MISSING),,bin/press)
 	@tests/check.sh bin/check $(if $(C_MISSING),,bin/press)
 
-# The door as the desk firmware calls it: presses, damaged inputs, memory and stack.
+# The door as the desk firmware calls it, and the stack of every call, in each way of linking; then what looks at memory.
 ifdef C_MISSING
 test-c:
 	@echo "no $(C_COMPILER) on this machine: the door was not called from C here"
 else
 test-c: archives
-	@$(C) -o bin/door_test tests/c/door_test.c tests/c/model.c $(DOOR)
-	@tests/run_here.sh bin/door_test
-	@bin/door_test
-	@$(if $(X86_64),$(MAKE) --no-print-directory test-c-memory,echo "this machine is not x86-64: the sanitizers and valgrind were left out")
-	@$(C) -o bin/stack tests/c/stack.c tests/c/own_stack.c $(DOOR)
-	@tests/run_here.sh bin/stack
-	@bin/stack
-	@$(C) -o bin/office_stack tests/c/office_stack.c tests/c/own_stack.c tests/c/case_bytes.c target/staticlib/libfrom_c.a
-	@tests/run_here.sh bin/office_stack
-	@bin/office_stack $(DEEPEST:%=%.case)
+	@[ "$$(nm -u $(DOOR) | awk '$$1 == "U" { print $$2 }')" = memcpy ] || { echo "the door needs more than the memcpy that include/procap.h names"; exit 1; }
+	@for link in $(BOUND_AT_START) $(STATIC); do $(MAKE) --no-print-directory test-c-linked LINK=$$link; done
+	@$(if $(STATIC),,echo "no static C library on this machine: what is linked statically was left out")
+	@$(if $(EMULATED),echo "under an emulator the sanitizers and valgrind are left out",$(MAKE) --no-print-directory test-c-memory)
 endif
 
-# The same under the sanitizers and valgrind, which look at memory and run on x86-64 alone.
-test-c-memory:
+# Presses and damaged inputs at the door, its stack, and the stack of the office's calls, linked with LINK.
+test-c-linked: archives
+	@echo "linked with $(LINK):"
+	@$(call linked,$(LINK),door_test,tests/c/door_test.c tests/c/model.c $(DOOR))
+	@bin/door_test
+	@$(call linked,$(LINK),stack,tests/c/stack.c tests/c/own_stack.c $(DOOR))
+	@bin/stack
+	@$(call linked,$(LINK),office_stack,tests/c/office_stack.c tests/c/own_stack.c tests/c/case_bytes.c target/staticlib/libfrom_c.a)
+	@bin/office_stack $(DEEPEST:%=%.case)
+
+# A program from C that this machine can start: how it is linked, its name in bin/, and what it is made of.
+linked = $(C) $(1) -o bin/$(2) $(3) && tests/run_here.sh bin/$(2)
+
+# Presses under the sanitizers and under valgrind, which look at memory. Valgrind does not see the blocks of a program that is linked statically.
+test-c-memory: archives
 	@$(C) -g -fsanitize=address,undefined -o bin/door_test_sanitized tests/c/door_test.c tests/c/model.c $(DOOR)
 	@echo "with the address and undefined-behaviour sanitizers:"
 	@bin/door_test_sanitized 50000
+	@$(C) -g -o bin/door_test_watched tests/c/door_test.c tests/c/model.c $(DOOR)
 	@if command -v valgrind > /dev/null; then echo "under valgrind, for reads and writes outside of a buffer:"; \
-	valgrind -q --undef-value-errors=no --error-exitcode=9 bin/door_test 2000; \
+	valgrind -q --undef-value-errors=no --error-exitcode=9 bin/door_test_watched 2000; \
 	else echo "no valgrind on this machine: the reads past a buffer's end that it would see were not looked for"; fi
 
 # The archives of the proved code that programs of this machine can link; and the same with counters, for a fuzzer.

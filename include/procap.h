@@ -35,7 +35,10 @@ extern "C" {
  * overlap or be the same. Do not let another thread or a device write to them meanwhile. With length 0 a pointer may be
  * NULL; with any other length it must point at so many readable bytes. The call may run on several threads at once.
  *
- * It uses no heap and makes no system call. The stack that it needs stands in docs/TRUST.md; it is below 4 KiB.
+ * It uses no heap and makes no system call. The stack that it needs stands in docs/TRUST.md; it is below 4 KiB. Where the
+ * program is linked dynamically in the usual, lazy way, the first press that copies anything takes some 3 KiB more, depending
+ * on the loader and the processor: the loader looks memcpy up then, on the stack of that press. Link with -Wl,-z,now, or
+ * statically, and the first press takes no more than any other.
  *
  * Returns 256 times the answer's number plus its place. PROCAP_OPEN, which is 0, is the only answer on which the press
  * may go through.

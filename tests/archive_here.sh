@@ -1,9 +1,9 @@
 #!/bin/bash
 # Makes archives of a crate that programs of this machine can link, in target/native. The crate is proved first.
-# The kit compiles for x86-64, and there libNAME.a is the archive that it makes. Elsewhere the kit's clang compiles the same module of LLVM
-# once more, with the same options, for the machine at hand: good for comparing and measuring, while the archive that is shipped is the one
-# for x86-64. With the word `covered` it is libNAME_covered.a instead: the module that was kept, compiled on every machine so that a fuzzer sees which
-# branches are taken.
+# The kit compiles for x86-64, and there libNAME.a is the archive that it makes. Where the Makefile says EMULATED, the kit's clang compiles the same
+# module of LLVM once more, with the same options, for the machine at hand: good for comparing and measuring, while the archive that is shipped is
+# the one for x86-64. With the word `covered` it is libNAME_covered.a instead: the module that was kept, compiled on every machine so that a fuzzer
+# sees which branches are taken.
 # usage: archive_here.sh NAME [covered]
 set -euo pipefail
 name=$1 machine=$(uname -m)
@@ -47,4 +47,4 @@ rm -f "$native/$name.bc"
 RATTLE_HOME=$beside "$beside/bin/rt" staticlib "$name"
 rm -rf "$beside"
 
-if [ "$machine" = x86_64 ]; then cp "target/staticlib/lib$name.a" "$native/lib$name.a"; else compile "lib$name.a"; fi
+if [ -z "${EMULATED:-}" ]; then cp "target/staticlib/lib$name.a" "$native/lib$name.a"; else compile "lib$name.a"; fi

@@ -1,11 +1,13 @@
 #!/bin/bash
-# Makes a program that this machine can start of one for x86-64. On any other machine a script takes its place, which starts it under the Rattle kit's emulator.
+# Makes of a program for x86-64 one that this machine can start. Where the Makefile says EMULATED, a script takes its place that starts it under
+# an emulator: the kit's, or, where it has none for this machine, the one on the path.
 # usage: run_here.sh PROGRAM
 set -euo pipefail
 program=$1
-if [ "$(uname -m)" = x86_64 ]; then exit; fi
+if [ -z "${EMULATED:-}" ]; then exit; fi
 tools=$(dirname "$(rt doc)")/../on/$(uname -m)/toolchain
-under=("$tools/bin/qemu-x86_64")
+emulator=$(PATH=$tools/bin:$PATH command -v qemu-x86_64) || { echo "no qemu-x86_64 in the kit or on the path: nothing starts $program here" >&2; exit 1; }
+under=("$emulator")
 # A program that names a loader, which stands near its front, is not linked statically: it runs with the kit's C library.
 if head -c 4096 "$program" | grep -q ld-linux-x86-64; then under+=("$tools/lib/ld-linux-x86-64.so.2" --library-path "$tools/lib"); fi
 mv "$program" "$program.x86-64"

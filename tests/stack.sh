@@ -6,9 +6,9 @@ set -euo pipefail
 check=$1 limit=$2
 shift 2
 
-# Runs the program with so much stack: on x86-64 the system keeps to it, elsewhere the emulator that the program runs under.
+# Runs the program with so much stack: the system keeps to it, or, where the Makefile says EMULATED, the emulator.
 with_stack() { # KIB
-    if [ "$(uname -m)" = x86_64 ]; then ulimit -s "$1"; else export QEMU_STACK_SIZE=$(($1 * 1024)); fi
+    if [ -z "${EMULATED:-}" ]; then ulimit -s "$1"; else export QEMU_STACK_SIZE=$(($1 * 1024)); fi
     "$check"
 }
 

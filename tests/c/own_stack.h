@@ -7,7 +7,10 @@
 
 #include <stddef.h>
 
-/* The bytes of stack that a call takes, beside what it takes to call anything at all. */
+/*
+ * The bytes of stack that a call takes, beside what it takes to call anything at all. Ends the program with status 1 where the first call takes
+ * another number than the next: then the figure is not the call's own.
+ */
 size_t stack_of(void (*call)(void));
 
 #endif
