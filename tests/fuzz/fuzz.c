@@ -113,7 +113,7 @@ static void verify(void) {
     struct part out = buffer_to_write(MOST_TEXT);
     uint64_t answer = office_verify(who, what, right, records.bytes, records.length, buffer.bytes, buffer.length, proof.bytes,
                                     proof.length, out.bytes, out.length);
-    hold_written(answer, out, 6);
+    hold_written(answer, out, 5);
     hold(PLACE_OF(answer) < 4096, "a place is an index or an offset in the proof");
     uint64_t direct = office_direct(who, what, right, records.bytes, records.length, buffer.bytes, buffer.length, proof.bytes,
                                     proof.length, moment, state.bytes, state.length);

@@ -19,5 +19,5 @@ pub verified-refuses : (r : Request) (records : List Certificate) (buffer proof 
 unfolding verified
 verified-refuses r records buffer proof =
     go-on-refused Refuses _ _ (case-refused Refuses (λ i. omega arith) (omega arith) records buffer proof) λ x _.
-    go-on-refused Refuses _ _ (run-refused Refuses (λ q. omega arith) (λ q. omega arith) (λ q. omega arith) (λ q. omega arith) _ _ _) λ w _.
+    go-on-refused Refuses _ _ (run-refused Refuses (λ q. omega arith) (λ q. omega arith) (λ q. omega arith) _ _ _) λ w _.
     issue-refused Refuses (omega arith) r (w .1)

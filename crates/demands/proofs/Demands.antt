@@ -7,18 +7,19 @@ use mathlib.Core.Option.{some}
 use mathlib.Core.Logic.{_↔_, Iff·symm, Iff·trans}
 use native.Mathlib.Omega.{arith}
 use lib.ListN.{length, take}
+use Rattle.procap.specs.Lists.{In}
 use Rattle.procap.specs.Times.{latest}
 use Rattle.procap.specs.Facts.{Spelled}
 use Rattle.procap.specs.Procaps.{empty-procap}
 use Rattle.procap.specs.Writable.{RequestInForm}
-use Rattle.procap.specs.Answers.{number-of}
+use Rattle.procap.specs.Answers.{number-of, numbers}
 use Rattle.procap.specs.Outcome.{Outcome, granted}
 use Rattle.procap.specs.States.{stated}
 use Rattle.procap.specs.declared.answer.Answer.{Answer}
 use Rattle.procap.specs.declared.answer.Answer.the-variants.{Granted, ProcapMalformed}
 use Rattle.procap.specs.declared.procap.Request.{Request}
 use Rattle.procap.specs.declared.procap.Procap.{Procap}
-use Rattle.procap.proofs.AnswerNumbers.{numbers-are-small}
+use Rattle.procap.proofs.AnswerNumbers.{number-is-listed, listed-is-a-number}
 use Rattle.bl.specs.declared.Certificate.{Certificate}
 use Rattle.bl.specs.Calls.{directly}
 use Rattle.bl.specs.Accepting.{AreBytes, Derivable}
@@ -40,9 +41,14 @@ use Rattle.demands.proofs.Printed.{printed-opens-exactly}
 
 -- ── Demand 1 ──
 
--- Demand 1. Whatever a blender, a stick or a search tool hands in, every call has an answer to it, and the answer one of fifteen numbers.
-pub every-answer-has-a-number : (answer : Answer) → number-of answer ≤ 14
-every-answer-has-a-number answer = numbers-are-small answer
+-- Demand 1. Whatever a blender, a stick or a search tool hands in, every call has an answer to it, and the answer one of fourteen numbers:
+-- 0 to 5 and 7 to 14.
+pub every-answer-has-a-number : (answer : Answer) → In (number-of answer) numbers
+every-answer-has-a-number answer = number-is-listed answer
+
+-- Demand 1. Each of the fourteen is the number of an answer; so no page has to explain 6, which is none.
+pub every-number-has-an-answer : (n : ℕ) → In n numbers → (answer : Answer) × (number-of answer ≡ n)
+every-number-has-an-answer n listed = listed-is-a-number n listed
 
 -- Demand 1. A blender who is refused at the office walks away with an empty procap.
 pub refused-verify-is-empty : (r : Request) (certificates : List Certificate) (buffer proof : List ℕ) (v : Verified)

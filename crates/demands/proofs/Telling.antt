@@ -91,7 +91,7 @@ module _ (r : Request) (records : List Certificate) (buffer proof : List ℕ) wh
   directly-refuses m state =
       go-on-refused Refuses _ _ (case-refused Refuses (λ i. omega arith) (omega arith) records buffer proof) λ x _.
       go-on-refused Refuses _ _ (press-refused Refuses (omega arith) (omega arith) m state) λ σ _.
-      go-on-refused Refuses _ _ (run-refused Refuses (λ q. omega arith) (λ q. omega arith) (λ q. omega arith) (λ q. omega arith) _ _ _) λ w _.
+      go-on-refused Refuses _ _ (run-refused Refuses (λ q. omega arith) (λ q. omega arith) (λ q. omega arith) _ _ _) λ w _.
       tt
 
 module _ (r : Request) (certificates : List Certificate) (buffer proof : List ℕ) where

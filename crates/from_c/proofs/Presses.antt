@@ -6,7 +6,7 @@ use native.Mathlib.Omega.{arith}
 use Rattle.procap.specs.Answers.{number-of}
 use Rattle.procap.specs.Outcome.{Outcome, granted, refused, answer-of, procap-handed}
 use Rattle.procap.specs.declared.answer.Answer.{Answer}
-use Rattle.procap.specs.declared.answer.Answer.the-variants.{Granted, CertificateMalformed, ProofMalformed, StepUnfit, OrderFalse, NoMomentLeft, FactsFull, StateMalformed, RequestDiffers, MomentOutside, FactMissing, MomentAboveLatest, ProcapMalformed, BufferShort, InputMalformed}
+use Rattle.procap.specs.declared.answer.Answer.the-variants.{Granted, CertificateMalformed, ProofMalformed, StepUnfit, OrderFalse, NoMomentLeft, StateMalformed, RequestDiffers, MomentOutside, FactMissing, MomentAboveLatest, ProcapMalformed, BufferShort, InputMalformed}
 use Rattle.procap.specs.declared.procap.Request.{Request}
 use Rattle.procap.specs.declared.procap.Procap.{Procap}
 use Rattle.text.specs.Calls.{reading}
@@ -23,7 +23,6 @@ only-granted ProofMalformed e = absurd (omega arith)
 only-granted (StepUnfit i) e = absurd (omega arith)
 only-granted (OrderFalse i) e = absurd (omega arith)
 only-granted NoMomentLeft e = absurd (omega arith)
-only-granted (FactsFull i) e = absurd (omega arith)
 only-granted StateMalformed e = absurd (omega arith)
 only-granted RequestDiffers e = absurd (omega arith)
 only-granted MomentOutside e = absurd (omega arith)

@@ -8,7 +8,7 @@ use Rattle.procap.specs.declared.time.Time.{Time}
 use Rattle.procap.specs.declared.answer.Answer.{Answer}
 use Rattle.procap.specs.declared.answer.Answer.the-variants.{StepUnfit}
 use Rattle.bl.specs.Trees.{Formula}
-use Rattle.bl.specs.Questions.{Walk, done, misfit, _>>=_, Test}
+use Rattle.bl.specs.Questions.{Walk, done, misfit, asks, _>>=_, Test}
 use Rattle.bl.specs.Readings.{run}
 use Rattle.bl.specs.Walk as walk
 use Rattle.ledger.specs.declared.Stop.{Stop}
@@ -120,26 +120,27 @@ unfolding unless-stopped
 never-granted Going answer x e = let z : _≡_ {A = ℕ} 0 1 = cc in omega arith
 never-granted (Stopped before) answer x e = let z : _≡_ {A = ℕ} 0 1 = cc in omega arith
 
-misfit-stops : {A : Type 0} (state : List ℕ) (b r : Book) (q : ℕ) (a : A) → Gives state b (misfit q) r a → stop-of (r .ledger) ≡ Going → ⊥
-unfolding resume run
-misfit-stops state b r q a h e =
-    never-granted (stop-of (b .ledger)) (StepUnfit q) (a, kept-of r) (sym (stop-going (stop-of (r .ledger)) (granted (a, kept-of r)) e) ∙ h .resumed)
+misfit-stops : {A : Type 0} (state : List ℕ) (b r : Book) (q : ℕ) (a : A) → Sound b → Gives state b (misfit q) r a → stop-of (r .ledger) ≡ Going → ⊥
+unfolding resume run asks
+misfit-stops state b r q a s h e =
+    let same = h .resumed (λ _. omega (arith, s .few)) in
+    never-granted (stop-of (b .ledger)) (StepUnfit q) (a, kept-of r) (sym (stop-going (stop-of (r .ledger)) (granted (a, kept-of r)) e) ∙ same)
 
 -- 26, before its second step.
 pub comes-used : (state buffer : List ℕ) (q : ℕ) (list : List ℕ) (l : Ledger) (F : Formula) (a b t1 t2 : Time) (middle next : ℕ) (r : Application)
-    → Used state buffer q list l F a b t1 t2 middle next r
+    → Sound (book l list) → Used state buffer q list l F a b t1 t2 middle next r
     → Comes state (book l list) (use-implication q t1 t2 (F, a, b)) (book (r .ledger) list)
     (λ x. On buffer (r .premise) (x .0) t1 t2 × On buffer (r .conclusion) (x .1) t1 t2 × (r .middle ≡ middle) × (r .next ≡ next))
 unfolding use-implication _>>=_
-comes-used state buffer q list l F a b t1 t2 middle next r (used A B e g premise conclusion m n) =
+comes-used state buffer q list l F a b t1 t2 middle next r s (used A B e g premise conclusion m n) =
     record {
       value = (A, B);
       gives = rw e (then state (book l list) (book (r .ledger) list) (book (r .ledger) list) (two-orders q a t1 t2 b) tt (λ _. done (A, B)) (A, B) g (idle state (book (r .ledger) list) (A, B) (g .sound)));
       so = λ _. (premise, conclusion, m, n);
     }
-comes-used state buffer q list l F a b t1 t2 middle next r (unused e g) =
+comes-used state buffer q list l F a b t1 t2 middle next r s (unused e g) =
     record {
       value = (F, F);
       gives = rw e (misfits-any state (book l list) (book (r .ledger) list) q (tt {0}) (F, F) g);
-      so = λ going. absurd (misfit-stops state (book l list) (book (r .ledger) list) q (tt {0}) g going);
+      so = λ going. absurd (misfit-stops state (book l list) (book (r .ledger) list) q (tt {0}) s g going);
     }

@@ -158,7 +158,7 @@ module _ (buffer proof state certificates assumptions : List ℕ) (scope : Scope
             (λ x. On buffer (application .premise) (x .0) (found .from) (found .to) × On buffer (application .conclusion) (x .1) (found .from) (found .to)
             × (application .middle ≡ inferred .next) × (application .next ≡ e))
         implication-comes cs M e found sound (F, a, b) (on, ends) =
-            comes-used state buffer at list₁ (inferred .ledger) F a b (found .from) (found .to) (inferred .next) e application
+            comes-used state buffer at list₁ (inferred .ledger) F a b (found .from) (found .to) (inferred .next) e application sound
             (puts state list₁ F a b (found .from) (found .to) (length cs) left (scope .count) (found .other) (found .after) (found .between) e
             sound on (omega arith) (rw ends (found .other-reads)) (found .from-reads) (found .to-reads))
 

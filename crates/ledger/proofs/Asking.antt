@@ -3,8 +3,8 @@ use Prim.Native.Nat.{ℕ, _+_, _*_, _<_}
 use mathlib.Core.Path.{_≡_, refl, sym, ap, _∙_}
 use mathlib.Core.List.{List}
 use mathlib.Core.Option.{Option, some, none}
-use mathlib.Core.Logic.{ite, if-pos, if-neg}
-use native.Mathlib.Decide.{decLt}
+use mathlib.Core.Logic.{ite, if-pos, if-neg, ⊎-elim}
+use native.Mathlib.Omega.{arith}
 use lib.ListN.{length}
 use Rattle.procap.specs.Lists.{In}
 use Rattle.procap.specs.Times.{AtMost, decided}
@@ -14,13 +14,13 @@ use Rattle.procap.specs.States.{stated}
 use Rattle.procap.specs.Outcome.{granted, refused, go-on}
 use Rattle.procap.specs.Deciding.{in?, spelled?}
 use Rattle.procap.specs.declared.answer.Answer.{Answer}
-use Rattle.procap.specs.declared.answer.Answer.the-variants.{OrderFalse, FactsFull, FactMissing}
+use Rattle.procap.specs.declared.answer.Answer.the-variants.{OrderFalse, FactMissing}
 use Rattle.procap.specs.declared.fact.Fact.{Fact}
 use Rattle.procap.specs.declared.time.Time.{Time}
 use Rattle.procap.specs.declared.time.Decision.{Decision}
 use Rattle.procap.specs.declared.time.Decision.the-variants.{Fails}
 use Rattle.procap.proofs.Spelling.{spelled-put}
-use Rattle.bl.specs.Questions.{Question, at-most, holds, Test, done, ask, ask-order, ask-fact}
+use Rattle.bl.specs.Questions.{Question, at-most, holds, Test, done, ask, cost, asks, ask-order, ask-fact}
 use Rattle.bl.specs.Readings.{Kept, True, true?, fault, narrow, list-fact, learn, answered, run}
 use Rattle.state.specs.Standing.{Stands}
 use Rattle.ledger.specs.declared.Reading.{Reading}
@@ -28,9 +28,9 @@ use Rattle.ledger.specs.declared.Reading.the-variants.{Office, Press}
 use Rattle.ledger.specs.declared.Ledger.{Ledger}
 use Rattle.ledger.specs.Books.{book, Sound, fact-numbers, list-numbers, fact-in, facts-in, Gives, stop-of, reading-in, keeping, stopped-by, kept-of, reading-of, facts-said, resume, unless-stopped}
 use Rattle.ledger.specs.Putting.{KeptBefore}
-use Rattle.ledger.proofs.Stopping.{Stops, false-stops, full-stops, fault-stops}
-use Rattle.ledger.proofs.Giving.{refuses, same-sound}
-use Rattle.ledger.proofs.Listing.{facts-counted, more-sound, facts-more}
+use Rattle.ledger.proofs.Stopping.{Stops, false-stops, fault-stops}
+use Rattle.ledger.proofs.Giving.{goes-or-stopped, stays, refuses, same-sound}
+use Rattle.ledger.proofs.Listing.{more-sound, facts-more}
 
 -- ── A question, as a book is read ──
 
@@ -47,7 +47,7 @@ module _ (state list : List ℕ) (l : Ledger) (x : Question) (q : ℕ) where
   grants list′ r e f s h = record {
     same-reading = e;
     sound = s;
-    resumed =
+    resumed = λ _.
         ap (λ t. unless-stopped t (run (reading-of state (reading-in r)) (done (tt {0})) (kept-of (book r list′)))) f
         ∙ ap (λ y. unless-stopped (stop-of l) (go-on y (λ k. granted (tt {0}, k)))) (sym h);
   }
@@ -79,37 +79,36 @@ module _ (state list : List ℕ) (l : Ledger) (q : ℕ) (t u : Time) (d : Decisi
   unfolding learn narrow
   order-fails k = denies state list l (at-most t u) q (OrderFalse q) (false-stops q) s (learnt state (reading-in l) _ q _ o ∙ rw (← h, k))
 
+-- Without room for a fact no walk that asks for one goes on.
+pub no-room : (state list : List ℕ) (l : Ledger) (q : ℕ) (f : Fact) → Sound (book l list) → (l .count < most-facts → ⊥)
+    → Gives state (book l list) (ask-fact q (spelled f)) (book l list) tt
+unfolding asks cost
+no-room state list l q f s full = record {
+  same-reading = refl;
+  sound = s;
+  resumed = λ room. ⊎-elim (λ going. absurd (omega (arith, room going, full))) (λ e. stays state (book l list) (e .0) _ tt (e .1) s .resumed room) (goes-or-stopped (stop-of l));
+}
+
 module _ (state list : List ℕ) (l : Ledger) (q : ℕ) (f : Fact) (s : Sound (book l list)) (o : reading-in l ≡ Office) where
   -- A fact that is listed leaves the book as it is.
   pub already-listed : In (spelled f) (facts-in list (l .count)) → Gives state (book l list) (ask-fact q (spelled f)) (book l list) tt
   unfolding learn list-fact kept-of
   already-listed h =
       grants state list l (holds (spelled f)) q list l refl refl s
-      (learnt state (reading-in l) _ q _ o ∙ if-pos (in? spelled? (spelled f) (facts-in list (l .count))) h _ _)
+      (learnt state (reading-in l) _ q _ o ∙ ap granted (if-pos (in? spelled? (spelled f) (facts-in list (l .count))) h _ _))
 
-  module _ (new : In (spelled f) (facts-in list (l .count)) → ⊥) where
-    -- A new one for which there is no room stops the walk.
-    pub list-full : (l .count < most-facts → ⊥) → Gives state (book l list) (ask-fact q (spelled f)) (book (stopped-by (FactsFull q) l) list) tt
-    unfolding learn list-fact kept-of
-    list-full n =
-        denies state list l (holds (spelled f)) q (FactsFull q) (full-stops q) s
-        (learnt state (reading-in l) _ q _ o
-        ∙ if-neg (in? spelled? (spelled f) (facts-in list (l .count))) new _ _
-        ∙ if-neg (decLt (length (facts-in list (l .count))) most-facts) (λ h. n (rw facts-counted at h)) _ _)
-
-    -- A new one for which there is room is listed last.
-    pub listed-last : (more : List ℕ) (r : Ledger) → l .count < most-facts → length more ≡ list-numbers
-        → fact-in more (l .count) ≡ f → KeptBefore (l .count * fact-numbers) list more → f ≡ fact-of (spelled f)
-        → r ≡ keeping l (l .from) (l .to) (l .count + 1)
-        → Gives state (book l list) (ask-fact q (spelled f)) (book r more) tt
-    unfolding learn list-fact kept-of
-    listed-last more r h room put kept form e =
-        grants state list l (holds (spelled f)) q more r (ap reading-in e) (ap stop-of e)
-        (more-sound list more l f put kept r s room h form (ap (λ x. x .count) e))
-        (learnt state (reading-in l) _ q _ o
-        ∙ if-neg (in? spelled? (spelled f) (facts-in list (l .count))) new _ _
-        ∙ if-pos (decLt (length (facts-in list (l .count))) most-facts) (rw facts-counted h) _ _
-        ∙ rw e (ap (λ fs. granted record { from = l .from; to = l .to; facts = fs }) (sym (facts-more list more l f put kept))))
+  -- A new one, for which there is room, is listed last.
+  pub listed-last : (In (spelled f) (facts-in list (l .count)) → ⊥) → (more : List ℕ) (r : Ledger) → l .count < most-facts → length more ≡ list-numbers
+      → fact-in more (l .count) ≡ f → KeptBefore (l .count * fact-numbers) list more → f ≡ fact-of (spelled f)
+      → r ≡ keeping l (l .from) (l .to) (l .count + 1)
+      → Gives state (book l list) (ask-fact q (spelled f)) (book r more) tt
+  unfolding learn list-fact kept-of
+  listed-last new more r h room put kept form e =
+      grants state list l (holds (spelled f)) q more r (ap reading-in e) (ap stop-of e)
+      (more-sound list more l f put kept r s room h form (ap (λ x. x .count) e))
+      (learnt state (reading-in l) _ q _ o
+      ∙ ap granted (if-neg (in? spelled? (spelled f) (facts-in list (l .count))) new _ _)
+      ∙ rw e (ap (λ fs. granted record { from = l .from; to = l .to; facts = fs }) (sym (facts-more list more l f put kept))))
 
 -- ── At a press ──
 

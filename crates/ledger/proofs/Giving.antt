@@ -1,5 +1,6 @@
--- Walks from book to book compose like the lines of a `do`, stopped books included.
+-- Walks from book to book compose like the lines of a `do`, stopped books included. Room for all of it is room for its first line, and then for the rest.
 use Prim.Native.Nat.{ℕ}
+use native.Mathlib.Omega.{arith}
 use mathlib.Core.Path.{_≡_, refl, sym, ap, _∙_}
 use mathlib.Core.List.{List}
 use mathlib.Core.Logic.{_⊎_, inl, inr, ⊎-elim}
@@ -9,10 +10,13 @@ use Rattle.procap.specs.declared.answer.Answer.the-variants.{StepUnfit}
 use Rattle.bl.specs.Questions.{Walk, done, misfit, ask, _>>=_}
 use Rattle.bl.specs.Readings as bl
 use Rattle.bl.specs.Readings.{Kept, run, answered}
+use Rattle.bl.proofs.ListGrows.{list-grows, asks-both, asks-first}
+use Rattle.procap.proofs.Granted.{no-grant}
 use Rattle.ledger.specs.declared.Stop.{Stop}
 use Rattle.ledger.specs.declared.Stop.the-variants.{Going, Stopped}
 use Rattle.ledger.specs.declared.Ledger.{Ledger}
-use Rattle.ledger.specs.Books.{Book, book, Sound, Gives, stop-of, reading-in, misfitted, stopped-by, kept-of, reading-of, resume, unless-stopped}
+use Rattle.ledger.specs.Books.{Book, book, Sound, HasRoom, Gives, stop-of, reading-in, misfitted, stopped-by, kept-of, reading-of, resume, unless-stopped}
+use Rattle.ledger.proofs.Listing.{facts-counted}
 use Rattle.ledger.proofs.Stopping.{Stops, unfit-stops, stopped-now, stopped-before, stopped-reading, stopped-count}
 
 -- ── One line of a `do` ──
@@ -54,12 +58,12 @@ stop-done (Stopped answer) o a g s = refl
 
 -- Where the work of w led from the book b to m and the value a, the rest goes on from there.
 resume-then : {A B : Type 0} (state : List ℕ) (b m : Book) (w : Walk A) (a : A) (g : A → Walk B)
-    → Gives state b w m a → resume state b (w >>= g) ≡ resume state m (g a)
+    → Gives state b w m a → HasRoom b w → resume state b (w >>= g) ≡ resume state m (g a)
 unfolding resume kept-of
-resume-then state b m w a g h =
+resume-then state b m w a g h room =
     let o = reading-of state (reading-in (b .ledger)) in
     stop-then (stop-of (b .ledger)) o w g (kept-of b)
-    ∙ ap (λ x. go-on x (λ r. run o (g (r .0)) (r .1))) (sym (h .resumed))
+    ∙ ap (λ x. go-on x (λ r. run o (g (r .0)) (r .1))) (sym (h .resumed room))
     ∙ rw (h .same-reading) (stop-done (stop-of (m .ledger)) o a g (kept-of m))
 
 -- A stop that is a stop gives its answer.
@@ -72,18 +76,44 @@ pub stop-going : {A : Type 0} (t : Stop) (o : Outcome A) → t ≡ Going → unl
 unfolding unless-stopped
 stop-going t o e = rw e
 
+-- Where a book goes on with a grant, it went on before, and the walk was granted.
+from-going : {A : Type 0} (t t′ : Stop) (x y : Outcome A) → t′ ≡ Going → unless-stopped t′ x ≡ unless-stopped t y → (r : A) → x ≡ granted r
+    → (t ≡ Going) × (y ≡ granted r)
+unfolding unless-stopped
+from-going Going t′ x y e same r h = (refl, sym same ∙ stop-going t′ x e ∙ h)
+from-going (Stopped answer) t′ x y e same r h = no-grant (sym same ∙ stop-going t′ x e ∙ h)
+
+-- ── Room ──
+
+-- Room for both lines is room for the first,
+room-first : {A B : Type 0} (b : Book) (w : Walk A) (g : A → Walk B) → HasRoom b (w >>= g) → HasRoom b w
+room-first b w g room going = omega (arith, room going, asks-first w g)
+
+-- and, after the first, for the second: what the first listed it asked for.
+room-then : {A B : Type 0} (state : List ℕ) (b m : Book) (w : Walk A) (a : A) (g : A → Walk B) → Gives state b w m a → HasRoom b (w >>= g)
+    → HasRoom m (g a)
+unfolding resume kept-of run
+room-then state b m w a g h room going =
+    let o = reading-of state (reading-in (b .ledger)) in
+    let (before, run-granted) = from-going _ _ _ _ going (h .resumed (room-first b w g room)) (a, kept-of m) refl in
+    let listed = list-grows o w (kept-of b) a (kept-of m) run-granted in
+    let both = asks-both o w g (kept-of b) a (kept-of m) run-granted in
+    omega (arith, room before, listed, both, facts-counted (b .list) (b .ledger .count), facts-counted (m .list) (m .ledger .count))
+
+-- ── Two lines ──
+
 -- Two lines of a `do`, one after the other.
 pub then : {A B : Type 0} (state : List ℕ) (b m r : Book) (w : Walk A) (a : A) (g : A → Walk B) (x : B)
     → Gives state b w m a → Gives state m (g a) r x → Gives state b (w >>= g) r x
 then state b m r w a g x e f = record {
   same-reading = f .same-reading ∙ e .same-reading;
   sound = f .sound;
-  resumed = f .resumed ∙ sym (resume-then state b m w a g e);
+  resumed = λ room. f .resumed (room-then state b m w a g e room) ∙ sym (resume-then state b m w a g e (room-first b w g room));
 }
 
 -- Nothing to do.
 pub idle : {A : Type 0} (state : List ℕ) (b : Book) (a : A) → Sound b → Gives state b (done a) b a
-idle state b a s = record { same-reading = refl; sound = s; resumed = refl }
+idle state b a s = record { same-reading = refl; sound = s; resumed = λ _. refl }
 
 -- A book whose ledger counts as many facts is as sound.
 pub same-sound : (list : List ℕ) (l r : Ledger) → r .count ≡ l .count → Sound (book l list) → Sound (book r list)
@@ -102,7 +132,7 @@ unfolding resume
 refuses state list l answer w a k s h = record {
   same-reading = stopped-reading answer l;
   sound = same-sound list l (stopped-by answer l) (stopped-count answer l) s;
-  resumed = ⊎-elim now before (goes-or-stopped (stop-of l));
+  resumed = λ _. ⊎-elim now before (goes-or-stopped (stop-of l));
 }
   where
     now : stop-of l ≡ Going → resume state (book (stopped-by answer l) list) (done a) ≡ resume state (book l list) w
@@ -128,7 +158,7 @@ unfolding resume
 stays state b answer w a e s = record {
   same-reading = refl;
   sound = s;
-  resumed = stop-refused (stop-of (b .ledger)) answer _ e ∙ sym (stop-refused (stop-of (b .ledger)) answer _ e);
+  resumed = λ _. stop-refused (stop-of (b .ledger)) answer _ e ∙ sym (stop-refused (stop-of (b .ledger)) answer _ e);
 }
 
 -- What has stopped after one line is what the whole comes to.

@@ -8,7 +8,7 @@ use borrow.Author.Tests.{eqb-true, eqb-false, eq-eqb, ne-eqb}
 use Rattle.procap.specs.Tells.{Tells, pick}
 use Rattle.procap.specs.Answers.{number-of, place-of}
 use Rattle.procap.specs.declared.answer.Answer.{Answer}
-use Rattle.procap.specs.declared.answer.Answer.the-variants.{StepUnfit, OrderFalse, FactsFull}
+use Rattle.procap.specs.declared.answer.Answer.the-variants.{StepUnfit, OrderFalse}
 use Rattle.procap.proofs.Telling.{picked, tells-if}
 use Rattle.bl.specs.Questions.{Question, at-most, holds}
 use Rattle.bl.specs.Readings.{fault}
@@ -38,8 +38,7 @@ unfolding stop-by
 going-number l e =
     picked (eqb (l .number) 0) _ _ _
     (either-apart (eqb (l .number) 3) _ _ (stopped-apart _)
-    (either-apart (eqb (l .number) 4) _ _ (stopped-apart _)
-    (either-apart (eqb (l .number) 6) _ _ (stopped-apart _) (stopped-apart _))))
+    (either-apart (eqb (l .number) 4) _ _ (stopped-apart _) (stopped-apart _)))
     e
     (λ t same. eqb-true (l .number) 0 t)
 
@@ -69,10 +68,6 @@ unfit-stops q = refl
 pub false-stops : (q : ℕ) → Stops (OrderFalse q)
 unfolding stop-by
 false-stops q = refl
-
-pub full-stops : (q : ℕ) → Stops (FactsFull q)
-unfolding stop-by
-full-stops q = refl
 
 pub fault-stops : (x : Question) (q : ℕ) → Stops (fault x q)
 unfolding stop-by fault

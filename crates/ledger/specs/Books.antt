@@ -14,10 +14,10 @@ use Rattle.procap.specs.Procaps.{most-facts}
 use Rattle.procap.specs.States.{stated}
 use Rattle.procap.specs.Outcome.{Outcome, refused}
 use Rattle.procap.specs.declared.answer.Answer.{Answer}
-use Rattle.procap.specs.declared.answer.Answer.the-variants.{StepUnfit, OrderFalse, FactsFull, FactMissing}
+use Rattle.procap.specs.declared.answer.Answer.the-variants.{StepUnfit, OrderFalse, FactMissing}
 use Rattle.procap.specs.declared.fact.Argument.{Argument}
 use Rattle.procap.specs.declared.fact.Fact.{Fact}
-use Rattle.bl.specs.Questions.{Walk, done, Test}
+use Rattle.bl.specs.Questions.{Walk, done, asks, Test}
 use Rattle.bl.specs.Readings as bl
 use Rattle.bl.specs.Readings.{Kept, office, press, run}
 use Rattle.ledger.specs.declared.Reading.{Reading}
@@ -58,8 +58,7 @@ unfoldable pub stop-by : ℕ → ℕ → Stop
 stop-by n p =
     pick (eqb n 0) Going
     (pick (eqb n (number-of (StepUnfit p))) (Stopped (StepUnfit p))
-    (pick (eqb n (number-of (OrderFalse p))) (Stopped (OrderFalse p))
-    (pick (eqb n (number-of (FactsFull p))) (Stopped (FactsFull p)) (Stopped (FactMissing p)))))
+    (pick (eqb n (number-of (OrderFalse p))) (Stopped (OrderFalse p)) (Stopped (FactMissing p))))
 
 -- The same of a ledger.
 abbrev pub stop-of : Ledger → Stop
@@ -128,11 +127,15 @@ unless-stopped (Stopped answer) o = refused answer
 unfoldable pub resume : {A : Type 0} → List ℕ → Book → Walk A → Outcome (A × Kept)
 resume state b w = unless-stopped (stop-of (b .ledger)) (run (reading-of state (reading-in (b .ledger))) w (kept-of b))
 
--- The work of the walk w, from the book b, led to the book b′ and the value a.
+-- While the walk w goes on from the book b, the facts listed and those that it still asks for are at most 16.
+abbrev pub HasRoom : {A : Type 0} → Book → Walk A → Type 0
+HasRoom b w = stop-of (b .ledger) ≡ Going → b .ledger .count + asks w ≤ most-facts
+
+-- The work of the walk w, from the book b, led to the book b′ and the value a: with room for its facts, what is left to read is what was to be read.
 pub record Gives {A : Type 0} (state : List ℕ) (b : Book) (w : Walk A) (b′ : Book) (a : A) : Type 0 where
   pub same-reading : reading-in (b′ .ledger) ≡ reading-in (b .ledger)
   pub sound : Sound b′
-  pub resumed : resume state b′ (done a) ≡ resume state b w
+  pub resumed : HasRoom b w → resume state b′ (done a) ≡ resume state b w
 
 -- The ledger stopped by an answer, unless it was before.
 unfoldable pub stopped-by : Answer → Ledger → Ledger

@@ -97,7 +97,6 @@ impl Ledger {
             0 => Stop::Going,
             3 => Stop::Stopped(Answer::StepUnfit(place)),
             4 => Stop::Stopped(Answer::OrderFalse(place)),
-            6 => Stop::Stopped(Answer::FactsFull(place)),
             _ => Stop::Stopped(Answer::FactMissing(place)),
         }
     }
@@ -203,7 +202,7 @@ pub fn ask_fact(
     }
     let press = ledger.press;
     if press == 0 {
-        return list_fact(facts, ledger, offset, fact);
+        return list_fact(facts, ledger, fact);
     }
     if stands_in(state, fact.at_moment(press - 1)) {
         return ledger;
@@ -211,20 +210,17 @@ pub fn ask_fact(
     ledger.stopped(Answer::FactMissing(offset))
 }
 
-// The fact goes to the end of the office's list, unless it stands there or the list is full.
-fn list_fact(facts: &mut [u64], ledger: Ledger, offset: usize, fact: Fact) -> Ledger
-    ensures { λ r. ⌜ ((state : List ℕ) → Sound (book ledger (now (facts .entry))) → «reading-in» ledger ≡ Reading.Office → fact ≡ «fact-of» (spelled fact) → Gives state (book ledger (now (facts .entry))) («ask-fact» offset (spelled fact)) (book r (now (facts .exit))) tt) ⌝ }
+// The fact goes to the end of the office's list, unless it stands there.
+fn list_fact(facts: &mut [u64], ledger: Ledger, fact: Fact) -> Ledger
+    ensures { λ r. ⌜ ((state : List ℕ) (offset : ℕ) → Sound (book ledger (now (facts .entry))) → «reading-in» ledger ≡ Reading.Office → fact ≡ «fact-of» (spelled fact) → Gives state (book ledger (now (facts .entry))) («ask-fact» offset (spelled fact)) (book r (now (facts .exit))) tt) ⌝ }
 {
     let count = ledger.count;
-    // No sound book counts more.
-    if MOST_FACTS < count {
-        return ledger.stopped(Answer::FactsFull(offset));
+    // The walk of a proof that reads has room for each fact that it asks for (`HasRoom`): the test only keeps the index below within the list.
+    if !has_room(facts, count) {
+        return ledger;
     }
     if is_listed(facts, count, fact) {
         return ledger;
-    }
-    if !has_room(facts, count) {
-        return ledger.stopped(Answer::FactsFull(offset));
     }
     put_fact(facts, count, fact);
     ledger.keeping(ledger.from, ledger.to, count + 1)

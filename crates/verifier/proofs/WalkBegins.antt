@@ -3,6 +3,7 @@ use Prim.Native.Nat.{ℕ, _+_, _-_}
 use native.Mathlib.Omega.{arith}
 use mathlib.Core.Path.{_≡_, refl, _∙_}
 use mathlib.Core.List.{List, []}
+use mathlib.Core.Option.{some}
 use lib.ListN.{length}
 use Rattle.procap.specs.Numbered.{time-numbers, time-of}
 use Rattle.procap.specs.declared.time.Time.the-variants.{Ctime}
@@ -10,10 +11,11 @@ use Rattle.procap.specs.declared.procap.Request.{Request}
 use Rattle.bl.specs.Trees.{Check}
 use Rattle.bl.specs.Certificates.{Statement}
 use Rattle.bl.specs.Rules.{goal}
-use Rattle.bl.specs.Steps.{most-proof-levels}
+use Rattle.bl.specs.Steps.{most-proof-levels, proof-in}
 use Rattle.bl.specs.Walk.{walk}
 use Rattle.bl.specs.Readings.{start, run}
 use Rattle.bl.proofs.Called.{proof-step}
+use Rattle.bl.proofs.FactsCounted.{at-most-16-asked}
 use Rattle.ledger.specs.declared.Reading.{Reading}
 use Rattle.ledger.specs.declared.Reading.the-variants.{Office, Press}
 use Rattle.ledger.specs.declared.Ledger.{Ledger}
@@ -22,7 +24,7 @@ use Rattle.judging.specs.declared.judge.View.the-variants.{NoView}
 use Rattle.formula.specs.declared.parts.Judgement.{Judgement}
 use Rattle.judging.specs.declared.walk.Checked.{Checked}
 use Rattle.ledger.proofs.Stopping.{at-press}
-use Rattle.ledger.specs.Books.{OnClock, begun, stop-by, reading-by, book, list-numbers, Sound, facts-in, kept-of, reading-of, unless-stopped, resume}
+use Rattle.ledger.specs.Books.{OnClock, begun, stop-by, reading-by, book, list-numbers, Sound, HasRoom, facts-in, kept-of, reading-of, unless-stopped, resume}
 use Rattle.formula.specs.PutIn.{no-terms}
 use Rattle.formula.specs.Meaning.{Means}
 use Rattle.judging.specs.RowsOf.{Assumed, all-numbers}
@@ -35,6 +37,13 @@ begun-sound : (reading : Reading) (list : List ℕ) → length list ≡ list-num
 unfolding begun
 begun-sound Office list room = record { room = room; few = omega arith; in-form = λ i h. absurd (omega arith) }
 begun-sound (Press m) list room = record { room = room; few = omega arith; in-form = λ i h. absurd (omega arith) }
+
+-- No fact is listed there, and the walk of a proof that reads asks for at most 16.
+begun-room : (reading : Reading) (list proof : List ℕ) (r : Request) (cs : List Statement) (N : Check) → proof-in (length cs) proof ≡ some N
+    → HasRoom (book (begun reading) list) (walk r cs N)
+unfolding begun
+begun-room Office list proof r cs N reads _ = omega (arith, at-most-16-asked r cs (length cs) proof N reads)
+begun-room (Press m) list proof r cs N reads _ = omega (arith, at-most-16-asked r cs (length cs) proof N reads)
 
 -- A walk read on from there is the walk read from what verify starts with.
 begun-resumes : (state list : List ℕ) (reading : Reading) (r : Request) (cs : List Statement) (N : Check)
@@ -61,7 +70,7 @@ unfolding Assumed walk view-in time-of
 walk-of-goal r buffer proof state rows assumptions goal-bytes reading list c list′ all-there means checks cs N on-clock room certified reads =
     let around : Around buffer rows assumptions outermost most-proof-levels cs [] = record { certified = certified; assumed = tt; shut-inside = omega arith; room = omega arith; all-there = all-there } in
     let passes = checks cs [] N (length proof) (begun-sound reading list room) around (proof-step (length cs) proof N reads) (goal r) means in
-    (passes .gives .sound, passes .gives .resumed ∙ begun-resumes state list reading r cs N)
+    (passes .gives .sound, passes .gives .resumed (begun-room reading list proof r cs N reads) ∙ begun-resumes state list reading r cs N)
 
 -- So the walk from the goal of a request, with the ledger at its start, is the walk of the proof.
 pub walk-of-request : (r : Request) (buffer proof state rows assumptions goal-bytes : List ℕ) (reading : Reading) (list : List ℕ) (c : Checked) (list′ : List ℕ) (l : Ledger) (j : Judgement)

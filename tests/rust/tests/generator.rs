@@ -55,7 +55,7 @@ impl Watch for Seen {
     }
 }
 
-/// What valid and damaged cases must bring up: a full list of facts cannot overflow, and verify asks no state.
+/// What valid and damaged cases must bring up: a fact that is met is listed, and verify asks no state.
 fn wanted() -> Vec<(Clause, bool)> {
     let mut all = Vec::new();
     for clause in Clause::ALL {

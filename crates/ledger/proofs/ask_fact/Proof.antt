@@ -26,7 +26,7 @@ same-length c = search needs
 returns-2 : tie.Need-returns-2
 returns-2 c =
     let at-list = c .before .before in
-    λ s form few. at-list .list-fact .ensures _ s (at-office _ (at-list .before .before .if2 .taken)) form
+    λ s form few. at-list .list-fact .ensures _ _ s (at-office _ (at-list .before .before .if2 .taken)) form
 
 sub-at-moment : tie.Need-sub-at-moment
 sub-at-moment c = omega arith

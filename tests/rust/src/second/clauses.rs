@@ -37,7 +37,7 @@ pub enum Clause {
     SaysOutInferred,
     /// 2C: the goal is a state fact.
     StateGoal,
-    /// 2C at the office: the fact is on the list already, or the list has room for it.
+    /// 2C at the office: the fact is on the list now. This one never fails.
     FactListed,
     /// 2C at a press: the fact stands in the state.
     FactStands,

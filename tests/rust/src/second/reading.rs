@@ -5,16 +5,10 @@ use super::state::State;
 use super::times::{order, Order};
 use crate::data::{Fact, Procap, Request, Time, LATEST};
 
-/// How many facts a procap lists at most.
-pub const MOST_FACTS: usize = 16;
-
 /// How a walk reads the order of times and the facts of the state.
 pub trait Reading {
     /// Which clause a fact that is met has to pass.
     const FACT_CLAUSE: Clause;
-
-    /// Which number says that a fact did not pass.
-    const FACT_REFUSAL: u64;
 
     /// Whether a walk may go on after wanting that left is not after right.
     fn not_after(&mut self, left: Time, right: Time) -> bool;
@@ -58,7 +52,6 @@ impl Office {
 
 impl Reading for Office {
     const FACT_CLAUSE: Clause = Clause::FactListed;
-    const FACT_REFUSAL: u64 = 6;
 
     /// Whether it is not decided against; what the press decides is gathered.
     fn not_after(&mut self, left: Time, right: Time) -> bool {
@@ -70,16 +63,13 @@ impl Reading for Office {
         true
     }
 
-    /// Whether the fact is on the list now.
+    /// Lists the fact once, and refuses none: a proof has too few steps of the state for a 17th, so the number 6 is
+    /// withdrawn and left unused.
     fn meet(&mut self, fact: Fact) -> bool {
-        if self.facts.contains(&fact) {
-            return true;
-        }
-        let room = self.facts.len() < MOST_FACTS;
-        if room {
+        if !self.facts.contains(&fact) {
             self.facts.push(fact);
         }
-        room
+        true
     }
 }
 
@@ -91,7 +81,6 @@ pub struct Press {
 
 impl Reading for Press {
     const FACT_CLAUSE: Clause = Clause::FactStands;
-    const FACT_REFUSAL: u64 = 10;
 
     /// Whether it holds with the moment for ctime.
     fn not_after(&mut self, left: Time, right: Time) -> bool {

@@ -11,7 +11,7 @@ const MOST_BYTES: usize = 4096;
 /// How many steps can stand inside of each other, the innermost one included.
 const MOST_LEVELS: usize = 32;
 
-/// How many steps can ask the state.
+/// How many steps can ask the state, each for one fact: no more than a procap can list.
 const MOST_STATE_STEPS: usize = 16;
 
 /// A step of either kind.

@@ -1,10 +1,12 @@
 //! The procap text: its reader and its writer.
 
 use super::lines::{decimal, two_byte_number, Lines};
-use super::reading::MOST_FACTS;
 use super::terms::MOST_TERMS;
 use super::times::in_range;
 use crate::data::{Answer, Fact, Procap, Request, Term, Time, LATEST};
+
+/// How many facts a procap lists at most.
+pub const MOST_FACTS: usize = 16;
 
 /// That a text is malformed, or that a procap has none.
 const NO_TEXT: Answer = Answer::refused(12, 0);

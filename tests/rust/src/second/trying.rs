@@ -44,14 +44,10 @@ impl<'a, R: Reading, W: Watch> Trial<'a, R, W> {
         self.settle(clause, held, Answer::refused(4, offset))
     }
 
-    /// Goes on where the reading takes the fact.
+    /// Goes on where the reading takes the fact, which only the reading at a press can refuse.
     pub fn fact(&mut self, fact: Fact, offset: u64) -> Result<(), Answer> {
         let held = self.reading.meet(fact);
-        self.settle(
-            R::FACT_CLAUSE,
-            held,
-            Answer::refused(R::FACT_REFUSAL, offset),
-        )
+        self.settle(R::FACT_CLAUSE, held, Answer::refused(10, offset))
     }
 
     /// Goes on where a clause held, and refuses otherwise.

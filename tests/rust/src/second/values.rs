@@ -1,8 +1,7 @@
 //! The procap as a value of fixed size, the way a caller hands it over in bytes.
 
-use super::reading::MOST_FACTS;
 use super::terms::MOST_TERMS;
-use super::text::writable;
+use super::text::{writable, MOST_FACTS};
 use crate::data::{Fact, Procap, Request, Term, Time};
 
 /// How many bytes a value has.

@@ -16,7 +16,6 @@ struct Granting {
 
 impl Reading for Granting {
     const FACT_CLAUSE: Clause = Press::FACT_CLAUSE;
-    const FACT_REFUSAL: u64 = Press::FACT_REFUSAL;
 
     /// Whether it holds at the press.
     fn not_after(&mut self, left: Time, right: Time) -> bool {

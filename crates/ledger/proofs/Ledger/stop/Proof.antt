@@ -19,17 +19,12 @@ returns-3 c = sym (ap (λ n. stop-by n (c .before .args .self .place)) (c .match
 
 returns-4 : tie.Need-returns-4
 unfolding stop-by
-returns-4 c = sym (ap (λ n. stop-by n (c .before .args .self .place)) (c .match .keys4))
-
-returns-5 : tie.Need-returns-5
-unfolding stop-by
-returns-5 c =
+returns-4 c =
     simp (
-      ne-eqb _ _ (c .match .rest .0 .0 .0 .1),
       ne-eqb _ _ (c .match .rest .0 .0 .1),
       ne-eqb _ _ (c .match .rest .0 .1),
       ne-eqb _ _ (c .match .rest .1),
     )
 
 pub stop-spec : {M : Type 1} → statement M
-stop-spec = tie.close (tie.spec returns returns-2 returns-3 returns-4 returns-5)
+stop-spec = tie.close (tie.spec returns returns-2 returns-3 returns-4)

@@ -29,6 +29,8 @@ pub struct Coverage {
     pub answers: BTreeMap<(Call, u64), u64>,
     /// The places of the program's 14.
     pub lines: BTreeMap<u64, u64>,
+    /// How many facts the issued procaps list.
+    pub facts: BTreeMap<u64, u64>,
     /// How often a question was asked, by its name.
     pub asked: BTreeMap<&'static str, u64>,
 }
@@ -88,6 +90,7 @@ impl Coverage {
             direct: Walked::new(),
             answers: BTreeMap::new(),
             lines: BTreeMap::new(),
+            facts: BTreeMap::new(),
             asked: BTreeMap::new(),
         }
     }
@@ -107,12 +110,18 @@ impl Coverage {
         *self.lines.entry(line).or_default() += 1;
     }
 
+    /// A procap was issued that lists so many facts.
+    pub fn listed(&mut self, facts: usize) {
+        *self.facts.entry(facts as u64).or_default() += 1;
+    }
+
     /// Adds what came up elsewhere.
     pub fn add(&mut self, other: &Coverage) {
         self.verify.add(&other.verify);
         self.direct.add(&other.direct);
         add_named(&mut self.answers, &other.answers);
         add_named(&mut self.lines, &other.lines);
+        add_named(&mut self.facts, &other.facts);
         add_named(&mut self.asked, &other.asked);
     }
 }

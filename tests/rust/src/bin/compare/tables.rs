@@ -3,8 +3,7 @@
 use crate::coverage::{Call, Coverage, Walked};
 use second_opinion::second::Clause;
 
-/// The answers that a call gives; any other never comes. A 6 never does: a proof has at most 16 steps 2C, so that no
-/// 17th fact can be met.
+/// The answers that a call gives; any other never comes. 6 is no answer of any: the number is withdrawn.
 const ANSWERS: [(Call, &[u64]); 7] = [
     (Call::Verify, &[0, 1, 2, 3, 4, 5, 13]),
     (Call::Direct, &[0, 1, 2, 3, 4, 7, 10, 11]),
@@ -18,12 +17,15 @@ const ANSWERS: [(Call, &[u64]); 7] = [
 /// The lines at which a malformed input must have been refused, 0 standing for one that is too long.
 const LINES: std::ops::RangeInclusive<u64> = 0..=12;
 
+/// How many facts an issued procap may list; each number must have come, so that the list was full.
+const FACTS: std::ops::RangeInclusive<u64> = 0..=16;
+
 /// Whether verify can have a clause come out this way.
 fn possible_in_verify(clause: Clause, held: bool) -> bool {
     match clause {
         // Verify asks no state.
         Clause::FactStands => false,
-        // There is always room for a fact, as 6 never comes.
+        // A fact that is met is listed.
         Clause::FactListed => held,
         _ => true,
     }
@@ -63,6 +65,7 @@ impl Report {
         report.questions(coverage);
         report.answers(coverage);
         report.input_lines(coverage);
+        report.facts(coverage);
         report.tags("verify, steps", &coverage.verify.steps, 0x20..=0x2d);
         report.tags("direct, steps", &coverage.direct.steps, 0x20..=0x2d);
         report.tags("verify, formulas", &coverage.verify.formulas, 0x10..=0x19);
@@ -112,7 +115,7 @@ impl Report {
             }
             self.line(line);
         }
-        self.line("  6 is expected never: a proof has at most 16 steps 2C".to_string());
+        self.line("  6 is withdrawn, and expected never".to_string());
     }
 
     /// At which lines malformed inputs were refused.
@@ -125,6 +128,20 @@ impl Report {
         }
         let last = coverage.lines.keys().last().copied().unwrap_or(0);
         self.line(format!("{line}  ... the last: {last}"));
+    }
+
+    /// How many facts the issued procaps list.
+    fn facts(&mut self, coverage: &Coverage) {
+        let mut line = "facts listed".to_string();
+        for number in FACTS {
+            let count = coverage.facts.get(&number).copied().unwrap_or(0);
+            self.expect(true, count, || format!("a procap with {number} facts"));
+            line += &format!("  {number}: {count}");
+        }
+        let beyond = coverage.facts.keys().any(|number| !FACTS.contains(number));
+        let more = || "a procap with more than 16 facts".to_string();
+        self.expect(false, u64::from(beyond), more);
+        self.line(line);
     }
 
     /// How often each tag of a range came up.

@@ -26,5 +26,8 @@ pub fn ask(asking: &mut Asking) -> Result<Result<Procap, Answer>, Difference> {
     )?;
     asking.coverage.asked("verify");
     asking.coverage.answered(Call::Verify, answer.number);
+    if let Ok(procap) = &issued {
+        asking.coverage.listed(procap.facts.len());
+    }
     Ok(issued)
 }
