@@ -2,6 +2,7 @@
 
 use crate::coverage::{Call, Coverage, Walked};
 use second_opinion::second::Clause;
+use std::collections::BTreeMap;
 
 /// The answers that a call gives; any other never comes. 6 is no answer of any: the number is withdrawn.
 const ANSWERS: [(Call, &[u64]); 7] = [
@@ -120,28 +121,34 @@ impl Report {
 
     /// At which lines malformed inputs were refused.
     fn input_lines(&mut self, coverage: &Coverage) {
-        let mut line = "  14 at line".to_string();
-        for number in LINES {
-            let count = coverage.lines.get(&number).copied().unwrap_or(0);
-            self.expect(true, count, || format!("14 at place {number}"));
-            line += &format!("  {number}: {count}");
-        }
+        let counted = self.each_of(LINES, &coverage.lines, "14 at place");
         let last = coverage.lines.keys().last().copied().unwrap_or(0);
-        self.line(format!("{line}  ... the last: {last}"));
+        self.line(format!("  14 at line{counted}  ... the last: {last}"));
     }
 
     /// How many facts the issued procaps list.
     fn facts(&mut self, coverage: &Coverage) {
-        let mut line = "facts listed".to_string();
-        for number in FACTS {
-            let count = coverage.facts.get(&number).copied().unwrap_or(0);
-            self.expect(true, count, || format!("a procap with {number} facts"));
-            line += &format!("  {number}: {count}");
-        }
+        let counted = self.each_of(FACTS, &coverage.facts, "facts in a procap:");
+        self.line(format!("facts listed{counted}"));
         let beyond = coverage.facts.keys().any(|number| !FACTS.contains(number));
         let more = || "a procap with more than 16 facts".to_string();
         self.expect(false, u64::from(beyond), more);
-        self.line(line);
+    }
+
+    /// How often each number of a range came up, as part of a line; each must have.
+    fn each_of(
+        &mut self,
+        numbers: std::ops::RangeInclusive<u64>,
+        counts: &BTreeMap<u64, u64>,
+        what: &str,
+    ) -> String {
+        let mut line = String::new();
+        for number in numbers {
+            let count = counts.get(&number).copied().unwrap_or(0);
+            self.expect(true, count, || format!("{what} {number}"));
+            line += &format!("  {number}: {count}");
+        }
+        line
     }
 
     /// How often each tag of a range came up.
