@@ -6,11 +6,11 @@ use mathlib.Core.Logic.{ite}
 use native.Mathlib.Omega.{arith}
 use lib.ListN.{length, length-append}
 use Rattle.procap.specs.Lists.{In}
-use Rattle.procap.specs.Times.{decided}
+use Rattle.procap.specs.Order.{decided}
 use Rattle.procap.specs.Facts.{Spelled}
 use Rattle.procap.specs.declared.time.Time.{Time}
-use Rattle.procap.specs.declared.time.Decision.{Decision}
-use Rattle.procap.specs.declared.time.Decision.the-variants.{Holds, Fails, RaisesFrom, LowersTo}
+use Rattle.procap.specs.declared.order.Decision.{Decision}
+use Rattle.procap.specs.declared.order.Decision.the-variants.{Holds, Fails, RaisesFrom, LowersTo}
 use Rattle.procap.specs.Deciding.{in?, spelled?}
 use Rattle.procap.specs.Outcome.{Outcome, granted, refused, go-on}
 use Rattle.bl.specs.Questions.{Question, at-most, holds, Walk, done, misfit, ask, cost, asks, _>>=_}

@@ -7,7 +7,7 @@ use mathlib.Core.Logic.{ite, if-pos, if-neg, ⊎-elim}
 use native.Mathlib.Omega.{arith}
 use lib.ListN.{length}
 use Rattle.procap.specs.Lists.{In}
-use Rattle.procap.specs.Times.{AtMost, decided}
+use Rattle.procap.specs.Order.{AtMost, decided}
 use Rattle.procap.specs.Facts.{Spelled, spelled, fact-of, fact-at-moment, spelled-at-moment}
 use Rattle.procap.specs.Procaps.{most-facts}
 use Rattle.procap.specs.States.{stated}
@@ -17,8 +17,8 @@ use Rattle.procap.specs.declared.answer.Answer.{Answer}
 use Rattle.procap.specs.declared.answer.Answer.the-variants.{OrderFalse, FactMissing}
 use Rattle.procap.specs.declared.fact.Fact.{Fact}
 use Rattle.procap.specs.declared.time.Time.{Time}
-use Rattle.procap.specs.declared.time.Decision.{Decision}
-use Rattle.procap.specs.declared.time.Decision.the-variants.{Fails}
+use Rattle.procap.specs.declared.order.Decision.{Decision}
+use Rattle.procap.specs.declared.order.Decision.the-variants.{Fails}
 use Rattle.procap.proofs.Spelling.{spelled-put}
 use Rattle.bl.specs.Questions.{Question, at-most, holds, Test, done, ask, cost, asks, ask-order, ask-fact}
 use Rattle.bl.specs.Readings.{Kept, True, true?, fault, narrow, list-fact, learn, answered, run}
