@@ -2,7 +2,7 @@
 use crate::time::Time;
 ghost use mathlib.Core.Path.{_≡_};
 ghost use Rattle.procap.specs.Tells.{Tells};
-ghost use Rattle.procap.specs.Numbered.{«sides-of»};
+ghost use Rattle.procap.specs.Numbered.{«kinds-of»};
 ghost use Rattle.procap.specs.Order.{AtMost, decided};
 
 // The pairs of kinds, left and right, each in one number: the page's tags of both, side by side.
@@ -37,24 +37,11 @@ const CTIME_PLUS: u64 = 0x43;
 // ctime <= ctime
 const CTIME_CTIME: u64 = 0x44;
 
-// The two sides of an order in numbers: the pair of their kinds, and the second that each holds, 0 where it holds none.
-struct Sides {
-    kinds: u64,
-    left: u64,
-    right: u64,
-}
-
-impl Sides {
-    // The two sides in numbers.
-    fn of(left: Time, right: Time) -> Sides
-        ensures { λ r. ⌜ r ≡ «sides-of» left right ⌝ }
-    {
-        Sides {
-            kinds: 16 * left.kind() + right.kind(),
-            left: left.second(),
-            right: right.second(),
-        }
-    }
+// The pair of the kinds of two times.
+fn kinds_of(left: Time, right: Time) -> u64
+    ensures { λ r. ⌜ r ≡ «kinds-of» left right ⌝ }
+{
+    16 * left.kind() + right.kind()
 }
 
 // What verify makes of an order: it holds, it fails, or it narrows the moments at which the procap opens.
@@ -69,11 +56,10 @@ pub enum Decision {
 pub fn at_most(moment: u64, left: Time, right: Time) -> bool
     ensures { λ r. ⌜ Tells r (AtMost moment left right) ⌝ }
 {
-    let sides = Sides::of(left, right);
-    let kinds = sides.kinds;
+    let kinds = kinds_of(left, right);
     match kinds {
         // Ctime is not involved.
-        MOMENT_MOMENT => sides.left <= sides.right,
+        MOMENT_MOMENT => left.second() <= right.second(),
         MOMENT_MINUS => false,
         MOMENT_PLUS => true,
         MINUS_MOMENT => true,
@@ -90,8 +76,8 @@ pub fn at_most(moment: u64, left: Time, right: Time) -> bool
         // Ctime <= ctime holds.
         CTIME_CTIME => true,
         // Otherwise it rests on the moment.
-        MOMENT_CTIME => sides.left <= moment,
-        _ => moment <= sides.right, // ctime <= moment
+        MOMENT_CTIME => left.second() <= moment,
+        _ => moment <= right.second(), // ctime <= moment
     }
 }
 
@@ -99,12 +85,11 @@ pub fn at_most(moment: u64, left: Time, right: Time) -> bool
 pub fn decide(left: Time, right: Time) -> Decision
     ensures { λ r. ⌜ r ≡ decided left right ⌝ }
 {
-    let sides = Sides::of(left, right);
-    let kinds = sides.kinds;
+    let kinds = kinds_of(left, right);
     match kinds {
         // Ctime is not involved: decided at once.
         MOMENT_MOMENT => {
-            if sides.left <= sides.right {
+            if left.second() <= right.second() {
                 Decision::Holds
             } else {
                 Decision::Fails
@@ -126,7 +111,7 @@ pub fn decide(left: Time, right: Time) -> Decision
         // Ctime <= ctime holds.
         CTIME_CTIME => Decision::Holds,
         // Otherwise from is raised or to is lowered.
-        MOMENT_CTIME => Decision::RaisesFrom(sides.left),
-        _ => Decision::LowersTo(sides.right), // ctime <= moment
+        MOMENT_CTIME => Decision::RaisesFrom(left.second()),
+        _ => Decision::LowersTo(right.second()), // ctime <= moment
     }
 }

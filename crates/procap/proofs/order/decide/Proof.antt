@@ -1,88 +1,72 @@
+-- Each arm is a row of the table: the pair that it names are the kinds of the two times, and the definition says the same of two such times.
 use borrow.Author.Needs.{needs}
 use borrow.Author.Tests.{le-leb, lt-leb}
-use native.Mathlib.Omega.{arith}
-use Prim.Native.Nat.{ℕ, _+_, _*_}
-use mathlib.Core.Path.{_≡_, ap, sym, _∙_}
-use Rattle.procap.specs.Numbered.{time-of, sides-of}
-use Rattle.procap.specs.Order.{decided}
+use Prim.Native.Nat.{ℕ, _/_, _%_}
+use mathlib.Core.Bool.{Bool}
+use mathlib.Core.Path.{_≡_, ap, ap₂, sym, _∙_}
+use lib.Dec.{leb}
 use Rattle.procap.specs.Tells.{pick}
-use Rattle.procap.specs.declared.order.Decision.the-variants.{Holds, Fails}
-use Rattle.procap.proofs.Rows.{left-in, right-in, decided-in-row, last-row}
+use Rattle.procap.specs.Order.{decided}
+use Rattle.procap.specs.Numbered.{time-of}
+use Rattle.procap.specs.declared.order.Decision.the-variants.{Holds, Fails, RaisesFrom, LowersTo}
+use Rattle.procap.proofs.Rows.{time-by, decided-in-row, last-row}
 use Rattle.procap.proofs.order.decide.Statement.{statement}
 use Rattle.procap.proofs.order.decide.Tie as tie
 
-in-row : (c : tie.After-of) {n : ℕ} → c .of .result .kinds ≡ n
-    → decided (left-in n (c .of .result)) (right-in n (c .of .result)) ≡ decided (c .before .args .left) (c .before .args .right)
-in-row c row = decided-in-row (c .before .args .left) (c .before .args .right) (c .of .result) (c .of .ensures) row
+-- What the row of a pair says is what the definition says of the two times.
+in-row : (c : tie.After-kinds-of) {n : ℕ} → c .kinds-of .result ≡ n
+    → decided (time-by (n / 16) (c .before .args .left)) (time-by (n % 16) (c .before .args .right)) ≡ decided (c .before .args .left) (c .before .args .right)
+in-row c row = decided-in-row (c .before .args .left) (c .before .args .right) (c .kinds-of .ensures) row
 
-returns : tie.Need-returns
+-- Two moments are compared.
+moment-moment : (c : tie.After-second2) (b : Bool) → leb (c .before .second .result) (c .second2 .result) ≡ b
+    → pick b Holds Fails ≡ decided (c .before .before .before .before .args .left) (c .before .before .before .before .args .right)
 unfolding time-of
-returns c = sym (ap (λ b. pick b Holds Fails) (le-leb _ _ (c .if1 .taken))) ∙ in-row (c .before .before .before) (c .before .before .match .keys1)
+moment-moment c b e =
+    sym (ap (λ x. pick x Holds Fails) e)
+    ∙ ap₂ (λ k j. pick (leb k j) Holds Fails) (c .before .second .ensures) (c .second2 .ensures)
+    ∙ in-row (c .before .before .before) (c .before .before .match .keys1)
 
-returns-2 : tie.Need-returns-2
+moment-ctime : tie.Need-returns-16
 unfolding time-of
-returns-2 c = sym (ap (λ b. pick b Holds Fails) (lt-leb _ _ (c .if1 .left))) ∙ in-row (c .before .before .before) (c .before .before .match .keys1)
+moment-ctime c = ap RaisesFrom (c .second3 .ensures) ∙ in-row (c .before .before) (c .before .match .keys15)
 
-returns-3 : tie.Need-returns-3
+-- The row that is left.
+ctime-moment : tie.Need-returns-17
 unfolding time-of
-returns-3 c = in-row (c .before) (c .match .keys2)
-
-returns-4 : tie.Need-returns-4
-unfolding time-of
-returns-4 c = in-row (c .before) (c .match .keys3)
-
-returns-5 : tie.Need-returns-5
-unfolding time-of
-returns-5 c = in-row (c .before) (c .match .keys4)
-
-returns-6 : tie.Need-returns-6
-unfolding time-of
-returns-6 c = in-row (c .before) (c .match .keys5)
-
-returns-7 : tie.Need-returns-7
-unfolding time-of
-returns-7 c = in-row (c .before) (c .match .keys6)
-
-returns-8 : tie.Need-returns-8
-unfolding time-of
-returns-8 c = in-row (c .before) (c .match .keys7)
-
-returns-9 : tie.Need-returns-9
-unfolding time-of
-returns-9 c = in-row (c .before) (c .match .keys8)
-
-returns-10 : tie.Need-returns-10
-unfolding time-of
-returns-10 c = in-row (c .before) (c .match .keys9)
-
-returns-11 : tie.Need-returns-11
-unfolding time-of
-returns-11 c = in-row (c .before) (c .match .keys10)
-
-returns-12 : tie.Need-returns-12
-unfolding time-of
-returns-12 c = in-row (c .before) (c .match .keys11)
-
-returns-13 : tie.Need-returns-13
-unfolding time-of
-returns-13 c = in-row (c .before) (c .match .keys12)
-
-returns-14 : tie.Need-returns-14
-unfolding time-of
-returns-14 c = in-row (c .before) (c .match .keys13)
-
-returns-15 : tie.Need-returns-15
-unfolding time-of
-returns-15 c = in-row (c .before) (c .match .keys14)
-
-returns-16 : tie.Need-returns-16
-unfolding time-of
-returns-16 c = in-row (c .before) (c .match .keys15)
-
-returns-17 : tie.Need-returns-17
-unfolding time-of
-returns-17 c =
-    in-row (c .before) (last-row (c .before .before .args .left) (c .before .before .args .right) _ (ap (λ s. s .kinds) (c .before .of .ensures)) (c .match .rest))
+ctime-moment c =
+    let start = c .before .before .before .args in
+    let last = last-row (start .left) (start .right) (c .before .before .kinds-of .result) (c .before .before .kinds-of .ensures) (c .before .match .rest) in
+    ap LowersTo (c .second4 .ensures) ∙ in-row (c .before .before) last
 
 pub decide-spec : {M : Type 1} → statement M
-decide-spec = tie.close (tie.spec (λ c κs. search needs) returns returns-2 returns-3 returns-4 returns-5 returns-6 returns-7 returns-8 returns-9 returns-10 returns-11 returns-12 returns-13 returns-14 returns-15 returns-16 returns-17)
+unfolding time-of
+decide-spec =
+    tie.close
+    (tie.spec
+    (λ c κs. search needs)
+    (λ c κs. search needs)
+    (λ c κs. search needs)
+    (λ c κs. search needs)
+    (λ c κs. search needs)
+    -- Ctime is not involved.
+    (λ c. moment-moment (c .before) _ (le-leb _ _ (c .if1 .taken)))
+    (λ c. moment-moment (c .before) _ (lt-leb _ _ (c .if1 .left)))
+    (λ c. in-row (c .before) (c .match .keys2))
+    (λ c. in-row (c .before) (c .match .keys3))
+    (λ c. in-row (c .before) (c .match .keys4))
+    (λ c. in-row (c .before) (c .match .keys5))
+    (λ c. in-row (c .before) (c .match .keys6))
+    (λ c. in-row (c .before) (c .match .keys7))
+    (λ c. in-row (c .before) (c .match .keys8))
+    (λ c. in-row (c .before) (c .match .keys9))
+    -- An infinity settles it.
+    (λ c. in-row (c .before) (c .match .keys10))
+    (λ c. in-row (c .before) (c .match .keys11))
+    (λ c. in-row (c .before) (c .match .keys12))
+    (λ c. in-row (c .before) (c .match .keys13))
+    -- Ctime <= ctime holds.
+    (λ c. in-row (c .before) (c .match .keys14))
+    -- Otherwise from is raised or to is lowered.
+    moment-ctime
+    ctime-moment)
