@@ -5,7 +5,7 @@ ghost use Rattle.procap.specs.Tells.{Tells};
 ghost use Rattle.procap.specs.Numbered.{«kinds-of»};
 ghost use Rattle.procap.specs.Order.{AtMost, decided};
 
-// The pairs of kinds, left and right, each in one number: the page's tags of both, side by side.
+// The pairs of kinds, left and right, each in one number: the page's tags of both, side by side. 0x41, ctime <= moment, is the pair that is left.
 // moment <= moment
 const MOMENT_MOMENT: u64 = 0x11;
 // moment <= minus infinity

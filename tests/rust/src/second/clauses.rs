@@ -1,4 +1,6 @@
-//! The clauses of the rules, by name, and who may watch them being tried.
+//! The clauses of the rules, by name, the ways in which an order comes out, and who may watch them being tried.
+
+use crate::data::Time;
 
 /// One clause of one rule: a test that can hold or fail.
 #[derive(Clone, Copy, Debug, PartialEq, Eq, PartialOrd, Ord, Hash)]
@@ -107,10 +109,44 @@ impl Clause {
     ];
 }
 
-/// Watches a walk: which clauses were tried and how they came out, which steps and formulas were met.
+/// How "this time is not after that time" comes out in a walk.
+#[derive(Clone, Copy, Debug, PartialEq, Eq)]
+pub enum Verdict {
+    /// It holds.
+    Holds,
+    /// It fails, and the walk ends.
+    Fails,
+    /// At the office: the press must not be before a moment.
+    RaisesFrom,
+    /// At the office: the press must not be after a moment.
+    LowersTo,
+}
+
+impl Verdict {
+    /// Every verdict there is.
+    pub const ALL: [Verdict; 4] = [
+        Verdict::Holds,
+        Verdict::Fails,
+        Verdict::RaisesFrom,
+        Verdict::LowersTo,
+    ];
+
+    /// The verdict on an order that is decided.
+    pub fn decided(held: bool) -> Verdict {
+        if held {
+            Verdict::Holds
+        } else {
+            Verdict::Fails
+        }
+    }
+}
+
+/// Watches a walk: which clauses were tried, which orders asked, how they came out, which steps and formulas were met.
 pub trait Watch {
     /// A clause was tried, and held or not.
     fn clause(&mut self, _clause: Clause, _held: bool) {}
+    /// It was asked whether left is not after right, and this came out.
+    fn order(&mut self, _left: Time, _right: Time, _verdict: Verdict) {}
     /// A step with this tag was walked.
     fn step(&mut self, _tag: u8) {}
     /// A formula with this tag was read from a certificate.

@@ -24,7 +24,7 @@ mod verify;
 mod wanted;
 
 use crate::data::{Answer, Case, Fact, Procap, Request};
-pub use clauses::{Clause, NoWatch, Watch};
+pub use clauses::{Clause, NoWatch, Verdict, Watch};
 use door::Asked;
 pub use values::VALUE_BYTES;
 

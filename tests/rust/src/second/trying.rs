@@ -40,7 +40,7 @@ impl<'a, R: Reading, W: Watch> Trial<'a, R, W> {
         right: Time,
         offset: u64,
     ) -> Result<(), Answer> {
-        let held = self.reading.not_after(left, right);
+        let held = self.reading.not_after(left, right, self.watch);
         self.settle(clause, held, Answer::refused(4, offset))
     }
 

@@ -1,6 +1,6 @@
 //! What a case would ask of the state at a press.
 
-use super::clauses::{Clause, NoWatch};
+use super::clauses::{Clause, NoWatch, Watch};
 use super::judging::walk;
 use super::reading::{Press, Reading};
 use super::state::State;
@@ -18,8 +18,8 @@ impl Reading for Granting {
     const FACT_CLAUSE: Clause = Press::FACT_CLAUSE;
 
     /// Whether it holds at the press.
-    fn not_after(&mut self, left: Time, right: Time) -> bool {
-        self.press.not_after(left, right)
+    fn not_after(&mut self, left: Time, right: Time, watch: &mut impl Watch) -> bool {
+        self.press.not_after(left, right, watch)
     }
 
     /// Grants the fact.

@@ -1,6 +1,7 @@
 //! What came up in a run, and what should have.
 
-use second_opinion::second::{Clause, Watch};
+use second_opinion::data::Time;
+use second_opinion::second::{Clause, Verdict, Watch};
 use std::collections::BTreeMap;
 
 /// The calls whose answers are counted.
@@ -15,9 +16,20 @@ pub enum Call {
     Program,
 }
 
-/// How often steps were walked, formulas read and clauses tried by one call.
+/// The kinds of times.
+#[derive(Clone, Copy, Debug)]
+pub enum Kind {
+    Moment,
+    MinusInfinity,
+    PlusInfinity,
+    Ctime,
+}
+
+/// How often steps were walked, formulas read, clauses tried and orders asked by one call.
 pub struct Walked {
     pub clauses: Vec<[u64; 2]>,
+    /// By the kind of the left time, the kind of the right time, and the verdict.
+    pub orders: [[[u64; Verdict::ALL.len()]; Kind::ALL.len()]; Kind::ALL.len()],
     pub steps: Vec<u64>,
     pub formulas: Vec<u64>,
 }
@@ -35,11 +47,32 @@ pub struct Coverage {
     pub asked: BTreeMap<&'static str, u64>,
 }
 
+impl Kind {
+    /// Every kind there is.
+    pub const ALL: [Kind; 4] = [
+        Kind::Moment,
+        Kind::MinusInfinity,
+        Kind::PlusInfinity,
+        Kind::Ctime,
+    ];
+
+    /// The kind of a time.
+    fn of(time: Time) -> Kind {
+        match time {
+            Time::Moment(_) => Kind::Moment,
+            Time::MinusInfinity => Kind::MinusInfinity,
+            Time::PlusInfinity => Kind::PlusInfinity,
+            Time::Ctime => Kind::Ctime,
+        }
+    }
+}
+
 impl Walked {
     /// Nothing yet.
     fn new() -> Walked {
         Walked {
             clauses: vec![[0; 2]; Clause::ALL.len()],
+            orders: Default::default(),
             steps: vec![0; 256],
             formulas: vec![0; 256],
         }
@@ -51,6 +84,8 @@ impl Walked {
             here[0] += there[0];
             here[1] += there[1];
         }
+        let orders = self.orders.as_flattened_mut().as_flattened_mut();
+        add_each(orders, other.orders.as_flattened().as_flattened());
         add_each(&mut self.steps, &other.steps);
         add_each(&mut self.formulas, &other.formulas);
     }
@@ -73,6 +108,10 @@ fn add_named<K: Ord + Copy>(here: &mut BTreeMap<K, u64>, there: &BTreeMap<K, u64
 impl Watch for Walked {
     fn clause(&mut self, clause: Clause, held: bool) {
         self.clauses[clause as usize][usize::from(held)] += 1;
+    }
+    fn order(&mut self, left: Time, right: Time, verdict: Verdict) {
+        let [left, right] = [left, right].map(|time| Kind::of(time) as usize);
+        self.orders[left][right][verdict as usize] += 1;
     }
     fn step(&mut self, tag: u8) {
         self.steps[usize::from(tag)] += 1;

@@ -15,6 +15,7 @@ mod run;
 mod spoiled;
 mod states;
 mod tables;
+mod tables_orders;
 mod wire;
 
 use coverage::Coverage;

@@ -50,6 +50,14 @@ pub fn totals(coverage: &Coverage) -> String {
     words.join(", ")
 }
 
+/// A count in a table, or that there can be nothing to count.
+pub fn shown(possible: bool, count: u64) -> String {
+    match possible {
+        true => count.to_string(),
+        false => "cannot".to_string(),
+    }
+}
+
 /// The report of a run: its tables, and what is missing in them.
 pub struct Report {
     pub lines: Vec<String>,
@@ -73,16 +81,17 @@ impl Report {
         report.tags("direct, formulas", &coverage.direct.formulas, 0x10..=0x19);
         report.clauses("verify", &coverage.verify, possible_in_verify);
         report.clauses("direct", &coverage.direct, possible_in_direct);
+        report.all_orders(coverage);
         report
     }
 
     /// Adds a line.
-    fn line(&mut self, line: String) {
+    pub fn line(&mut self, line: String) {
         self.lines.push(line);
     }
 
     /// Sees to it that what should come up has, and that what never should has not.
-    fn expect(&mut self, expected: bool, count: u64, what: impl Fn() -> String) {
+    pub fn expect(&mut self, expected: bool, count: u64, what: impl Fn() -> String) {
         if expected && count == 0 {
             self.missing.push(format!("never came: {}", what()));
         }
@@ -177,10 +186,7 @@ impl Report {
                 let about = || format!("{name}: {clause:?} {way}");
                 self.expect(possible(*clause, came_out), count, about);
             }
-            let shown = |came_out, count: u64| match possible(*clause, came_out) {
-                true => count.to_string(),
-                false => "cannot".to_string(),
-            };
+            let shown = |came_out, count| shown(possible(*clause, came_out), count);
             let (held, failed) = (shown(true, held), shown(false, failed));
             self.line(format!(
                 "  {:<26}{held:>12}{failed:>12}",
