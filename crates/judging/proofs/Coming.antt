@@ -1,6 +1,6 @@
 -- What a part of a walk came to: a value, and what is so of it where the ledger goes on. Parts compose like the lines of a `do`.
 use Prim.Native.Nat.{ℕ}
-use mathlib.Core.Path.{_≡_, sym, ap, _∙_}
+use mathlib.Core.Path.{_≡_, refl, sym, ap, _∙_}
 use mathlib.Core.List.{List}
 use native.Mathlib.Omega.{arith}
 use Rattle.procap.specs.Outcome.{Outcome, granted, refused}
@@ -17,11 +17,10 @@ use Rattle.ledger.specs.declared.Ledger.{Ledger}
 use Rattle.formula.specs.declared.parts.Judgement.{Judgement}
 use Rattle.judging.specs.declared.judge.Inferred.{Inferred}
 use Rattle.judging.specs.declared.judge.Application.{Application}
-use Rattle.judging.specs.declared.walk.Checked.{Checked}
+use Rattle.judging.specs.declared.judge.Checked.{Checked}
 use Rattle.ledger.specs.Books.{stop-of, Book, book, Sound, Gives, misfitted, kept-of, resume, unless-stopped}
 use Rattle.formula.specs.Meaning.{from-of, to-of, On}
-use Rattle.judging.specs.Judging.{and-then, two-orders, Takes, takes, unfit, Yields, Used, used, unused}
-use Rattle.judging.specs.Walking.{Passes}
+use Rattle.judging.specs.Judging.{and-then, two-orders, Takes, takes, unfit, Yields, Passes, Used, used, unused}
 use Rattle.ledger.proofs.Giving.{then, idle, misfits, misfits-any, halted, not-going, misfitted-stopped, stop-going}
 use Rattle.judging.proofs.StepWalks.{use-implication}
 
@@ -63,6 +62,18 @@ module _ {X Y : Type 0} (state : List ℕ) (b m : Book) (w : Walk X) {So : X →
 
   pub comes-then : (r : Book) → stop-of (m .ledger) ≡ Going → ((x : X) → So x → Comes state m (g x) r Then) → Comes state b (and-then w g) r Then
   comes-then r e f = comes-on r (f (c .value) (c .so e))
+
+  -- What is done only where the part goes on, and leaves the book as it is where it has stopped.
+  pub comes-or-stays : (r : Book) → Y → (stop-of (m .ledger) ≡ Going → (x : X) → So x → Comes state m (g x) r Then) → ((stop-of (m .ledger) ≡ Going → ⊥) → r ≡ m)
+      → Comes state b (and-then w g) r Then
+  comes-or-stays r y on stays = by (stop-of (m .ledger)) refl
+    where
+      stopped-ends : (answer : Answer) → stop-of (m .ledger) ≡ Stopped answer → stop-of (m .ledger) ≡ Going → ⊥
+      stopped-ends answer e g = let f : Stopped answer ≡ Going = sym e ∙ g in let z : _≡_ {A = ℕ} 0 1 = cc in omega arith
+
+      by : (s : Stop) → stop-of (m .ledger) ≡ s → Comes state b (and-then w g) r Then
+      by Going e = comes-then r e (on e)
+      by (Stopped answer) e = rw (stays (stopped-ends answer e)) (comes-halted y (stopped-ends answer e))
 
 -- A part whose value does not matter, and then another value.
 pub comes-with : {X Y : Type 0} (state : List ℕ) (b m : Book) (w : Walk X) {So : X → Type 0} {Then : Y → Type 0} → Comes state b w m So → (y : Y) → Then y

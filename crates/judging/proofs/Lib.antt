@@ -8,7 +8,4 @@ pub mod RowsUsed
 pub mod PartsTaken
 pub mod PlacesTaken
 pub mod InstancesTaken
-pub mod Surroundings
-pub mod Inferring
-pub mod Checking
 pub mod Goals

@@ -6,10 +6,11 @@ use Rattle.procap.specs.declared.time.Time.{Time}
 use Rattle.procap.specs.declared.fact.Term.{Term}
 use Rattle.bl.specs.Trees.{Formula, Infer, local, certificate, first, second, apply, instance, Check, pair, trivial, at-in, at-out, says-in, says-out, state, compare, inferred, offset}
 use Rattle.bl.specs.Certificates.{Statement}
-use Rattle.bl.specs.Rules.{Assumption, plain, claim, shut-out, View, view-of}
-use Rattle.bl.specs.Questions.{Walk, done, misfit, ask, _>>=_, _>>_}
+use Rattle.bl.specs.Rules.{Assumption, plain, claim, shut, shut-out, View, view-of}
+use Rattle.bl.specs.Questions.{Walk, done, misfit, ask, _>>=_, _>>_, Test}
 use Rattle.bl.specs.Walk.{Judgement, infer, check}
-use Rattle.judging.specs.Judging.{and-then, use-local, use-certificate, and-sides, implies-sides, at-parts, says-parts, top-goal, fact-goal, order-goal, first-side, second-side, put-in, two-orders, fits-goal}
+use Rattle.judging.specs.declared.judge.Shell.the-variants.{AtShell, SaysShell}
+use Rattle.judging.specs.Judging.{and-then, use-local, use-certificate, and-sides, implies-sides, at-parts, says-parts, inside, top-goal, fact-goal, order-goal, first-side, second-side, put-in, two-orders, fits-goal}
 
 -- Three walks, one after another.
 in-turn : {A B C : Type 0} (w : Walk A) (f : A → Walk B) (g : B → Walk C) → w >>= f >>= g ≡ w >>= (λ a. f a >>= g)
@@ -17,6 +18,12 @@ unfolding _>>=_
 in-turn (done a) f g = refl
 in-turn (misfit q) f g = refl
 in-turn (ask x q w) f g = ap (ask x q) (in-turn w f g)
+
+-- 28 and 2A: the step inside checks what stands inside of the goal: where the goal stood, or in the view of who says it with the plain assumptions shut out.
+unfoldable pub check-inside : List Statement → List Assumption → View → Check → Assumption → Test
+check-inside cs Γ v M (plain A a b) = check cs Γ v M A a b
+check-inside cs Γ v M (claim k A a b) = check cs (map shut-out Γ) (view-of k) M A a b
+check-inside cs Γ v M shut = misfit 0
 
 -- 26 after its first step: both sides of the implication, and the two orders.
 unfoldable pub use-implication : ℕ → Time → Time → Judgement → Walk (Formula × Formula)
@@ -48,7 +55,7 @@ module _ (cs : List Statement) (Γ : List Assumption) (v : View) (q : ℕ) where
   instance-walk t M = refl
 
   pub apply-walk : (M : Infer) (N : Check) (t1 t2 : Time) → infer cs Γ v (apply q M N t1 t2)
-      ≡ and-then (infer cs Γ v M) (λ j. and-then (use-implication q t1 t2 j) (λ x. and-then (check cs Γ v N (x .0) t1 t2) (λ _. done (x .1, t1, t2))))
+      ≡ and-then (and-then (infer cs Γ v M) (use-implication q t1 t2)) (λ x. and-then (check cs Γ v N (x .0) t1 t2) (λ _. done (x .1, t1, t2)))
   unfolding infer use-implication implies-sides two-orders _>>=_
   apply-walk M N t1 t2 = simp in-turn
 
@@ -70,22 +77,22 @@ module _ (cs : List Statement) (Γ : List Assumption) (v : View) (q : ℕ) where
     unfolding check order-goal
     compare-walk = refl
 
-    pub at-in-walk : (M : Check) → check cs Γ v (at-in q M) G a b ≡ and-then (at-parts q G) (λ x. check cs Γ v M (x .0) (x .1) (x .2))
-    unfolding check at-parts _>>=_
+    pub at-in-walk : (M : Check) → check cs Γ v (at-in q M) G a b ≡ and-then (inside AtShell q (G, a, b)) (check-inside cs Γ v M)
+    unfolding check inside check-inside at-parts _>>=_
     at-in-walk M = simp in-turn
 
     pub at-out-walk : (M : Infer) (N : Check) → check cs Γ v (at-out q M N) G a b
-        ≡ and-then (infer cs Γ v M) (λ j. and-then (at-parts q (j .0)) (λ x. check cs (plain (x .0) (x .1) (x .2) ∷ Γ) v N G a b))
-    unfolding check at-parts _>>=_
+        ≡ and-then (and-then (infer cs Γ v M) (inside AtShell q)) (λ x. check cs (x ∷ Γ) v N G a b)
+    unfolding check inside at-parts _>>=_
     at-out-walk M N = simp in-turn
 
-    pub says-in-walk : (M : Check) → check cs Γ v (says-in q M) G a b ≡ and-then (says-parts q G) (λ x. check cs (map shut-out Γ) (view-of (x .0)) M (x .1) a b)
-    unfolding check says-parts _>>=_
+    pub says-in-walk : (M : Check) → check cs Γ v (says-in q M) G a b ≡ and-then (inside SaysShell q (G, a, b)) (check-inside cs Γ v M)
+    unfolding check inside check-inside says-parts _>>=_
     says-in-walk M = simp in-turn
 
     pub says-out-walk : (M : Infer) (N : Check) → check cs Γ v (says-out q M N) G a b
-        ≡ and-then (infer cs Γ v M) (λ j. and-then (says-parts q (j .0)) (λ x. check cs (claim (x .0) (x .1) (j .1) (j .2) ∷ Γ) v N G a b))
-    unfolding check says-parts _>>=_
+        ≡ and-then (and-then (infer cs Γ v M) (inside SaysShell q)) (λ x. check cs (x ∷ Γ) v N G a b)
+    unfolding check inside says-parts _>>=_
     says-out-walk M N = simp in-turn
 
     -- An inferring step where one is checked, at the offset of its own tag.

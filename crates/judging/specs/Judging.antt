@@ -12,7 +12,7 @@ use Rattle.bl.specs.Kinds.{as-name, as-time, as-terms, as-top, as-and, as-impli
 use Rattle.bl.specs.Rules as rules
 use Rattle.procap.specs.Lists.{nth}
 use Rattle.bl.specs.Certificates.{Statement}
-use Rattle.bl.specs.Rules.{Assumption, no-view, view-of}
+use Rattle.bl.specs.Rules.{Assumption, plain, claim, no-view, view-of}
 use Rattle.bl.specs.Walk as walk
 use Rattle.bl.specs.Walk.{same, need-sort}
 use Rattle.ledger.specs.declared.Ledger.{Ledger}
@@ -20,7 +20,13 @@ use Rattle.ledger.specs.declared.Stop.the-variants.{Going}
 use Rattle.formula.specs.declared.parts.Judgement.{Judgement}
 use Rattle.judging.specs.declared.judge.View.{View}
 use Rattle.judging.specs.declared.judge.View.the-variants.{NoView, ViewOf}
+use Rattle.judging.specs.declared.judge.Scope.{Scope}
+use Rattle.judging.specs.declared.judge.Shell.{Shell}
+use Rattle.judging.specs.declared.judge.Shell.the-variants.{AtShell, SaysShell}
+use Rattle.judging.specs.declared.rows.Whose.{Whose}
+use Rattle.judging.specs.declared.rows.Whose.the-variants.{Plain, Claim}
 use Rattle.judging.specs.declared.judge.Inferred.{Inferred}
+use Rattle.judging.specs.declared.judge.Checked.{Checked}
 use Rattle.judging.specs.declared.judge.Application.{Application}
 use Rattle.ledger.specs.Books.{stop-of, Book, book, Gives, misfitted}
 use Rattle.formula.specs.Meaning.{On}
@@ -33,6 +39,11 @@ and-then w g = w >>= g
 unfoldable pub view-in : View → rules.View
 view-in NoView = no-view
 view-in (ViewOf k) = view-of k
+
+-- [Rules 2A] The scope inside of a shell: in a "says" the view of who says it, with the plain assumptions from outside shut out.
+abbrev pub scope-inside : Scope → Whose → Scope
+scope-inside scope Plain = scope
+scope-inside scope (Claim k) = record { count = scope .count; shut = scope .count; view = ViewOf k }
 
 -- 20 and 21: an assumption, a certificate.
 unfoldable pub use-local : ℕ → rules.View → List Assumption → ℕ → Walk walk.Judgement
@@ -100,6 +111,15 @@ says-parts q F = do
   (k, _) ← need q (as-name x)
   done (k, A)
 
+-- [Rules 28, 29, 2A, 2B] What stands inside of a shell, as an assumption: a plain one on the interval of the "at", a claim of who says it on the same interval.
+unfoldable pub inside : Shell → ℕ → walk.Judgement → Walk Assumption
+inside AtShell q (F, a, b) = do
+  (A, t1, t2) ← at-parts q F
+  done (plain A t1 t2)
+inside SaysShell q (F, a, b) = do
+  (k, A) ← says-parts q F
+  done (claim k A a b)
+
 -- 25, 2C and 2D on their goal.
 unfoldable pub top-goal : ℕ → Formula → Test
 top-goal q G = do
@@ -159,6 +179,11 @@ pub record Yields (state buffer : List ℕ) (b : Book) (w : Walk walk.Judgement)
   pub to : Time
   pub gives : Gives state b w (book (r .ledger) list) (formula, from, to)
   pub on : stop-of (r .ledger) ≡ Going → On buffer (r .judgement) formula from to
+  pub ends : stop-of (r .ledger) ≡ Going → r .next ≡ e
+
+-- The walk w, from the book b, was passed or stopped, and its step ends at e.
+pub record Passes (state : List ℕ) (b : Book) (w : Test) (e : ℕ) (r : Checked) (list : List ℕ) : Type 0 where
+  pub gives : Gives state b w (book (r .ledger) list) tt
   pub ends : stop-of (r .ledger) ≡ Going → r .next ≡ e
 
 -- 26, before its second step: an implication put to use on [t1,t2], or nothing of the kind.

@@ -4,4 +4,3 @@ pub mod RowNumbers
 pub mod Judging
 pub mod Pieces
 pub mod StepPromises
-pub mod Walking

@@ -1,5 +1,6 @@
 // What one step makes of a goal, or of what its parts inferred. Nothing here looks at other steps.
 use crate::rows::MOST_ROWS;
+use crate::rows::Row;
 use crate::rows::Whose;
 use crate::rows::row_at;
 use bl::FormulaTag;
@@ -21,26 +22,16 @@ use procap::bytes::past;
 use procap::fact::Term;
 use procap::time::Time;
 use procap::time::TimeNumbers;
-use steps::past_step;
 use steps::reader::index_at;
 use steps::time_at;
 ghost use mathlib.Core.Path.{_≡_};
-ghost use mathlib.Core.List.{List};
-ghost use mathlib.Core.Option.{some};
-ghost use Prim.Native.Nat.{ℕ};
-ghost use Rattle.procap.specs.Numbered.{«time-numbers»};
 ghost use Rattle.procap.specs.Writable.{TermInForm};
-ghost use Rattle.bl.specs.Trees.{Sort, Formula};
-ghost use Rattle.bl.specs.Trees as tree;
-ghost use Rattle.bl.specs.Formulas.{argument};
-ghost use Rattle.bl.specs.Steps as steps;
 ghost use Rattle.bl.specs.Walk as walk;
-ghost use Rattle.ledger.specs.Books.{«stop-of», misfitted, Leads};
-ghost use Rattle.formula.specs.PutIn.{«terms-of», FewTerms, «fill-place»};
-ghost use Rattle.formula.specs.Meaning.{begin, Means, On, «from-of», «to-of»};
-ghost use Rattle.judging.specs.Judging.{«view-in», sides, «and-sides», «top-goal», «order-goal», «first-side», «second-side», «put-in», Takes};
-ghost use Rattle.judging.specs.StepPromises.{UsesRow, UsesLocal, UsesCertificate, TakesSides, TakesAt, TakesSays, Continues, PutsToUse, MeetsGoal, MeetsFact, FitsGoal};
-ghost use Rattle.judging.specs.Pieces.{«two-times», «binder-of»};
+ghost use Rattle.ledger.specs.Books.{misfitted, Leads};
+ghost use Rattle.formula.specs.Meaning.{begin};
+ghost use Rattle.judging.specs.Judging.{«view-in», «scope-inside», «top-goal», «order-goal», «first-side», «second-side», «put-in»};
+ghost use Rattle.judging.specs.StepPromises.{UsesRow, UsesLocal, UsesCertificate, TakesSides, TakesConjuncts, StaysStopped, TakesTimes, TakesAt, TakesSays, TakesInside, TakesInsideInferred, Continues, PutsToUse, MeetsGoal, MeetsFact, FitsGoal, ChecksInferred};
+ghost use Rattle.judging.specs.Pieces.{«binder-of»};
 
 // In whose view a step stands.
 pub enum View {
@@ -62,6 +53,12 @@ pub struct Inferred {
     pub next: usize,
 }
 
+// What a step that checks leaves: the ledger, and where it ends. Where the ledger has stopped, the end says nothing.
+pub struct Checked {
+    pub ledger: Ledger,
+    pub next: usize,
+}
+
 // Two judgements that one is made of.
 pub struct Sides {
     pub ledger: Ledger,
@@ -69,11 +66,16 @@ pub struct Sides {
     pub second: Judgement,
 }
 
-// A judgement inside of another, and who says it.
+// What stands around a formula that a step takes out, or puts in: an "at" or a "says".
+pub enum Shell {
+    AtShell,
+    SaysShell,
+}
+
+// A judgement inside of another, as the row that it is assumed by: a plain one, or a claim of who says it.
 pub struct Inside {
     pub ledger: Ledger,
-    pub principal: u64,
-    pub judgement: Judgement,
+    pub row: Row,
 }
 
 // Two times that stand one after the other, and where they end. Where the ledger has stopped, the rest says nothing.
@@ -120,7 +122,7 @@ fn part_at(judgement: Judgement, at: usize) -> Judgement
 }
 
 // Nothing is inferred: the ledger has stopped, and the judgement says nothing.
-pub(crate) fn nothing(ledger: Ledger) -> Inferred
+pub fn nothing(ledger: Ledger) -> Inferred
     ensures { λ r. ⌜ r .ledger ≡ ledger ⌝ }
 {
     let judgement = Judgement::front_on_ctime();
@@ -128,6 +130,22 @@ pub(crate) fn nothing(ledger: Ledger) -> Inferred
         ledger: ledger,
         judgement: judgement,
         next: 0,
+    }
+}
+
+impl Scope {
+    // The scope inside of a shell: the same in an "at"; in a "says" the view of who says it, with the plain assumptions from outside shut out.
+    pub fn inside(self, whose: Whose) -> Scope
+        ensures { λ r. ⌜ r ≡ «scope-inside» self whose ⌝ }
+    {
+        match whose {
+            Whose::Plain => self,
+            Whose::Claim(principal) => Scope {
+                count: self.count,
+                shut: self.count,
+                view: View::ViewOf(principal),
+            },
+        }
     }
 }
 
@@ -185,7 +203,7 @@ fn row_used(
 }
 
 // 20: an assumption as it stands, counted from the latest.
-pub(crate) fn local(
+pub fn local(
     proof: &[u8],
     assumptions: &[u64],
     scope: Scope,
@@ -204,7 +222,7 @@ pub(crate) fn local(
 }
 
 // 21: a certificate; its row is a claim, and so needs the view of its principal.
-pub(crate) fn certificate(
+pub fn certificate(
     proof: &[u8],
     certificates: &[u64],
     scope: Scope,
@@ -219,7 +237,7 @@ pub(crate) fn certificate(
 }
 
 // The two sides of a conjunction or of an implication, by the tag wanted, each on the same interval.
-pub(crate) fn sides_of(
+pub fn sides_of(
     bytes: &[u8],
     offset: usize,
     wanted: FormulaTag,
@@ -247,8 +265,8 @@ pub(crate) fn sides_of(
 
 // Both sides of the conjunction that was inferred, where the walk goes on.
 fn conjuncts(buffer: &[u8], offset: usize, inferred: Inferred) -> Sides
-    ensures going { λ r. ⌜ ((F : Formula) → «stop-of» (inferred .ledger) ≡ Stop.Going → Means (now (buffer .entry)) 0 (inferred .judgement .formula) F → Takes («and-sides» offset F) offset (inferred .ledger) (r .ledger) (λ x. On (now (buffer .entry)) (r .first) (x .0) («from-of» (inferred .judgement)) («to-of» (inferred .judgement)) × On (now (buffer .entry)) (r .second) (x .1) («from-of» (inferred .judgement)) («to-of» (inferred .judgement)))) ⌝ }
-    ensures stopped { λ r. ⌜ ((«stop-of» (inferred .ledger) ≡ Stop.Going → ⊥) → r .ledger ≡ inferred .ledger) ⌝ }
+    ensures going { λ r. ⌜ TakesConjuncts (now (buffer .entry)) offset inferred r ⌝ }
+    ensures stopped { λ r. ⌜ StaysStopped inferred (r .ledger) ⌝ }
 {
     let ledger = inferred.ledger;
     let judgement = inferred.judgement;
@@ -263,7 +281,7 @@ fn conjuncts(buffer: &[u8], offset: usize, inferred: Inferred) -> Sides
 }
 
 // 23: the first side of the conjunction that was inferred.
-pub(crate) fn first(buffer: &[u8], offset: usize, inferred: Inferred) -> Inferred
+pub fn first(buffer: &[u8], offset: usize, inferred: Inferred) -> Inferred
     ensures { λ r. ⌜ Continues (now (buffer .entry)) inferred («first-side» offset) r ⌝ }
 {
     let parts = conjuncts(buffer, offset, inferred);
@@ -277,7 +295,7 @@ pub(crate) fn first(buffer: &[u8], offset: usize, inferred: Inferred) -> Inferre
 }
 
 // 24: the second side of the conjunction that was inferred.
-pub(crate) fn second(buffer: &[u8], offset: usize, inferred: Inferred) -> Inferred
+pub fn second(buffer: &[u8], offset: usize, inferred: Inferred) -> Inferred
     ensures { λ r. ⌜ Continues (now (buffer .entry)) inferred («second-side» offset) r ⌝ }
 {
     let parts = conjuncts(buffer, offset, inferred);
@@ -290,18 +308,28 @@ pub(crate) fn second(buffer: &[u8], offset: usize, inferred: Inferred) -> Inferr
     }
 }
 
-// 26, before its second step: the implication that was inferred is put to use on the times that stand after that step.
-pub(crate) fn put_to_use(
+// 26, before its second step: the implication that was inferred is put to use on the times that stand after that step, which ends at a place.
+pub fn put_to_use(
     buffer: &[u8],
     proof: &[u8],
     offset: usize,
     inferred: Inferred,
-    left: u64,
+    second_end: usize,
 ) -> Application
-    ensures { λ r. ⌜ PutsToUse (now (buffer .entry)) (now (proof .entry)) offset inferred left r ⌝ }
+    ensures going { λ r. ⌜ PutsToUse (now (buffer .entry)) (now (proof .entry)) offset inferred «second_end» r ⌝ }
+    ensures stopped { λ r. ⌜ StaysStopped inferred (r .ledger) ⌝ }
 {
     let ledger = inferred.ledger;
     let judgement = inferred.judgement;
+    if !ledger.goes_on() {
+        return Application {
+            ledger: ledger,
+            premise: judgement,
+            conclusion: judgement,
+            middle: 0,
+            next: 0,
+        };
+    }
     let from = judgement.from;
     let to = judgement.to;
     let parts = sides_of(buffer, offset, FormulaTag::ImpliesTag, judgement, ledger);
@@ -310,7 +338,7 @@ pub(crate) fn put_to_use(
     let second = parts.second;
     let one = first.formula;
     let other = second.formula;
-    let t1 = time_at(proof, past_step(proof, inferred.next, left));
+    let t1 = time_at(proof, second_end);
     let t2 = time_at(proof, t1.next);
     let begin = t1.time;
     let end = t2.time;
@@ -328,7 +356,7 @@ pub(crate) fn put_to_use(
 }
 
 // 27: the for-all that was inferred, with a term of its sort put in.
-pub(crate) fn instance(buffer: &[u8], offset: usize, inferred: Inferred, term: Term) -> Inferred
+pub fn instance(buffer: &[u8], offset: usize, inferred: Inferred, term: Term) -> Inferred
     ensures { λ r. ⌜ (TermInForm term → Continues (now (buffer .entry)) inferred («put-in» offset term) r) ⌝ }
 {
     let ledger = inferred.ledger;
@@ -365,8 +393,44 @@ fn binder_of(term: Term) -> FormulaTag
     }
 }
 
+// 28, 29, 2A and 2B: what stands inside of the shell that is wanted.
+pub fn inside_of(
+    bytes: &[u8],
+    offset: usize,
+    shell: Shell,
+    judgement: Judgement,
+    ledger: Ledger,
+) -> Inside
+    ensures { λ r. ⌜ TakesInside (now (bytes .entry)) offset shell judgement ledger r ⌝ }
+{
+    match shell {
+        Shell::AtShell => lifted(bytes, offset, judgement, ledger),
+        Shell::SaysShell => said(bytes, offset, judgement, ledger),
+    }
+}
+
+// 29 and 2B: what stands inside of the shell that was inferred, where the walk goes on.
+pub fn inside_inferred(buffer: &[u8], offset: usize, shell: Shell, inferred: Inferred) -> Inside
+    ensures going { λ r. ⌜ TakesInsideInferred (now (buffer .entry)) offset shell inferred r ⌝ }
+    ensures stopped { λ r. ⌜ StaysStopped inferred (r .ledger) ⌝ }
+{
+    let ledger = inferred.ledger;
+    let judgement = inferred.judgement;
+    if !ledger.goes_on() {
+        let row = Row {
+            whose: Whose::Plain,
+            judgement: judgement,
+        };
+        return Inside {
+            ledger: ledger,
+            row: row,
+        };
+    }
+    inside_of(buffer, offset, shell, judgement, ledger)
+}
+
 // 28 and 29: the formula of an "at", on its own interval.
-pub(crate) fn lifted(bytes: &[u8], offset: usize, judgement: Judgement, ledger: Ledger) -> Inside
+fn lifted(bytes: &[u8], offset: usize, judgement: Judgement, ledger: Ledger) -> Inside
     ensures { λ r. ⌜ TakesAt (now (bytes .entry)) offset judgement ledger r ⌝ }
 {
     let formula = judgement.formula;
@@ -382,16 +446,19 @@ pub(crate) fn lifted(bytes: &[u8], offset: usize, judgement: Judgement, ledger: 
         at: span.next,
         terms: terms,
     };
+    let row = Row {
+        whose: Whose::Plain,
+        judgement: on_interval(body, from, to),
+    };
     Inside {
         ledger: after_span,
-        principal: 0,
-        judgement: on_interval(body, from, to),
+        row: row,
     }
 }
 
 // Two times that stand one after the other.
 fn span_at(bytes: &[u8], at: usize, terms: Terms, offset: usize, ledger: Ledger) -> Span
-    ensures { λ r. ⌜ ((sorts : List Sort) (x y : tree.Place) (middle end : ℕ) → FewTerms terms → argument (now (bytes .entry)) sorts at ≡ some (x, middle) → argument (now (bytes .entry)) sorts middle ≡ some (y, end) → Takes («two-times» offset («fill-place» 0 («terms-of» terms) x) («fill-place» 0 («terms-of» terms) y)) offset ledger (r .ledger) (λ t. (r .from ≡ «time-numbers» (t .0)) × (r .to ≡ «time-numbers» (t .1)) × (r .next ≡ end))) ⌝ }
+    ensures { λ r. ⌜ TakesTimes (now (bytes .entry)) at terms offset ledger r ⌝ }
 {
     let one = place_at(bytes, at, terms, 0);
     let other = place_at(bytes, one.next, terms, 0);
@@ -430,7 +497,7 @@ fn no_span(ledger: Ledger, offset: usize) -> Span
 }
 
 // 2A and 2B: who says, and the formula that is said, on the same interval.
-pub(crate) fn said(bytes: &[u8], offset: usize, judgement: Judgement, ledger: Ledger) -> Inside
+fn said(bytes: &[u8], offset: usize, judgement: Judgement, ledger: Ledger) -> Inside
     ensures { λ r. ⌜ TakesSays (now (bytes .entry)) offset judgement ledger r ⌝ }
 {
     let formula = judgement.formula;
@@ -446,10 +513,13 @@ pub(crate) fn said(bytes: &[u8], offset: usize, judgement: Judgement, ledger: Le
     let Term::Name(principal) = term else {
         return not_inside(judgement, ledger, offset);
     };
+    let row = Row {
+        whose: Whose::Claim(principal as u64),
+        judgement: part_at(judgement, read.next),
+    };
     Inside {
         ledger: ledger,
-        principal: principal as u64,
-        judgement: part_at(judgement, read.next),
+        row: row,
     }
 }
 
@@ -457,15 +527,18 @@ pub(crate) fn said(bytes: &[u8], offset: usize, judgement: Judgement, ledger: Le
 fn not_inside(judgement: Judgement, ledger: Ledger, offset: usize) -> Inside
     ensures { λ r. ⌜ r .ledger ≡ misfitted ledger offset ⌝ }
 {
+    let row = Row {
+        whose: Whose::Plain,
+        judgement: judgement,
+    };
     Inside {
         ledger: ledger.misfit(offset),
-        principal: 0,
-        judgement: judgement,
+        row: row,
     }
 }
 
 // 25: the goal must be top.
-pub(crate) fn top(bytes: &[u8], offset: usize, goal: Judgement, ledger: Ledger) -> Ledger
+pub fn top(bytes: &[u8], offset: usize, goal: Judgement, ledger: Ledger) -> Ledger
     ensures { λ r. ⌜ MeetsGoal (now (bytes .entry)) goal ledger («top-goal» offset) r ⌝ }
 {
     let formula = goal.formula;
@@ -477,7 +550,7 @@ pub(crate) fn top(bytes: &[u8], offset: usize, goal: Judgement, ledger: Ledger) 
 }
 
 // 2C: the goal must be a state fact, and hold.
-pub(crate) fn state_fact(
+pub fn state_fact(
     bytes: &[u8],
     state: &[u8],
     facts: &mut [u64],
@@ -500,7 +573,7 @@ pub(crate) fn state_fact(
 }
 
 // 2D: the goal must be an order, and hold.
-pub(crate) fn order(bytes: &[u8], offset: usize, goal: Judgement, ledger: Ledger) -> Ledger
+pub fn order(bytes: &[u8], offset: usize, goal: Judgement, ledger: Ledger) -> Ledger
     ensures { λ r. ⌜ MeetsGoal (now (bytes .entry)) goal ledger («order-goal» offset) r ⌝ }
 {
     let formula = goal.formula;
@@ -516,7 +589,7 @@ pub(crate) fn order(bytes: &[u8], offset: usize, goal: Judgement, ledger: Ledger
 }
 
 // An inferring step where one is checked: the same formula, on an interval around the goal's.
-pub(crate) fn within(
+pub fn within(
     buffer: &[u8],
     bytes: &[u8],
     offset: usize,
@@ -546,4 +619,27 @@ pub(crate) fn within(
     let after_compared = compared.ledger;
     let asked = ask_order(after_compared, offset, a.time(), c.time());
     ask_order(asked, offset, d.time(), b.time())
+}
+
+// An inferring step where one is checked: where it has stopped, so has the whole.
+pub fn checked_by(
+    buffer: &[u8],
+    goal_bytes: &[u8],
+    at: usize,
+    inferred: Inferred,
+    goal: Judgement,
+) -> Checked
+    ensures { λ r. ⌜ ChecksInferred (now (buffer .entry)) (now («goal_bytes» .entry)) at inferred goal r ⌝ }
+{
+    let ledger = inferred.ledger;
+    if !ledger.goes_on() {
+        return Checked {
+            ledger: ledger,
+            next: at,
+        };
+    }
+    Checked {
+        ledger: within(buffer, goal_bytes, at, inferred, goal),
+        next: inferred.next,
+    }
 }

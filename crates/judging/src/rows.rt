@@ -7,11 +7,11 @@ use ledger::number_in;
 use procap::time::TimeNumbers;
 ghost use mathlib.Core.Path.{_≡_};
 ghost use mathlib.Core.List.{[], _∷_};
-ghost use Prim.Native.Nat.{ℕ, _+_, _≤_, _<_};
+ghost use Prim.Native.Nat.{_+_, _≤_, _<_};
 ghost use lib.ListN.{length};
 ghost use lib.Seq.{sets};
 ghost use Rattle.formula.specs.PutIn.{«terms-numbers»};
-ghost use Rattle.judging.specs.RowsOf.{«row-in», «whose-in», «time-in», «numbers-in», «most-rows», «all-numbers»};
+ghost use Rattle.judging.specs.RowsOf.{«row-in», «whose-in», «time-in», «numbers-in», «most-rows», PutsRow, OthersStay};
 ghost use Rattle.judging.specs.RowNumbers.{«whose-kind», «whose-value»};
 
 // How many rows there are at the most.
@@ -140,8 +140,8 @@ fn put_numbers(rows: &mut [u64], at: usize, numbers: [u64; TERMS_NUMBERS])
 
 // Puts a row at an index; where the rows have none, nothing.
 pub fn put_row(rows: &mut [u64], index: usize, row: Row)
-    ensures there { λ _. ⌜ (length (now (rows .entry)) ≡ «all-numbers» → index < «most-rows» → length (row .judgement .formula .terms .numbers) ≡ «terms-numbers» → «row-in» (now (rows .exit)) index ≡ row) ⌝ }
-    ensures others { λ _. ⌜ ((i : ℕ) → (i ≡ index → ⊥) → «row-in» (now (rows .exit)) i ≡ «row-in» (now (rows .entry)) i) ⌝ }
+    ensures there { λ _. ⌜ PutsRow (now (rows .entry)) index row (now (rows .exit)) ⌝ }
+    ensures others { λ _. ⌜ OthersStay (now (rows .entry)) index (now (rows .exit)) ⌝ }
 {
     if rows.len() != ALL_NUMBERS {
         return;

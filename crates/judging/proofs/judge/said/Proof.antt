@@ -21,46 +21,16 @@ read c m =
     let tag = holds-else (told .before .is-a .result) (told .if1 .left) (told .before .is-a .ensures) in
     says-read m (c .before .past .ensures .0) tag (c .place-at .ensures)
 
-is-a-requires : tie.Need-is-a-requires
-is-a-requires c κs = search needs
-
-not-inside-requires : tie.Need-not-inside-requires
-not-inside-requires c κs = search needs
-
 returns : tie.Need-returns
 returns c =
     let told = c .before .before .is-a in
     λ F m. unfit (no-says _ (not-says _ 0 _ m (fails-where (told .result) (c .before .if1 .taken) (told .ensures)))) (c .not-inside .ensures)
-
-past-requires : tie.Need-past-requires
-past-requires c κs = search needs
-
-place-at-requires : tie.Need-place-at-requires
-place-at-requires c κs = search needs
-
-enum-known-place : tie.Need-enum-known-place
-enum-known-place c = search needs
-
-enum-told : tie.Need-enum-told
-enum-told c = search needs
-
-not-inside-requires-2 : tie.Need-not-inside-requires-2
-not-inside-requires-2 c κs = search needs
 
 returns-2 : tie.Need-returns-2
 returns-2 c =
     λ F m.
     let r = read (c .before .before .before) m in
     unfit (no-name _ (r .is) (bound-no-name (is-bound (r .named) (c .before .enum-told .given .1)))) (c .not-inside2 .ensures)
-
-enum-known-term : tie.Need-enum-known-term
-enum-known-term c = search needs
-
-enum-told-2 : tie.Need-enum-told-2
-enum-told-2 c = search needs
-
-not-inside-requires-3 : tie.Need-not-inside-requires-3
-not-inside-requires-3 c κs = search needs
 
 returns-3 : tie.Need-returns-3
 returns-3 c =
@@ -69,12 +39,6 @@ returns-3 c =
     let r = read (c .before .before .before .before .before .before) m in
     let who = is-fixed (r .named) (term .given .1) ∙ ap fixed (c .before .enum-told2 .given .1) in
     unfit (no-name _ (r .is) (time-no-name who)) (c .not-inside3 .ensures)
-
-cast-t15 : tie.Need-cast-t15
-cast-t15 c = search needs
-
-part-at-requires : tie.Need-part-at-requires
-part-at-requires c κs = search needs
 
 returns-4 : tie.Need-returns-4
 returns-4 c =
@@ -88,20 +52,5 @@ returns-4 c =
 pub said-spec : {M : Type 1} → statement M
 said-spec =
     tie.close
-    (tie.spec
-    is-a-requires
-    not-inside-requires
-    returns
-    past-requires
-    place-at-requires
-    enum-known-place
-    enum-told
-    not-inside-requires-2
-    returns-2
-    enum-known-term
-    enum-told-2
-    not-inside-requires-3
-    returns-3
-    cast-t15
-    part-at-requires
-    returns-4)
+    (tie.spec (λ c κs. search needs) (λ c κs. search needs) returns (λ c κs. search needs) (λ c κs. search needs) (λ c. search needs) (λ c. search needs)
+    (λ c κs. search needs) returns-2 (λ c. search needs) (λ c. search needs) (λ c κs. search needs) returns-3 (λ c. search needs) (λ c κs. search needs) returns-4)

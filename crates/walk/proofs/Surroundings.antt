@@ -10,13 +10,16 @@ use Rattle.bl.specs.Certificates.{Statement}
 use Rattle.bl.specs.Rules.{Assumption, shut, shut-out}
 use Rattle.ledger.specs.declared.Ledger.{Ledger}
 use Rattle.formula.specs.declared.parts.Judgement.{Judgement}
 use Rattle.judging.specs.declared.rows.Row.{Row}
 use Rattle.judging.specs.declared.judge.View.{View}
 use Rattle.judging.specs.declared.judge.Scope.{Scope}
-use Rattle.judging.specs.declared.walk.Checked.{Checked}
+use Rattle.judging.specs.declared.judge.Checked.{Checked}
 use Rattle.formula.specs.PutIn.{terms-numbers}
-use Rattle.judging.specs.RowsOf.{row-in, most-rows, all-numbers, RowIs, is-plain, is-claim, is-shut, Assumed}
-use Rattle.judging.specs.Walking.{Around, Keeps, Checks, ChecksAssuming}
+use Rattle.judging.specs.declared.rows.Whose.{Whose}
+use Rattle.judging.specs.declared.rows.Whose.the-variants.{Plain, Claim}
+use Rattle.judging.specs.Judging.{scope-inside}
+use Rattle.judging.specs.RowsOf.{row-in, RowIs, is-plain, is-claim, is-shut, Assumed, PutsRow, OthersStay}
+use Rattle.walk.specs.Walking.{Lent, Around, Keeps, ChecksAt}
 
 -- A row inside of a says-in: a plain one is shut out, a claim stays.
 row-shut : (buffer : List ℕ) (row : Row) (index before below : ℕ) (x : Assumption) → index < below → RowIs buffer row index before x → RowIs buffer row index below (shut-out x)
@@ -61,44 +64,58 @@ keeps-same count rows = record { rows = λ i below. refl; all = refl }
 pub keeps-then : {count : ℕ} {before between after : List ℕ} → Keeps count before between → Keeps count between after → Keeps count before after
 keeps-then first second = record { rows = λ i below. second .rows i below ∙ first .rows i below; all = second .all ∙ first .all }
 
--- A row that is put at the count leaves the rows below it, and so does what keeps it.
+-- A row that is put at the count leaves those below it.
+pub keeps-others : (count : ℕ) (before after : List ℕ) → OthersStay before count after → length after ≡ length before → Keeps count before after
+keeps-others count before after others all = record { rows = λ i below. others i (λ same. omega arith); all = all }
+
+-- The scope inside of a shell has as many rows.
+pub keeps-inside : (scope : Scope) (whose : Whose) {before after : List ℕ} → Keeps (scope-inside scope whose .count) before after → Keeps (scope .count) before after
+keeps-inside scope Plain keeps = keeps
+keeps-inside scope (Claim k) keeps = keeps
+
+-- What keeps it, too, keeps those below it.
 pub keeps-put : {count : ℕ} {before more after : List ℕ} → Keeps count before more → Keeps (count + 1) more after → Keeps count before after
 keeps-put put after = record { rows = λ i below. after .rows i (omega arith) ∙ put .rows i below; all = after .all ∙ put .all }
 
-module _ (buffer certificates assumptions : List ℕ) (scope : Scope) (left : ℕ) (cs : List Statement) (Γ : List Assumption) (around : Around buffer certificates assumptions scope (suc left) cs Γ) where
+-- A row that is usable is so at its own index.
+pub row-usable : (buffer : List ℕ) (row : Row) (index below : ℕ) (x : Assumption) → below ≤ index → RowIs buffer row 0 0 x → RowIs buffer row index below x
+row-usable buffer row index below x h (is-plain plain-row usable on) = is-plain plain-row (λ lower. omega arith) on
+row-usable buffer row index below x h (is-claim claimed on) = is-claim claimed on
+row-usable buffer row index below x h (is-shut plain-row lower) = absurd (omega arith)
+
+module _ (L : Lent) (rows : List ℕ) (scope : Scope) (left : ℕ) (cs : List Statement) (Γ : List Assumption) (around : Around L rows scope (suc left) cs Γ) where
   -- A level less.
-  pub around-part : Around buffer certificates assumptions scope left cs Γ
+  pub around-part : Around L rows scope left cs Γ
   around-part =
       let room = around .room in
       record { certified = around .certified; assumed = around .assumed; shut-inside = around .shut-inside; room = omega arith; all-there = around .all-there }
 
   -- The part of a says-in.
-  pub around-said : (view : View) → Around buffer certificates assumptions (record { count = scope .count; shut = scope .count; view = view }) left cs (map shut-out Γ)
+  pub around-said : (view : View) → Around L rows (record { count = scope .count; shut = scope .count; view = view }) left cs (map shut-out Γ)
   around-said view =
       let room = around .room in
       record {
         certified = around .certified;
-        assumed = assumed-shut buffer assumptions (scope .shut) (scope .count) (scope .count) Γ (omega arith) (around .assumed);
+        assumed = assumed-shut (L .buffer) rows (scope .shut) (scope .count) (scope .count) Γ (omega arith) (around .assumed);
         shut-inside = omega arith;
         room = omega arith;
         all-there = around .all-there;
       }
 
   -- The second part of an at-out or a says-out: the row is put past those that are there.
-  pub around-more : (more : List ℕ) (row : Row) (x : Assumption) → RowIs buffer row (scope .count) (scope .shut) x
-      → (length assumptions ≡ all-numbers → scope .count < most-rows → length (row .judgement .formula .terms .numbers) ≡ terms-numbers → row-in more (scope .count) ≡ row)
-      → Keeps (scope .count) assumptions more
-      → Around buffer certificates more (record { count = scope .count + 1; shut = scope .shut; view = scope .view }) left cs (x ∷ Γ)
+  pub around-more : (more : List ℕ) (row : Row) (x : Assumption) → RowIs (L .buffer) row 0 0 x → PutsRow rows (scope .count) row more → Keeps (scope .count) rows more
+      → Around L more (record { count = scope .count + 1; shut = scope .shut; view = scope .view }) left cs (x ∷ Γ)
   unfolding Assumed
-  around-more more row x is there keeps =
+  around-more more row x usable there keeps =
       let room = around .room in
       let inside = around .shut-inside in
+      let is = row-usable (L .buffer) row (scope .count) (scope .shut) x inside usable in
       record {
         certified = around .certified;
         assumed =
             rw (add-one (scope .count)) (
-              rw (there (around .all-there) (omega arith) (row-whole buffer row (scope .count) (scope .shut) x inside is)) is,
-              assumed-in buffer assumptions more (scope .shut) (scope .count) Γ (keeps .rows) (around .assumed),
+              rw (there (around .all-there) (omega arith) (row-whole (L .buffer) row (scope .count) (scope .shut) x inside is)) is,
+              assumed-in (L .buffer) rows more (scope .shut) (scope .count) Γ (keeps .rows) (around .assumed),
             );
         shut-inside = omega arith;
         room = omega arith;
@@ -106,26 +123,21 @@ module _ (buffer certificates assumptions : List ℕ) (scope : Scope) (left : �
       }
 
 -- What stands around, in rows that are kept.
-around-kept : (buffer certificates before after : List ℕ) (scope : Scope) (left : ℕ) (cs : List Statement) (Γ : List Assumption) → Keeps (scope .count) before after
-    → Around buffer certificates before scope left cs Γ → Around buffer certificates after scope left cs Γ
-around-kept buffer certificates before after scope left cs Γ keeps around =
+pub around-kept : (L : Lent) (before after : List ℕ) (scope : Scope) (left : ℕ) (cs : List Statement) (Γ : List Assumption) → Keeps (scope .count) before after
+    → Around L before scope left cs Γ → Around L after scope left cs Γ
+around-kept L before after scope left cs Γ keeps around =
     record {
       certified = around .certified;
-      assumed = assumed-in buffer before after (scope .shut) (scope .count) Γ (keeps .rows) (around .assumed);
+      assumed = assumed-in (L .buffer) before after (scope .shut) (scope .count) Γ (keeps .rows) (around .assumed);
       shut-inside = around .shut-inside;
       room = around .room;
       all-there = keeps .all ∙ around .all-there;
     }
 
 -- So a call after another promises of the rows at the start what it promises of those that it finds.
-module _ (buffer proof state certificates before after : List ℕ) (scope : Scope) (ledger : Ledger) (list : List ℕ) (left : ℕ) (goal-bytes : List ℕ) (goal : Judgement) where
-  pub checks-kept : Keeps (scope .count) before after → (at : ℕ) (r : Checked) (list′ : List ℕ)
-      → Checks buffer proof state certificates after scope ledger list left goal-bytes goal at r list′
-      → Checks buffer proof state certificates before scope ledger list left goal-bytes goal at r list′
-  checks-kept keeps at r list′ checks cs Γ N e sound around = checks cs Γ N e sound (around-kept buffer certificates before after scope left cs Γ keeps around)
-
-  pub assuming-kept : Keeps (scope .count) before after → (row : Row) (next : ℕ) (r : Checked) (list′ : List ℕ)
-      → ChecksAssuming buffer proof state certificates after scope ledger list left goal-bytes goal row next r list′
-      → ChecksAssuming buffer proof state certificates before scope ledger list left goal-bytes goal row next r list′
-  assuming-kept keeps row next r list′ checks cs Γ x N e G sound around =
-      checks cs Γ x N e G sound (around-kept buffer certificates before after scope (suc left) cs Γ keeps around)
+pub checks-kept : (L : Lent) (before after : List ℕ) (scope : Scope) (ledger : Ledger) (list : List ℕ) (left : ℕ) (goal-bytes : List ℕ) (goal : Judgement)
+    (at : ℕ) {r : Checked} {list′ : List ℕ} → Keeps (scope .count) before after
+    → ChecksAt L after scope ledger list left goal-bytes goal at r list′
+    → ChecksAt L before scope ledger list left goal-bytes goal at r list′
+checks-kept L before after scope ledger list left goal-bytes goal at keeps checks cs Γ N e sound around =
+    checks cs Γ N e sound (around-kept L before after scope left cs Γ keeps around)

@@ -1,9 +1,9 @@
--- `walk::checked_by` meets its contract: where the step that infers has stopped, so has the whole; else what was inferred is held to the goal.
+-- Where the step that infers has stopped, so has the whole; else what was inferred is held to the goal.
 use borrow.Author.Needs.{needs}
 use Rattle.procap.proofs.Telling.{holds-else, fails-where}
 use Rattle.judging.proofs.Coming.{comes-inferred, passes-halted, passes-then}
-use Rattle.judging.proofs.walk.checked_by.Statement.{statement}
-use Rattle.judging.proofs.walk.checked_by.Tie as tie
+use Rattle.judging.proofs.judge.checked_by.Statement.{statement}
+use Rattle.judging.proofs.judge.checked_by.Tie as tie
 
 goes-on-requires : tie.Need-goes-on-requires
 goes-on-requires c κs = search needs

@@ -1,0 +1,631 @@
+-- The walk over a proof, in one cycle of calls: each answer is a law of Inferring or Checking, over what the calls before it promise.
+-- Each call keeps the rows below its count, so what stood around the first call of a step stands around its second.
+-- What falls at each call is what is left of levels and bytes (Falling).
+
+use Prim.Native.Nat.{ℕ, _<_}
+use borrow.Fn.Kinds.{In}
+use borrow.Fn.PlainCycle.{Measures, is, falls, and}
+use Rattle.walk.proofs.check.Reads as check
+use Rattle.walk.proofs.check.Kinds as check-kinds
+use Rattle.walk.proofs.+check+infer+infer_by+pair+put_in+take_out.Lts-check as check-lts
+use Rattle.walk.proofs.infer.Reads as infer
+use Rattle.walk.proofs.infer.Kinds as infer-kinds
+use Rattle.walk.proofs.+check+infer+infer_by+pair+put_in+take_out.Lts-infer as infer-lts
+use Rattle.walk.proofs.infer_by.Reads as infer-by
+use Rattle.walk.proofs.infer_by.Kinds as infer-by-kinds
+use Rattle.walk.proofs.+check+infer+infer_by+pair+put_in+take_out.Lts-infer_by as infer-by-lts
+use Rattle.walk.proofs.pair.Reads as pair
+use Rattle.walk.proofs.pair.Kinds as pair-kinds
+use Rattle.walk.proofs.+check+infer+infer_by+pair+put_in+take_out.Lts-pair as pair-lts
+use Rattle.walk.proofs.put_in.Reads as put-in
+use Rattle.walk.proofs.put_in.Kinds as put-in-kinds
+use Rattle.walk.proofs.+check+infer+infer_by+pair+put_in+take_out.Lts-put_in as put-in-lts
+use Rattle.walk.proofs.take_out.Reads as take-out
+use Rattle.walk.proofs.take_out.Kinds as take-out-kinds
+use Rattle.walk.proofs.+check+infer+infer_by+pair+put_in+take_out.Lts-take_out as take-out-lts
+use Rattle.judging.proofs.judge.Scope.inside.Reads as inside-reads
+use Rattle.judging.proofs.judge.certificate.Reads as certificate-reads
+use Rattle.judging.proofs.judge.checked_by.Reads as checked-by-reads
+use Rattle.judging.proofs.judge.first.Reads as first-reads
+use Rattle.judging.proofs.judge.inside_inferred.Reads as inside-inferred-reads
+use Rattle.judging.proofs.judge.inside_of.Reads as inside-of-reads
+use Rattle.judging.proofs.judge.instance.Reads as instance-reads
+use Rattle.judging.proofs.judge.local.Reads as local-reads
+use Rattle.judging.proofs.judge.nothing.Reads as nothing-reads
+use Rattle.judging.proofs.judge.order.Reads as order-reads
+use Rattle.judging.proofs.judge.put_to_use.Reads as put-to-use-reads
+use Rattle.judging.proofs.judge.second.Reads as second-reads
+use Rattle.judging.proofs.judge.sides_of.Reads as sides-of-reads
+use Rattle.judging.proofs.judge.state_fact.Reads as state-fact-reads
+use Rattle.judging.proofs.judge.top.Reads as top-reads
+use Rattle.judging.proofs.rows.put_row.Reads as put-row-reads
+use Rattle.ledger.proofs.Ledger.goes_on.Reads as goes-on-reads
+use Rattle.ledger.proofs.Ledger.misfit.Reads as misfit-reads
+use Rattle.procap.proofs.bytes.past.Reads as past-reads
+use Rattle.steps.proofs.check_tag_at.Reads as check-tag-at-reads
+use Rattle.steps.proofs.ends.end_in.Reads as end-in-reads
+use Rattle.steps.proofs.infer_tag_at.Reads as infer-tag-at-reads
+use Rattle.steps.proofs.term_at.Reads as term-at-reads
+use Rattle.walk.proofs.Here.below.Reads as below-reads
+use Rattle.walk.proofs.Here.step.Reads as step-reads
+use Rattle.walk.proofs.+check+infer+infer_by+pair+put_in+take_out.{statement}
+use Rattle.walk.proofs.+check+infer+infer_by+pair+put_in+take_out.Tie.{close}
+use Prim.Native.Nat.{suc, _+_, _-_}
+use mathlib.Core.Path.{refl, sym, ap, _∙_}
+use native.Mathlib.Omega.{arith}
+use borrow.Author.Needs.{needs}
+use lib.ListN.{length}
+use Rattle.procap.proofs.Telling.{holds-else, fails-where}
+use Rattle.bl.specs.declared.CheckTag.the-variants.{AtInTag, AtOutTag, SaysInTag, SaysOutTag}
+use Rattle.walk.specs.Walking.{Keeps}
+use Rattle.walk.specs.WalkCalls.{puts-at, puts-says, takes-at, takes-says}
+use Rattle.walk.proofs.Falling.{left-over, part-falls, tag-falls, tag-inside}
+use Rattle.walk.proofs.Surroundings.{keeps-same, keeps-then, keeps-put, keeps-inside, keeps-others, checks-kept}
+use Rattle.walk.proofs.Inferring.{infer-none, infer-past, infer-tagged, infer-local, infer-certificate, infer-no-tag, infer-first, infer-second, infer-instance, infer-apply-stopped, infer-apply}
+use Rattle.walk.proofs.Checking.{check-none, check-tagged, check-inferred, check-no-tag, check-trivial, check-state, check-order, check-pair-unfit, check-pair-stopped, check-pair, check-put-unfit, check-put, check-take-stopped, check-take-full, check-take}
+
+abbrev μ-check : Measures 8 check-kinds.ps ℕ
+μ-check κs a = left-over (a .1 .1 .1 .1 .1 .1 .1 .1 .1 .0 .left) (length (a .1 .0 .now)) (a .1 .1 .1 .1 .1 .1 .1 .1 .1 .0 .at)
+
+abbrev μ-infer : Measures 7 infer-kinds.ps ℕ
+μ-infer κs a = left-over (a .1 .1 .1 .1 .1 .1 .1 .0 .left) (length (a .1 .0 .now)) (a .1 .1 .1 .1 .1 .1 .1 .0 .at)
+
+abbrev μ-infer-by : Measures 7 infer-by-kinds.ps ℕ
+μ-infer-by κs a = left-over (suc (a .1 .1 .1 .1 .1 .1 .1 .1 .0 .left)) (length (a .1 .0 .now)) (a .1 .1 .1 .1 .1 .1 .1 .1 .0 .at + 1)
+
+abbrev μ-pair : Measures 8 pair-kinds.ps ℕ
+μ-pair κs a = left-over (suc (a .1 .1 .1 .1 .1 .1 .1 .1 .1 .0 .left)) (length (a .1 .0 .now)) (a .1 .1 .1 .1 .1 .1 .1 .1 .1 .0 .at + 1)
+
+abbrev μ-put-in : Measures 8 put-in-kinds.ps ℕ
+μ-put-in κs a = left-over (suc (a .1 .1 .1 .1 .1 .1 .1 .1 .1 .1 .0 .left)) (length (a .1 .0 .now)) (a .1 .1 .1 .1 .1 .1 .1 .1 .1 .1 .0 .at + 1)
+
+abbrev μ-take-out : Measures 8 take-out-kinds.ps ℕ
+μ-take-out κs a = left-over (suc (a .1 .1 .1 .1 .1 .1 .1 .1 .1 .1 .0 .left)) (length (a .1 .0 .now)) (a .1 .1 .1 .1 .1 .1 .1 .1 .1 .1 .0 .at + 1)
+
+abbrev check-at : ℕ → In 8 check-kinds.ps
+check-at t = and 8 check-kinds.ps (is 8 check-kinds.ps μ-check t) check.Pre
+
+abbrev check-below : ℕ → In 8 check-kinds.ps
+check-below t = and 8 check-kinds.ps (falls 8 check-kinds.ps _<_ μ-check t) check.Pre
+
+abbrev infer-at : ℕ → In 7 infer-kinds.ps
+infer-at t = and 7 infer-kinds.ps (is 7 infer-kinds.ps μ-infer t) infer.Pre
+
+abbrev infer-below : ℕ → In 7 infer-kinds.ps
+infer-below t = and 7 infer-kinds.ps (falls 7 infer-kinds.ps _<_ μ-infer t) infer.Pre
+
+abbrev infer-by-at : ℕ → In 7 infer-by-kinds.ps
+infer-by-at t = and 7 infer-by-kinds.ps (is 7 infer-by-kinds.ps μ-infer-by t) infer-by.Pre
+
+abbrev infer-by-below : ℕ → In 7 infer-by-kinds.ps
+infer-by-below t = and 7 infer-by-kinds.ps (falls 7 infer-by-kinds.ps _<_ μ-infer-by t) infer-by.Pre
+
+abbrev pair-at : ℕ → In 8 pair-kinds.ps
+pair-at t = and 8 pair-kinds.ps (is 8 pair-kinds.ps μ-pair t) pair.Pre
+
+abbrev pair-below : ℕ → In 8 pair-kinds.ps
+pair-below t = and 8 pair-kinds.ps (falls 8 pair-kinds.ps _<_ μ-pair t) pair.Pre
+
+abbrev put-in-at : ℕ → In 8 put-in-kinds.ps
+put-in-at t = and 8 put-in-kinds.ps (is 8 put-in-kinds.ps μ-put-in t) put-in.Pre
+
+abbrev put-in-below : ℕ → In 8 put-in-kinds.ps
+put-in-below t = and 8 put-in-kinds.ps (falls 8 put-in-kinds.ps _<_ μ-put-in t) put-in.Pre
+
+abbrev take-out-at : ℕ → In 8 take-out-kinds.ps
+take-out-at t = and 8 take-out-kinds.ps (is 8 take-out-kinds.ps μ-take-out t) take-out.Pre
+
+abbrev take-out-below : ℕ → In 8 take-out-kinds.ps
+take-out-below t = and 8 take-out-kinds.ps (falls 8 take-out-kinds.ps _<_ μ-take-out t) take-out.Pre
+
+abbrev check-calls : ℕ → check-lts.Claims
+check-calls t = (misfit-reads.Asked, misfit-reads.Learnt, below-reads.Asked, below-reads.Learnt, check-tag-at-reads.Asked, check-tag-at-reads.Learnt, pair-below t, pair.Post, top-reads.Asked, top-reads.Learnt, past-reads.Asked, past-reads.Learnt, put-in-below t, put-in.Post, take-out-below t, take-out.Post, state-fact-reads.Asked, state-fact-reads.Learnt, order-reads.Asked, order-reads.Learnt, infer-tag-at-reads.Asked, infer-tag-at-reads.Learnt, infer-by-below t, infer-by.Post, checked-by-reads.Asked, checked-by-reads.Learnt)
+
+abbrev infer-calls : ℕ → infer-lts.Claims
+infer-calls t = (misfit-reads.Asked, misfit-reads.Learnt, nothing-reads.Asked, nothing-reads.Learnt, infer-tag-at-reads.Asked, infer-tag-at-reads.Learnt, below-reads.Asked, below-reads.Learnt, infer-by-below t, infer-by.Post)
+
+abbrev infer-by-calls : ℕ → infer-by-lts.Claims
+infer-by-calls t = (past-reads.Asked, past-reads.Learnt, local-reads.Asked, local-reads.Learnt, certificate-reads.Asked, certificate-reads.Learnt, step-reads.Asked, step-reads.Learnt, infer-below t, infer.Post, first-reads.Asked, first-reads.Learnt, second-reads.Asked, second-reads.Learnt, end-in-reads.Asked, end-in-reads.Learnt, put-to-use-reads.Asked, put-to-use-reads.Learnt, goes-on-reads.Asked, goes-on-reads.Learnt, nothing-reads.Asked, nothing-reads.Learnt, check-below t, check.Post, term-at-reads.Asked, term-at-reads.Learnt, instance-reads.Asked, instance-reads.Learnt, misfit-reads.Asked, misfit-reads.Learnt)
+
+abbrev pair-calls : ℕ → pair-lts.Claims
+pair-calls t = (sides-of-reads.Asked, sides-of-reads.Learnt, goes-on-reads.Asked, goes-on-reads.Learnt, past-reads.Asked, past-reads.Learnt, step-reads.Asked, step-reads.Learnt, check-below t, check.Post)
+
+abbrev put-in-calls : ℕ → put-in-lts.Claims
+put-in-calls t = (inside-of-reads.Asked, inside-of-reads.Learnt, goes-on-reads.Asked, goes-on-reads.Learnt, inside-reads.Asked, inside-reads.Learnt, past-reads.Asked, past-reads.Learnt, check-below t, check.Post)
+
+abbrev take-out-calls : ℕ → take-out-lts.Claims
+take-out-calls t = (past-reads.Asked, past-reads.Learnt, step-reads.Asked, step-reads.Learnt, infer-below t, infer.Post, inside-inferred-reads.Asked, inside-inferred-reads.Learnt, goes-on-reads.Asked, goes-on-reads.Learnt, misfit-reads.Asked, misfit-reads.Learnt, put-row-reads.Asked, put-row-reads.Learnt, check-below t, check.Post)
+
+-- ── check ──
+
+check-returns : (t : ℕ) → check-lts.Need-returns (check-calls t) (check-at t) check.Post
+check-returns t c =
+    let after-if1 = c .before in
+    (check-none _ _ _ _ _ _ _ _ _ (after-if1 .if1 .taken), keeps-same _ _)
+
+check-pair-requires : (t : ℕ) → check-lts.Need-pair-requires (check-calls t) (check-at t) check.Post
+check-pair-requires t c κs =
+    let after-enum-told = c .before .before in
+    let after-check-tag-at = after-enum-told .before .before in
+    let after-below = after-check-tag-at .before in
+    let after-if1 = after-below .before in
+    let start = after-if1 .before .before .before .before .before .before .before .before .before .before .before in
+    (tag-falls _ _ _ _ (after-if1 .if1 .left) (after-below .below .ensures) (tag-inside (start .args .proof .now) _ _ (sym (after-check-tag-at .check-tag-at .ensures) ∙ after-enum-told .enum-told .given .1) tt) (start .pre .0), tt)
+
+check-put-in-requires : (t : ℕ) → check-lts.Need-put-in-requires (check-calls t) (check-at t) check.Post
+check-put-in-requires t c κs =
+    let after-enum-told3 = c .before .before in
+    let after-check-tag-at = after-enum-told3 .before .before in
+    let after-below = after-check-tag-at .before in
+    let after-if1 = after-below .before in
+    let start = after-if1 .before .before .before .before .before .before .before .before .before .before .before in
+    (tag-falls _ _ _ _ (after-if1 .if1 .left) (after-below .below .ensures) (tag-inside (start .args .proof .now) _ _ (sym (after-check-tag-at .check-tag-at .ensures) ∙ after-enum-told3 .enum-told3 .given .1) tt) (start .pre .0), tt)
+
+check-take-out-requires : (t : ℕ) → check-lts.Need-take-out-requires (check-calls t) (check-at t) check.Post
+check-take-out-requires t c κs =
+    let after-enum-told4 = c .before .before in
+    let after-check-tag-at = after-enum-told4 .before .before in
+    let after-below = after-check-tag-at .before in
+    let after-if1 = after-below .before in
+    let start = after-if1 .before .before .before .before .before .before .before .before .before .before .before in
+    (tag-falls _ _ _ _ (after-if1 .if1 .left) (after-below .below .ensures) (tag-inside (start .args .proof .now) _ _ (sym (after-check-tag-at .check-tag-at .ensures) ∙ after-enum-told4 .enum-told4 .given .1) tt) (start .pre .0), tt)
+
+check-put-in-requires-2 : (t : ℕ) → check-lts.Need-put-in-requires-2 (check-calls t) (check-at t) check.Post
+check-put-in-requires-2 t c κs =
+    let after-enum-told5 = c .before .before in
+    let after-check-tag-at = after-enum-told5 .before .before in
+    let after-below = after-check-tag-at .before in
+    let after-if1 = after-below .before in
+    let start = after-if1 .before .before .before .before .before .before .before .before .before .before .before in
+    (tag-falls _ _ _ _ (after-if1 .if1 .left) (after-below .below .ensures) (tag-inside (start .args .proof .now) _ _ (sym (after-check-tag-at .check-tag-at .ensures) ∙ after-enum-told5 .enum-told5 .given .1) tt) (start .pre .0), tt)
+
+check-take-out-requires-2 : (t : ℕ) → check-lts.Need-take-out-requires-2 (check-calls t) (check-at t) check.Post
+check-take-out-requires-2 t c κs =
+    let after-enum-told6 = c .before .before in
+    let after-check-tag-at = after-enum-told6 .before .before in
+    let after-below = after-check-tag-at .before in
+    let after-if1 = after-below .before in
+    let start = after-if1 .before .before .before .before .before .before .before .before .before .before .before in
+    (tag-falls _ _ _ _ (after-if1 .if1 .left) (after-below .below .ensures) (tag-inside (start .args .proof .now) _ _ (sym (after-check-tag-at .check-tag-at .ensures) ∙ after-enum-told6 .enum-told6 .given .1) tt) (start .pre .0), tt)
+
+check-infer-by-requires : (t : ℕ) → check-lts.Need-infer-by-requires (check-calls t) (check-at t) check.Post
+check-infer-by-requires t c κs =
+    let after-enum-told9 = c .before .before .before in
+    let after-check-tag-at = after-enum-told9 .before .before in
+    let after-below = after-check-tag-at .before in
+    let after-if1 = after-below .before in
+    let start = after-if1 .before .before .before .before .before .before .before .before .before .before .before in
+    (tag-falls _ _ _ _ (after-if1 .if1 .left) (after-below .below .ensures) (tag-inside (start .args .proof .now) _ _ (sym (after-check-tag-at .check-tag-at .ensures) ∙ after-enum-told9 .enum-told9 .given .1) tt) (start .pre .0), tt)
+
+check-returns-2 : (t : ℕ) → check-lts.Need-returns-2 (check-calls t) (check-at t) check.Post
+check-returns-2 t c =
+    let after-pair = c .before .before .before .before in
+    let after-enum-told = after-pair .before .before .before in
+    let after-check-tag-at = after-enum-told .before .before in
+    let after-below = after-check-tag-at .before in
+    let after-if1 = after-below .before in
+    let start = after-if1 .before .before .before .before .before .before .before .before .before .before .before in (
+      check-tagged _ _ _ _ _ _ _ _ (start .args .here .left - 1) _ _ (omega (arith, after-if1 .if1 .left)) (sym (after-check-tag-at .check-tag-at .ensures) ∙ after-enum-told .enum-told .given .1) tt (λ inside. (rw (after-below .below .ensures) at (after-pair .pair .ensures .0))),
+      (rw (after-below .below .ensures) at (after-pair .pair .ensures .1)),
+    )
+
+check-returns-3 : (t : ℕ) → check-lts.Need-returns-3 (check-calls t) (check-at t) check.Post
+check-returns-3 t c =
+    let after-top = c .before in
+    let after-enum-told2 = after-top .before in
+    let after-check-tag-at = after-enum-told2 .before .before in
+    let after-if1 = after-check-tag-at .before .before in
+    let start = after-if1 .before .before .before .before .before .before .before .before .before .before .before in (
+      check-tagged _ _ _ _ _ _ _ _ (start .args .here .left - 1) _ _ (omega (arith, after-if1 .if1 .left)) (sym (after-check-tag-at .check-tag-at .ensures) ∙ after-enum-told2 .enum-told2 .given .1) tt (λ inside. check-trivial _ _ _ _ _ _ _ _ _ inside (c .past .ensures .0) (after-top .top .ensures _ _)),
+      keeps-same _ _,
+    )
+
+check-returns-4 : (t : ℕ) → check-lts.Need-returns-4 (check-calls t) (check-at t) check.Post
+check-returns-4 t c =
+    let after-put-in = c .before .before .before .before in
+    let after-enum-told3 = after-put-in .before .before .before in
+    let after-check-tag-at = after-enum-told3 .before .before in
+    let after-below = after-check-tag-at .before in
+    let after-if1 = after-below .before in
+    let start = after-if1 .before .before .before .before .before .before .before .before .before .before .before in (
+      check-tagged _ _ _ _ _ _ _ _ (start .args .here .left - 1) _ _ (omega (arith, after-if1 .if1 .left)) (sym (after-check-tag-at .check-tag-at .ensures) ∙ after-enum-told3 .enum-told3 .given .1) tt (λ inside. (rw (after-below .below .ensures) at (after-put-in .put-in .ensures .0)) AtInTag puts-at),
+      (rw (after-below .below .ensures) at (after-put-in .put-in .ensures .1)),
+    )
+
+check-returns-5 : (t : ℕ) → check-lts.Need-returns-5 (check-calls t) (check-at t) check.Post
+check-returns-5 t c =
+    let after-take-out = c .before .before .before .before in
+    let after-enum-told4 = after-take-out .before .before .before in
+    let after-check-tag-at = after-enum-told4 .before .before in
+    let after-below = after-check-tag-at .before in
+    let after-if1 = after-below .before in
+    let start = after-if1 .before .before .before .before .before .before .before .before .before .before .before in (
+      check-tagged _ _ _ _ _ _ _ _ (start .args .here .left - 1) _ _ (omega (arith, after-if1 .if1 .left)) (sym (after-check-tag-at .check-tag-at .ensures) ∙ after-enum-told4 .enum-told4 .given .1) tt (λ inside. (rw (after-below .below .ensures) at (after-take-out .take-out .ensures .0)) AtOutTag takes-at),
+      (rw (after-below .below .ensures) at (after-take-out .take-out .ensures .1)),
+    )
+
+check-returns-6 : (t : ℕ) → check-lts.Need-returns-6 (check-calls t) (check-at t) check.Post
+check-returns-6 t c =
+    let after-put-in2 = c .before .before .before .before in
+    let after-enum-told5 = after-put-in2 .before .before .before in
+    let after-check-tag-at = after-enum-told5 .before .before in
+    let after-below = after-check-tag-at .before in
+    let after-if1 = after-below .before in
+    let start = after-if1 .before .before .before .before .before .before .before .before .before .before .before in (
+      check-tagged _ _ _ _ _ _ _ _ (start .args .here .left - 1) _ _ (omega (arith, after-if1 .if1 .left)) (sym (after-check-tag-at .check-tag-at .ensures) ∙ after-enum-told5 .enum-told5 .given .1) tt (λ inside. (rw (after-below .below .ensures) at (after-put-in2 .put-in2 .ensures .0)) SaysInTag puts-says),
+      (rw (after-below .below .ensures) at (after-put-in2 .put-in2 .ensures .1)),
+    )
+
+check-returns-7 : (t : ℕ) → check-lts.Need-returns-7 (check-calls t) (check-at t) check.Post
+check-returns-7 t c =
+    let after-take-out2 = c .before .before .before .before in
+    let after-enum-told6 = after-take-out2 .before .before .before in
+    let after-check-tag-at = after-enum-told6 .before .before in
+    let after-below = after-check-tag-at .before in
+    let after-if1 = after-below .before in
+    let start = after-if1 .before .before .before .before .before .before .before .before .before .before .before in (
+      check-tagged _ _ _ _ _ _ _ _ (start .args .here .left - 1) _ _ (omega (arith, after-if1 .if1 .left)) (sym (after-check-tag-at .check-tag-at .ensures) ∙ after-enum-told6 .enum-told6 .given .1) tt (λ inside. (rw (after-below .below .ensures) at (after-take-out2 .take-out2 .ensures .0)) SaysOutTag takes-says),
+      (rw (after-below .below .ensures) at (after-take-out2 .take-out2 .ensures .1)),
+    )
+
+check-returns-8 : (t : ℕ) → check-lts.Need-returns-8 (check-calls t) (check-at t) check.Post
+check-returns-8 t c =
+    let after-state-fact = c .before .before .before in
+    let after-enum-told7 = after-state-fact .before .before in
+    let after-check-tag-at = after-enum-told7 .before .before in
+    let after-if1 = after-check-tag-at .before .before in
+    let start = after-if1 .before .before .before .before .before .before .before .before .before .before .before in (
+      check-tagged _ _ _ _ _ _ _ _ (start .args .here .left - 1) _ _ (omega (arith, after-if1 .if1 .left)) (sym (after-check-tag-at .check-tag-at .ensures) ∙ after-enum-told7 .enum-told7 .given .1) tt (λ inside. check-state _ _ _ _ _ _ _ _ _ inside (c .past2 .ensures .0) (after-state-fact .state-fact .ensures)),
+      keeps-same _ _,
+    )
+
+check-returns-9 : (t : ℕ) → check-lts.Need-returns-9 (check-calls t) (check-at t) check.Post
+check-returns-9 t c =
+    let after-order = c .before in
+    let after-enum-told8 = after-order .before in
+    let after-check-tag-at = after-enum-told8 .before .before in
+    let after-if1 = after-check-tag-at .before .before in
+    let start = after-if1 .before .before .before .before .before .before .before .before .before .before .before in (
+      check-tagged _ _ _ _ _ _ _ _ (start .args .here .left - 1) _ _ (omega (arith, after-if1 .if1 .left)) (sym (after-check-tag-at .check-tag-at .ensures) ∙ after-enum-told8 .enum-told8 .given .1) tt (λ inside. check-order _ _ _ _ _ _ _ _ _ inside (c .past3 .ensures .0) (after-order .order .ensures _ _)),
+      keeps-same _ _,
+    )
+
+check-returns-10 : (t : ℕ) → check-lts.Need-returns-10 (check-calls t) (check-at t) check.Post
+check-returns-10 t c =
+    let after-infer-by = c .before .before .before .before .before in
+    let after-infer-tag-at = after-infer-by .before in
+    let after-enum-told9 = after-infer-tag-at .before .before .before in
+    let after-check-tag-at = after-enum-told9 .before .before in
+    let after-below = after-check-tag-at .before in
+    let after-if1 = after-below .before in
+    let start = after-if1 .before .before .before .before .before .before .before .before .before .before .before in (
+      check-inferred _ _ _ _ _ _ _ _ (start .args .here .left - 1) _ (omega (arith, after-if1 .if1 .left)) (sym (after-check-tag-at .check-tag-at .ensures) ∙ after-enum-told9 .enum-told9 .given .1) (after-infer-tag-at .infer-tag-at .ensures) (rw (after-below .below .ensures) at (after-infer-by .infer-by .ensures .0)) (c .checked-by .ensures),
+      (rw (after-below .below .ensures) at (after-infer-by .infer-by .ensures .1)),
+    )
+
+check-returns-11 : (t : ℕ) → check-lts.Need-returns-11 (check-calls t) (check-at t) check.Post
+check-returns-11 t c =
+    let after-enum-told10 = c .before in
+    let after-check-tag-at = after-enum-told10 .before .before in
+    let after-if1 = after-check-tag-at .before .before in
+    let start = after-if1 .before .before .before .before .before .before .before .before .before .before .before in (
+      check-tagged _ _ _ _ _ _ _ _ (start .args .here .left - 1) _ _ (omega (arith, after-if1 .if1 .left)) (sym (after-check-tag-at .check-tag-at .ensures) ∙ after-enum-told10 .enum-told10 .given .1) tt (λ inside. check-no-tag _ _ _ _ _ _ _ _ _),
+      keeps-same _ _,
+    )
+
+-- ── infer ──
+
+infer-returns : (t : ℕ) → infer-lts.Need-returns (infer-calls t) (infer-at t) infer.Post
+infer-returns t c =
+    let after-if1 = c .before .before in
+    (infer-none _ _ _ _ _ _ _ (after-if1 .if1 .taken), keeps-same _ _)
+
+infer-returns-2 : (t : ℕ) → infer-lts.Need-returns-2 (infer-calls t) (infer-at t) infer.Post
+infer-returns-2 t c =
+    let after-if2 = c .before .before in
+    (infer-past _ _ _ _ _ _ _ (after-if2 .if2 .taken), keeps-same _ _)
+
+infer-infer-by-requires : (t : ℕ) → infer-lts.Need-infer-by-requires (infer-calls t) (infer-at t) infer.Post
+infer-infer-by-requires t c κs =
+    let after-if2 = c .before .before .before .before in
+    let after-if1 = after-if2 .before in
+    let start = after-if1 .before .before .before .before .before .before .before .before .before .before in
+    (tag-falls _ _ _ _ (after-if1 .if1 .left) (c .below .ensures) (omega (arith, after-if2 .if2 .left)) (start .pre .0), tt)
+
+infer-returns-3 : (t : ℕ) → infer-lts.Need-returns-3 (infer-calls t) (infer-at t) infer.Post
+infer-returns-3 t c =
+    let after-infer-by = c .before .before .before .before in
+    let after-below = after-infer-by .before in
+    let after-infer-tag-at = after-below .before in
+    let after-if1 = after-infer-tag-at .before .before .before .before in
+    let start = after-if1 .before .before .before .before .before .before .before .before .before .before in (
+      infer-tagged _ _ _ _ _ _ (start .args .here .left - 1) _ _ (omega (arith, after-if1 .if1 .left)) (sym (after-infer-tag-at .infer-tag-at .ensures)) (rw (after-below .below .ensures) at (after-infer-by .infer-by .ensures .0)),
+      rw (after-below .below .ensures) at (after-infer-by .infer-by .ensures .1),
+    )
+
+-- ── infer_by ──
+
+infer-by-infer-requires : (t : ℕ) → infer-by-lts.Need-infer-requires (infer-by-calls t) (infer-by-at t) infer-by.Post
+infer-by-infer-requires t c κs =
+    let start = c .before .before .before .before .before .before .before .before .before .before .before .before .before .before .before in
+    (part-falls _ (start .args .here) (c .step .result .left) (c .step .result .at) _ (ap (λ h. h .left) (c .step .ensures)) (start .pre .0), tt)
+
+infer-by-infer-requires-2 : (t : ℕ) → infer-by-lts.Need-infer-requires-2 (infer-by-calls t) (infer-by-at t) infer-by.Post
+infer-by-infer-requires-2 t c κs =
+    let start = c .before .before .before .before .before .before .before .before .before .before .before .before .before .before .before in
+    (part-falls _ (start .args .here) (c .step2 .result .left) (c .step2 .result .at) _ (ap (λ h. h .left) (c .step2 .ensures)) (start .pre .0), tt)
+
+infer-by-infer-requires-3 : (t : ℕ) → infer-by-lts.Need-infer-requires-3 (infer-by-calls t) (infer-by-at t) infer-by.Post
+infer-by-infer-requires-3 t c κs =
+    let start = c .before .before .before .before .before .before .before .before .before .before .before .before .before .before .before in
+    (part-falls _ (start .args .here) (c .step3 .result .left) (c .step3 .result .at) _ (ap (λ h. h .left) (c .step3 .ensures)) (start .pre .0), tt)
+
+infer-by-returns : (t : ℕ) → infer-by-lts.Need-returns (infer-by-calls t) (infer-by-at t) infer-by.Post
+infer-by-returns t c =
+    let after-if1 = c .before in
+    let after-goes-on = after-if1 .before in
+    let after-put-to-use = after-goes-on .before .before .before .before in
+    let after-end-in = after-put-to-use .before in
+    let after-infer3 = after-end-in .before .before .before .before .before in
+    let after-step3 = after-infer3 .before in
+    let after-enum-told5 = after-step3 .before .before .before in
+    let after-past = after-enum-told5 .before .before in (
+      rw (after-enum-told5 .enum-told5 .given .1) (infer-apply-stopped _ _ _ _ _ _ _ (after-past .past .ensures .0) (rw (after-step3 .step3 .ensures) at (after-infer3 .infer3 .ensures .0)) (after-end-in .end-in .ensures) (after-put-to-use .put-to-use .ensures .0) (after-put-to-use .put-to-use .ensures .1) (c .nothing .ensures) (fails-where (after-goes-on .goes-on .result) (after-if1 .if1 .taken) (after-goes-on .goes-on .ensures))),
+      (rw (after-step3 .step3 .ensures) at (after-infer3 .infer3 .ensures .1)),
+    )
+
+infer-by-check-requires : (t : ℕ) → infer-by-lts.Need-check-requires (infer-by-calls t) (infer-by-at t) infer-by.Post
+infer-by-check-requires t c κs =
+    let start = c .before .before .before .before .before .before .before .before .before .before .before .before .before .before .before .before .before .before .before .before .before .before .before .before .before .before .before .before .before .before in
+    (part-falls _ (start .args .here) (c .step4 .result .left) (c .step4 .result .at) _ (ap (λ h. h .left) (c .step4 .ensures)) (start .pre .0), tt)
+
+infer-by-infer-requires-4 : (t : ℕ) → infer-by-lts.Need-infer-requires-4 (infer-by-calls t) (infer-by-at t) infer-by.Post
+infer-by-infer-requires-4 t c κs =
+    let start = c .before .before .before .before .before .before .before .before .before .before .before .before .before .before .before .before in
+    (part-falls _ (start .args .here) (c .step5 .result .left) (c .step5 .result .at) _ (ap (λ h. h .left) (c .step5 .ensures)) (start .pre .0), tt)
+
+infer-by-returns-2 : (t : ℕ) → infer-by-lts.Need-returns-2 (infer-by-calls t) (infer-by-at t) infer-by.Post
+infer-by-returns-2 t c =
+    let after-enum-told = c .before .before in (
+      rw (after-enum-told .enum-told .given .1) (infer-local _ _ _ _ _ _ _ (c .local .ensures)),
+      keeps-same _ _,
+    )
+
+infer-by-returns-3 : (t : ℕ) → infer-by-lts.Need-returns-3 (infer-by-calls t) (infer-by-at t) infer-by.Post
+infer-by-returns-3 t c =
+    let after-enum-told2 = c .before in (
+      rw (after-enum-told2 .enum-told2 .given .1) (infer-certificate _ _ _ _ _ _ _ (c .certificate .ensures)),
+      keeps-same _ _,
+    )
+
+infer-by-returns-4 : (t : ℕ) → infer-by-lts.Need-returns-4 (infer-by-calls t) (infer-by-at t) infer-by.Post
+infer-by-returns-4 t c =
+    let after-infer = c .before .before .before .before .before in
+    let after-step = after-infer .before in
+    let after-enum-told3 = after-step .before .before .before in
+    let after-past = after-enum-told3 .before .before in (
+      rw (after-enum-told3 .enum-told3 .given .1) (infer-first _ _ _ _ _ _ _ (after-past .past .ensures .0) (rw (after-step .step .ensures) at (after-infer .infer .ensures .0)) (c .first .ensures)),
+      (rw (after-step .step .ensures) at (after-infer .infer .ensures .1)),
+    )
+
+infer-by-returns-5 : (t : ℕ) → infer-by-lts.Need-returns-5 (infer-by-calls t) (infer-by-at t) infer-by.Post
+infer-by-returns-5 t c =
+    let after-infer2 = c .before .before .before .before .before in
+    let after-step2 = after-infer2 .before in
+    let after-enum-told4 = after-step2 .before .before .before in
+    let after-past = after-enum-told4 .before .before in (
+      rw (after-enum-told4 .enum-told4 .given .1) (infer-second _ _ _ _ _ _ _ (after-past .past .ensures .0) (rw (after-step2 .step2 .ensures) at (after-infer2 .infer2 .ensures .0)) (c .second .ensures)),
+      (rw (after-step2 .step2 .ensures) at (after-infer2 .infer2 .ensures .1)),
+    )
+
+infer-by-same-length-8 : (t : ℕ) → infer-by-lts.Need-same-length-8 (infer-by-calls t) (infer-by-at t) infer-by.Post
+infer-by-same-length-8 t c =
+    let after-check = c .before .before .before .before .before in
+    let after-infer3 = after-check .before .before .before .before .before .before .before .before .before .before .before .before .before .before .before in
+    after-check .check .kept .1 .1 .1 .1 .1 .0 ∙ after-infer3 .infer3 .kept .1 .1 .1 .1 .1 .0
+
+infer-by-same-length-9 : (t : ℕ) → infer-by-lts.Need-same-length-9 (infer-by-calls t) (infer-by-at t) infer-by.Post
+infer-by-same-length-9 t c =
+    let after-check = c .before .before .before .before .before in
+    let after-infer3 = after-check .before .before .before .before .before .before .before .before .before .before .before .before .before .before .before in
+    after-check .check .kept .1 .1 .1 .1 .1 .1 .0 ∙ after-infer3 .infer3 .kept .1 .1 .1 .1 .1 .1 .0
+
+infer-by-returns-6 : (t : ℕ) → infer-by-lts.Need-returns-6 (infer-by-calls t) (infer-by-at t) infer-by.Post
+infer-by-returns-6 t c =
+    let after-check = c .before .before .before .before .before in
+    let after-step4 = after-check .before in
+    let after-if1 = after-step4 .before .before .before in
+    let after-goes-on = after-if1 .before in
+    let after-put-to-use = after-goes-on .before .before .before .before in
+    let after-end-in = after-put-to-use .before in
+    let after-infer3 = after-end-in .before .before .before .before .before in
+    let after-step3 = after-infer3 .before in
+    let after-enum-told5 = after-step3 .before .before .before in
+    let after-past = after-enum-told5 .before .before in (
+      rw (after-enum-told5 .enum-told5 .given .1) (infer-apply _ _ _ _ _ _ _ (after-past .past .ensures .0) (rw (after-step3 .step3 .ensures) at (after-infer3 .infer3 .ensures .0)) (after-end-in .end-in .ensures) (after-put-to-use .put-to-use .ensures .0) (after-put-to-use .put-to-use .ensures .1) (holds-else (after-goes-on .goes-on .result) (after-if1 .if1 .left) (after-goes-on .goes-on .ensures)) (checks-kept _ _ _ _ _ _ _ _ _ _ (rw (after-step3 .step3 .ensures) at (after-infer3 .infer3 .ensures .1)) (rw (after-step4 .step4 .ensures) at (after-check .check .ensures .0)))),
+      keeps-then (rw (after-step3 .step3 .ensures) at (after-infer3 .infer3 .ensures .1)) (rw (after-step4 .step4 .ensures) at (after-check .check .ensures .1)),
+    )
+
+infer-by-returns-7 : (t : ℕ) → infer-by-lts.Need-returns-7 (infer-by-calls t) (infer-by-at t) infer-by.Post
+infer-by-returns-7 t c =
+    let after-infer4 = c .before .before .before .before .before in
+    let after-step5 = after-infer4 .before in
+    let after-term-at = after-step5 .before .before .before in
+    let after-enum-told6 = after-term-at .before in
+    let after-past = after-enum-told6 .before .before in (
+      rw (after-enum-told6 .enum-told6 .given .1) (infer-instance _ _ _ _ _ _ _ (after-past .past .ensures .0) (after-term-at .term-at .ensures .0) (rw (after-step5 .step5 .ensures) at (after-infer4 .infer4 .ensures .0)) (c .instance .ensures (after-term-at .term-at .ensures .1))),
+      (rw (after-step5 .step5 .ensures) at (after-infer4 .infer4 .ensures .1)),
+    )
+
+infer-by-returns-8 : (t : ℕ) → infer-by-lts.Need-returns-8 (infer-by-calls t) (infer-by-at t) infer-by.Post
+infer-by-returns-8 t c =
+    let after-enum-told7 = c .before .before in (
+      rw (after-enum-told7 .enum-told7 .given .1) (infer-no-tag _ _ _ _ _ _ _),
+      keeps-same _ _,
+    )
+
+-- ── pair ──
+
+pair-returns : (t : ℕ) → pair-lts.Need-returns (pair-calls t) (pair-at t) pair.Post
+pair-returns t c =
+    let after-goes-on = c .before in
+    let after-sides-of = after-goes-on .before .before .before .before in (
+      check-pair-unfit _ _ _ _ _ _ _ _ _ (after-sides-of .sides-of .ensures) (fails-where (after-goes-on .goes-on .result) (c .if1 .taken) (after-goes-on .goes-on .ensures)),
+      keeps-same _ _,
+    )
+
+pair-check-requires : (t : ℕ) → pair-lts.Need-check-requires (pair-calls t) (pair-at t) pair.Post
+pair-check-requires t c κs =
+    let start = c .before .before .before .before .before .before .before .before .before .before .before .before .before .before .before .before .before .before .before in
+    (part-falls _ (start .args .here) (c .step .result .left) (c .step .result .at) _ (ap (λ h. h .left) (c .step .ensures)) (start .pre .0), tt)
+
+pair-returns-2 : (t : ℕ) → pair-lts.Need-returns-2 (pair-calls t) (pair-at t) pair.Post
+pair-returns-2 t c =
+    let after-goes-on2 = c .before in
+    let after-check = after-goes-on2 .before .before .before .before .before .before in
+    let after-step = after-check .before in
+    let after-past = after-step .before in
+    let after-if1 = after-past .before .before .before in
+    let after-goes-on = after-if1 .before in
+    let after-sides-of = after-goes-on .before .before .before .before in (
+      check-pair-stopped _ _ _ _ _ _ _ _ _ (after-sides-of .sides-of .ensures) (holds-else (after-goes-on .goes-on .result) (after-if1 .if1 .left) (after-goes-on .goes-on .ensures)) (after-past .past .ensures .0) (rw (after-step .step .ensures) at (after-check .check .ensures .0)) (fails-where (after-goes-on2 .goes-on2 .result) (c .if2 .taken) (after-goes-on2 .goes-on2 .ensures)),
+      (rw (after-step .step .ensures) at (after-check .check .ensures .1)),
+    )
+
+pair-check-requires-2 : (t : ℕ) → pair-lts.Need-check-requires-2 (pair-calls t) (pair-at t) pair.Post
+pair-check-requires-2 t c κs =
+    let start = c .before .before .before .before .before .before .before .before .before .before .before .before .before .before .before .before .before .before .before .before .before .before .before .before .before .before .before .before .before .before in
+    (part-falls _ (start .args .here) (c .step2 .result .left) (c .step2 .result .at) _ (ap (λ h. h .left) (c .step2 .ensures)) (start .pre .0), tt)
+
+pair-same-length-3 : (t : ℕ) → pair-lts.Need-same-length-3 (pair-calls t) (pair-at t) pair.Post
+pair-same-length-3 t c =
+    let after-check2 = c .before .before .before .before in
+    let after-check = after-check2 .before .before .before .before .before .before .before .before .before .before .before in
+    after-check2 .check2 .kept .1 .1 .1 .1 .1 .0 ∙ after-check .check .kept .1 .1 .1 .1 .1 .0
+
+pair-same-length-4 : (t : ℕ) → pair-lts.Need-same-length-4 (pair-calls t) (pair-at t) pair.Post
+pair-same-length-4 t c =
+    let after-check2 = c .before .before .before .before in
+    let after-check = after-check2 .before .before .before .before .before .before .before .before .before .before .before in
+    after-check2 .check2 .kept .1 .1 .1 .1 .1 .1 .0 ∙ after-check .check .kept .1 .1 .1 .1 .1 .1 .0
+
+pair-returns-3 : (t : ℕ) → pair-lts.Need-returns-3 (pair-calls t) (pair-at t) pair.Post
+pair-returns-3 t c =
+    let after-check2 = c .before .before .before .before in
+    let after-step2 = after-check2 .before in
+    let after-if2 = after-step2 .before .before .before in
+    let after-goes-on2 = after-if2 .before in
+    let after-check = after-goes-on2 .before .before .before .before .before .before in
+    let after-step = after-check .before in
+    let after-past = after-step .before in
+    let after-if1 = after-past .before .before .before in
+    let after-goes-on = after-if1 .before in
+    let after-sides-of = after-goes-on .before .before .before .before in (
+      check-pair _ _ _ _ _ _ _ _ _ (after-sides-of .sides-of .ensures) (holds-else (after-goes-on .goes-on .result) (after-if1 .if1 .left) (after-goes-on .goes-on .ensures)) (after-past .past .ensures .0) (rw (after-step .step .ensures) at (after-check .check .ensures .0)) (holds-else (after-goes-on2 .goes-on2 .result) (after-if2 .if2 .left) (after-goes-on2 .goes-on2 .ensures)) (checks-kept _ _ _ _ _ _ _ _ _ _ (rw (after-step .step .ensures) at (after-check .check .ensures .1)) (rw (after-step2 .step2 .ensures) at (after-check2 .check2 .ensures .0))),
+      keeps-then (rw (after-step .step .ensures) at (after-check .check .ensures .1)) (rw (after-step2 .step2 .ensures) at (after-check2 .check2 .ensures .1)),
+    )
+
+-- ── put_in ──
+
+put-in-returns : (t : ℕ) → put-in-lts.Need-returns (put-in-calls t) (put-in-at t) put-in.Post
+put-in-returns t c =
+    let after-goes-on = c .before in
+    let after-inside-of = after-goes-on .before .before .before .before in (
+      check-put-unfit _ _ _ _ _ _ _ _ _ _ (after-inside-of .inside-of .ensures) (fails-where (after-goes-on .goes-on .result) (c .if1 .taken) (after-goes-on .goes-on .ensures)),
+      keeps-same _ _,
+    )
+
+put-in-check-requires : (t : ℕ) → put-in-lts.Need-check-requires (put-in-calls t) (put-in-at t) put-in.Post
+put-in-check-requires t c κs =
+    let start = c .before .before .before .before .before .before .before .before .before .before .before .before .before .before .before .before .before .before .before .before in
+    (part-falls _ (start .args .here) _ _ _ refl (start .pre .0), tt)
+
+put-in-returns-2 : (t : ℕ) → put-in-lts.Need-returns-2 (put-in-calls t) (put-in-at t) put-in.Post
+put-in-returns-2 t c =
+    let after-check = c .before .before .before .before in
+    let after-past = after-check .before .before .before in
+    let after-inside = after-past .before in
+    let after-if1 = after-inside .before in
+    let after-goes-on = after-if1 .before in
+    let after-inside-of = after-goes-on .before .before .before .before in
+    let start = after-inside-of .before .before .before .before .before .before .before .before .before .before .before in (
+      check-put _ _ _ _ _ _ _ _ _ _ (after-inside-of .inside-of .ensures) (holds-else (after-goes-on .goes-on .result) (after-if1 .if1 .left) (after-goes-on .goes-on .ensures)) (after-past .past .ensures .0) (rw (after-inside .inside .ensures) at (after-check .check .ensures .0)),
+      keeps-inside (start .args .here .scope) (after-inside-of .inside-of .result .row .whose) (rw (after-inside .inside .ensures) at (after-check .check .ensures .1)),
+    )
+
+-- ── take_out ──
+
+take-out-infer-requires : (t : ℕ) → take-out-lts.Need-infer-requires (take-out-calls t) (take-out-at t) take-out.Post
+take-out-infer-requires t c κs =
+    let start = c .before .before .before .before .before .before .before .before .before .before .before .before .before .before in
+    (part-falls _ (start .args .here) (c .step .result .left) (c .step .result .at) _ (ap (λ h. h .left) (c .step .ensures)) (start .pre .0), tt)
+
+take-out-returns : (t : ℕ) → take-out-lts.Need-returns (take-out-calls t) (take-out-at t) take-out.Post
+take-out-returns t c =
+    let after-goes-on = c .before in
+    let after-inside-inferred = after-goes-on .before .before .before in
+    let after-infer = after-inside-inferred .before .before .before .before .before in
+    let after-step = after-infer .before in
+    let after-past = after-step .before in (
+      check-take-stopped _ _ _ _ _ _ _ _ _ _ (after-past .past .ensures .0) (rw (after-step .step .ensures) at (after-infer .infer .ensures .0)) (after-inside-inferred .inside-inferred .ensures .0) (after-inside-inferred .inside-inferred .ensures .1) (fails-where (after-goes-on .goes-on .result) (c .if1 .taken) (after-goes-on .goes-on .ensures)),
+      (rw (after-step .step .ensures) at (after-infer .infer .ensures .1)),
+    )
+
+take-out-returns-2 : (t : ℕ) → take-out-lts.Need-returns-2 (take-out-calls t) (take-out-at t) take-out.Post
+take-out-returns-2 t c =
+    let after-if2 = c .before in
+    let after-inside-inferred = after-if2 .before .before .before .before .before in
+    let after-infer = after-inside-inferred .before .before .before .before .before in
+    let after-step = after-infer .before in
+    let after-past = after-step .before in (
+      check-take-full _ _ _ _ _ _ _ _ _ _ (after-past .past .ensures .0) (rw (after-step .step .ensures) at (after-infer .infer .ensures .0)) (after-inside-inferred .inside-inferred .ensures .0) (after-inside-inferred .inside-inferred .ensures .1) (after-if2 .if2 .taken),
+      (rw (after-step .step .ensures) at (after-infer .infer .ensures .1)),
+    )
+
+take-out-check-requires : (t : ℕ) → take-out-lts.Need-check-requires (take-out-calls t) (take-out-at t) take-out.Post
+take-out-check-requires t c κs =
+    let start = c .before .before .before .before .before .before .before .before .before .before .before .before .before .before .before .before .before .before .before .before .before .before .before .before .before .before .before .before .before .before .before in
+    (part-falls _ (start .args .here) _ _ _ refl (start .pre .0), tt)
+
+take-out-same-length-5 : (t : ℕ) → take-out-lts.Need-same-length-5 (take-out-calls t) (take-out-at t) take-out.Post
+take-out-same-length-5 t c =
+    let after-check = c .before .before .before .before in
+    let after-infer = after-check .before .before .before .before .before .before .before .before .before .before .before .before .before .before .before .before .before in
+    after-check .check .kept .1 .1 .1 .1 .1 .0 ∙ after-infer .infer .kept .1 .1 .1 .1 .1 .0
+
+take-out-same-length-6 : (t : ℕ) → take-out-lts.Need-same-length-6 (take-out-calls t) (take-out-at t) take-out.Post
+take-out-same-length-6 t c =
+    let after-check = c .before .before .before .before in
+    let after-put-row = after-check .before .before .before .before .before in
+    let after-infer = after-put-row .before .before .before .before .before .before .before .before .before .before .before .before in
+    after-check .check .kept .1 .1 .1 .1 .1 .1 .0 ∙ after-put-row .put-row .kept .0 ∙ after-infer .infer .kept .1 .1 .1 .1 .1 .1 .0
+
+take-out-returns-3 : (t : ℕ) → take-out-lts.Need-returns-3 (take-out-calls t) (take-out-at t) take-out.Post
+take-out-returns-3 t c =
+    let after-check = c .before .before .before .before in
+    let after-put-row = after-check .before .before .before .before .before in
+    let after-if1 = after-put-row .before .before .before in
+    let after-goes-on = after-if1 .before in
+    let after-inside-inferred = after-goes-on .before .before .before in
+    let after-infer = after-inside-inferred .before .before .before .before .before in
+    let after-step = after-infer .before in
+    let after-past = after-step .before in (
+      check-take _ _ _ _ _ _ _ _ _ _ (after-past .past .ensures .0) (rw (after-step .step .ensures) at (after-infer .infer .ensures .0)) (after-inside-inferred .inside-inferred .ensures .0) (after-inside-inferred .inside-inferred .ensures .1) (holds-else (after-goes-on .goes-on .result) (after-if1 .if1 .left) (after-goes-on .goes-on .ensures)) (rw (after-step .step .ensures) at (after-infer .infer .ensures .1)) (after-put-row .put-row .ensures .0) (keeps-others _ _ _ (after-put-row .put-row .ensures .1) (after-put-row .put-row .kept .0)) (after-check .check .ensures .0),
+      keeps-then (rw (after-step .step .ensures) at (after-infer .infer .ensures .1)) (keeps-put (keeps-others _ _ _ (after-put-row .put-row .ensures .1) (after-put-row .put-row .kept .0)) (after-check .check .ensures .1)),
+    )
+
+pub +check+infer+infer-by+pair+put-in+take-out-spec : {M : Type 1} → statement M
++check+infer+infer-by+pair+put-in+take-out-spec =
+    close μ-check μ-infer μ-infer-by μ-pair μ-put-in μ-take-out
+    (λ t. check-lts.spec (check-calls t) (check-at t) check.Post
+    (λ c κs. search needs) (check-returns t) (λ c κs. search needs) (λ c κs. search needs) (λ c. search needs) (check-pair-requires t) (λ c. search needs) (λ c κs. search needs) (λ c κs. search needs) (λ c. search needs) (check-put-in-requires t) (λ c. search needs) (check-take-out-requires t) (λ c. search needs) (check-put-in-requires-2 t) (λ c. search needs) (check-take-out-requires-2 t) (λ c. search needs) (λ c κs. search needs) (λ c κs. search needs) (λ c. search needs) (λ c κs. search needs) (λ c κs. search needs) (λ c. search needs) (λ c κs. search needs) (check-infer-by-requires t) (λ c κs. search needs) (λ c. search needs) (λ c κs. search needs) (λ c. search needs) (λ c. search needs) (check-returns-2 t) (check-returns-3 t) (λ c. search needs) (λ c. search needs) (check-returns-4 t) (λ c. search needs) (λ c. search needs) (check-returns-5 t) (λ c. search needs) (λ c. search needs) (check-returns-6 t) (λ c. search needs) (λ c. search needs) (check-returns-7 t) (λ c. search needs) (check-returns-8 t) (check-returns-9 t) (λ c. search needs) (λ c. search needs) (check-returns-10 t) (check-returns-11 t))
+    (λ t. infer-lts.spec (infer-calls t) (infer-at t) infer.Post
+    (λ c κs. search needs) (λ c κs. search needs) (infer-returns t) (λ c κs. search needs) (λ c κs. search needs) (infer-returns-2 t) (λ c κs. search needs) (λ c κs. search needs) (infer-infer-by-requires t) (λ c. search needs) (λ c. search needs) (infer-returns-3 t))
+    (λ t. infer-by-lts.spec (infer-by-calls t) (infer-by-at t) infer-by.Post
+    (λ c κs. search needs) (λ c. search needs) (λ c κs. search needs) (λ c. search needs) (λ c κs. search needs) (λ c. search needs) (λ c κs. search needs) (infer-by-infer-requires t) (λ c κs. search needs) (λ c. search needs) (λ c κs. search needs) (infer-by-infer-requires-2 t) (λ c κs. search needs) (λ c. search needs) (λ c κs. search needs) (infer-by-infer-requires-3 t) (λ c κs. search needs) (λ c κs. search needs) (λ c κs. search needs) (λ c κs. search needs) (λ c. search needs) (λ c. search needs) (infer-by-returns t) (λ c κs. search needs) (infer-by-check-requires t) (λ c. search needs) (λ c κs. search needs) (λ c κs. search needs) (infer-by-infer-requires-4 t) (λ c κs. search needs) (λ c. search needs) (λ c κs. search needs) (λ c κs. search needs) (λ c. search needs) (infer-by-returns-2 t) (infer-by-returns-3 t) (λ c. search needs) (λ c. search needs) (infer-by-returns-4 t) (λ c. search needs) (λ c. search needs) (infer-by-returns-5 t) (infer-by-same-length-8 t) (infer-by-same-length-9 t) (infer-by-returns-6 t) (λ c. search needs) (λ c. search needs) (infer-by-returns-7 t) (infer-by-returns-8 t))
+    (λ t. pair-lts.spec (pair-calls t) (pair-at t) pair.Post
+    (λ c κs. search needs) (λ c κs. search needs) (pair-returns t) (λ c κs. search needs) (λ c κs. search needs) (pair-check-requires t) (λ c κs. search needs) (λ c. search needs) (λ c. search needs) (pair-returns-2 t) (λ c κs. search needs) (pair-check-requires-2 t) (pair-same-length-3 t) (pair-same-length-4 t) (pair-returns-3 t))
+    (λ t. put-in-lts.spec (put-in-calls t) (put-in-at t) put-in.Post
+    (λ c κs. search needs) (λ c κs. search needs) (put-in-returns t) (λ c κs. search needs) (λ c κs. search needs) (put-in-check-requires t) (λ c. search needs) (λ c. search needs) (put-in-returns-2 t))
+    (λ t. take-out-lts.spec (take-out-calls t) (take-out-at t) take-out.Post
+    (λ c κs. search needs) (λ c κs. search needs) (take-out-infer-requires t) (λ c κs. search needs) (λ c κs. search needs) (λ c. search needs) (λ c. search needs) (take-out-returns t) (λ c κs. search needs) (λ c. search needs) (λ c. search needs) (take-out-returns-2 t) (λ c κs. search needs) (λ c. search needs) (take-out-check-requires t) (take-out-same-length-5 t) (take-out-same-length-6 t) (take-out-returns-3 t))

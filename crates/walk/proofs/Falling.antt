@@ -1,0 +1,49 @@
+-- What falls at each call of the walk: the levels left, and at the same level the bytes left. A level counts as much as all bytes of the proof and one more.
+use Prim.Native.Nat.{ℕ, zero, suc, _+_, _-_, _*_, _≤_, _<_}
+use mathlib.Core.Path.{_≡_, refl, sym, ap, _∙_}
+use mathlib.Core.List.{List}
+use native.Mathlib.Omega.{arith}
+use native.Mathlib.Decide.{decLt}
+use lib.ListN.{length, getD, List·getD-eq-default}
+use Rattle.bl.specs.declared.CheckTag.{CheckTag}
+use Rattle.bl.specs.declared.CheckTag.the-variants.{PairTag, TopStepTag, AtInTag, AtOutTag, SaysInTag, SaysOutTag, StateTag, OrderStepTag, InferredTag, NoCheckTag}
+use Rattle.bl.specs.Tags.{check-tag}
+use Rattle.walk.specs.declared.Here.{Here}
+
+-- What is left at a place of a proof of so many bytes, with so many levels.
+abbrev pub left-over : ℕ → ℕ → ℕ → ℕ
+left-over levels all at = levels * suc all + (all - at)
+
+-- A part of the step here, whose tag was read, has a level less, wherever it stands.
+pub part-falls : (all : ℕ) (here : Here) (left at t : ℕ) → left ≡ here .left → left-over (suc (here .left)) all (here .at + 1) ≡ t → left-over left all at < t
+part-falls all here left at t same is = let product = ap (λ n. n * suc all) same in omega (arith, product, is)
+
+-- Where the tag is handed on with the place after it, a byte less is left.
+pub tag-falls : (all : ℕ) (here parts : Here) (t : ℕ) → (here .left ≡ 0 → ⊥) → parts ≡ record { scope = here .scope; at = here .at; ledger = here .ledger; left = here .left - 1 }
+    → here .at < all → left-over (here .left) all (here .at) ≡ t → left-over (suc (parts .left)) all (parts .at + 1) < t
+tag-falls all here parts t more below inside is =
+    let level : suc (here .left - 1) ≡ here .left = omega (arith, more) in
+    rw below (rw level (omega (arith, inside, is)))
+
+-- A tag that is one stands inside of the proof.
+abbrev IsTag : CheckTag → Type 0
+IsTag PairTag = Unit {0}
+IsTag TopStepTag = Unit {0}
+IsTag AtInTag = Unit {0}
+IsTag AtOutTag = Unit {0}
+IsTag SaysInTag = Unit {0}
+IsTag SaysOutTag = Unit {0}
+IsTag StateTag = Unit {0}
+IsTag OrderStepTag = Unit {0}
+IsTag InferredTag = Unit {0}
+IsTag NoCheckTag = ⊥
+
+pub tag-inside : (proof : List ℕ) (at : ℕ) (tag : CheckTag) → check-tag (getD proof at 0) ≡ tag → IsTag tag → at < length proof
+tag-inside proof at tag e is = by (decLt at (length proof))
+  where
+    past-all : (length proof ≤ at) → ⊥
+    past-all past = let none : NoCheckTag ≡ tag = ap check-tag (sym (List·getD-eq-default proof 0 past)) ∙ e in rw (← none) at is
+
+    by : Dec (at < length proof) → at < length proof
+    by (yes inside) = inside
+    by (no outside) = absurd (past-all (omega arith))

@@ -1,0 +1,5 @@
+-- Laws on the walk.
+pub mod Surroundings
+pub mod Falling
+pub mod Inferring
+pub mod Checking

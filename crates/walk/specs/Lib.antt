@@ -1,0 +1,3 @@
+-- What the walk over the bytes of a proof promises.
+pub mod Walking
+pub mod WalkCalls

@@ -1,0 +1,92 @@
+-- What the walk over the bytes promises: the walk of the tree that the bytes read as.
+use Prim.Native.Nat.{ℕ, suc, _+_, _≤_, _<_}
+use mathlib.Core.Path.{_≡_}
+use mathlib.Core.List.{List}
+use mathlib.Core.Option.{some}
+use lib.ListN.{length}
+use Rattle.bl.specs.declared.InferTag.{InferTag}
+use Rattle.bl.specs.declared.InferTag.the-variants.{NoInferTag}
+use Rattle.bl.specs.declared.CheckTag.{CheckTag}
+use Rattle.bl.specs.Trees.{Formula, Infer, Check}
+use Rattle.bl.specs.Certificates.{Statement}
+use Rattle.bl.specs.Rules.{Assumption}
+use Rattle.bl.specs.Steps.{infer-step, check-step, infer-by, check-by, most-proof-levels}
+use Rattle.bl.specs.Walk.{infer, check}
+use Rattle.steps.specs.Ends.{Told, ToldChecking}
+use Rattle.ledger.specs.declared.Ledger.{Ledger}
+use Rattle.formula.specs.declared.parts.Judgement.{Judgement}
+use Rattle.judging.specs.declared.judge.Scope.{Scope}
+use Rattle.judging.specs.declared.judge.Inferred.{Inferred}
+use Rattle.judging.specs.declared.judge.Checked.{Checked}
+use Rattle.ledger.specs.Books.{book, Sound}
+use Rattle.formula.specs.Meaning.{Means, from-of, to-of}
+use Rattle.judging.specs.RowsOf.{Assumed, Certified, row-in, all-numbers}
+use Rattle.judging.specs.Judging.{view-in, Yields, Passes}
+
+-- What is lent all through a walk: the bytes of the formulas, of the proof and of the state, the rows of the certificates, and where second parts end.
+pub record Lent : Type 0 where
+  pub buffer : List ℕ
+  pub proof : List ℕ
+  pub state : List ℕ
+  pub certificates : List ℕ
+  pub ends : List ℕ
+
+-- What stands around a step: rows that are the certificates cs and the assumptions Γ, none shut out that is yet to come, with room for one more at each level left, in as many numbers as all rows take.
+pub record Around (L : Lent) (rows : List ℕ) (scope : Scope) (left : ℕ) (cs : List Statement) (Γ : List Assumption) : Type 0 where
+  pub certified : Certified (L .buffer) (L .certificates) cs
+  pub assumed : Assumed (L .buffer) rows (scope .shut) (scope .count) Γ
+  pub shut-inside : scope .shut ≤ scope .count
+  pub room : scope .count + left ≤ most-proof-levels
+  pub all-there : length rows ≡ all-numbers
+
+-- The rows below a count are as they were, and as many numbers are there.
+pub record Keeps (count : ℕ) (before after : List ℕ) : Type 0 where
+  pub rows : (i : ℕ) → i < count → row-in after i ≡ row-in before i
+  pub all : length after ≡ length before
+
+module _ (L : Lent) (rows : List ℕ) (scope : Scope) (ledger : Ledger) (list : List ℕ) (left : ℕ) where
+  -- From a sound book, in what stands around.
+  module _ (cs : List Statement) (Γ : List Assumption) where
+    -- The step that the reader finds, inferred.
+    abbrev pub InfersStep : Infer → ℕ → Inferred → List ℕ → Type 0
+    InfersStep M e r list′ = Yields (L .state) (L .buffer) (book ledger list) (infer cs Γ (view-in (scope .view)) M) e r list′
+
+    -- The step that the reader finds, checked against a goal.
+    abbrev pub ChecksStep : List ℕ → Judgement → Check → ℕ → Checked → List ℕ → Type 0
+    ChecksStep goal-bytes goal N e r list′ =
+        (G : Formula) → Means goal-bytes 0 (goal .formula) G
+        → Passes (L .state) (book ledger list) (check cs Γ (view-in (scope .view)) N G (from-of goal) (to-of goal)) e r list′
+
+  -- A step that infers, at a place.
+  abbrev pub InfersAt : ℕ → Inferred → List ℕ → Type 0
+  InfersAt at r list′ =
+      (cs : List Statement) (Γ : List Assumption) (M : Infer) (e : ℕ)
+      → Sound (book ledger list) → Around L rows scope left cs Γ
+      → infer-step (L .proof) (length cs) left (scope .count) at ≡ some (M, e) → Told (L .ends) M
+      → InfersStep cs Γ M e r list′
+
+  -- A step that infers, by its tag at a place, over parts of at most `left` levels.
+  abbrev pub InfersBy : InferTag → ℕ → Inferred → List ℕ → Type 0
+  InfersBy tag at r list′ =
+      (cs : List Statement) (Γ : List Assumption) (M : Infer) (e : ℕ)
+      → Sound (book ledger list) → Around L rows scope (suc left) cs Γ
+      → infer-by (L .proof) (length cs) (infer-step (L .proof) (length cs) left) (check-step (L .proof) (length cs) left) (scope .count) at tag (at + 1) ≡ some (M, e)
+      → Told (L .ends) M
+      → InfersStep cs Γ M e r list′
+
+  -- A step that checks, at a place.
+  abbrev pub ChecksAt : List ℕ → Judgement → ℕ → Checked → List ℕ → Type 0
+  ChecksAt goal-bytes goal at r list′ =
+      (cs : List Statement) (Γ : List Assumption) (N : Check) (e : ℕ)
+      → Sound (book ledger list) → Around L rows scope left cs Γ
+      → check-step (L .proof) (length cs) left (scope .count) at ≡ some (N, e) → ToldChecking (L .ends) N
+      → ChecksStep cs Γ goal-bytes goal N e r list′
+
+  -- A step that checks, by its tag at a place, over parts of at most `left` levels.
+  abbrev pub ChecksBy : CheckTag → List ℕ → Judgement → ℕ → Checked → List ℕ → Type 0
+  ChecksBy tag goal-bytes goal at r list′ =
+      (cs : List Statement) (Γ : List Assumption) (N : Check) (e : ℕ)
+      → Sound (book ledger list) → Around L rows scope (suc left) cs Γ
+      → check-by (L .proof) (length cs) (infer-step (L .proof) (length cs) left) (check-step (L .proof) (length cs) left) (scope .count) at NoInferTag tag (at + 1) ≡ some (N, e)
+      → ToldChecking (L .ends) N
+      → ChecksStep cs Γ goal-bytes goal N e r list′

@@ -1,0 +1,252 @@
+// The walk over a proof: steps that infer and steps that check, in one cycle of calls. At each call levels fall, or, where a tag was read and is handed on, bytes.
+// Each call hands on all that is lent, so the calls stand on one line each, out of the formatter's reach.
+use bl::CheckTag;
+use bl::FormulaTag;
+use bl::InferTag;
+use formula::parts::Judgement;
+use judging::judge::Checked;
+use judging::judge::Inferred;
+use judging::judge::Scope;
+use judging::judge::Shell;
+use judging::judge::certificate;
+use judging::judge::checked_by;
+use judging::judge::first;
+use judging::judge::inside_inferred;
+use judging::judge::inside_of;
+use judging::judge::instance;
+use judging::judge::local;
+use judging::judge::nothing;
+use judging::judge::order;
+use judging::judge::put_to_use;
+use judging::judge::second;
+use judging::judge::sides_of;
+use judging::judge::state_fact;
+use judging::judge::top;
+use judging::rows::MOST_ROWS;
+use judging::rows::put_row;
+use ledger::Ledger;
+use procap::bytes::past;
+use steps::check_tag_at;
+use steps::ends::end_in;
+use steps::infer_tag_at;
+use steps::term_at;
+ghost use mathlib.Core.Path.{_≡_};
+ghost use Prim.Native.Nat.{_-_, _<_};
+ghost use Rattle.walk.specs.WalkCalls.{lent, Infers, InfersTagged, Checks, ChecksTagged, ChecksPut, ChecksTaken, KeepsRows};
+
+// Where the walk stands: in which scope, at which step, with what ledger, and how many levels are left there.
+pub struct Here {
+    pub scope: Scope,
+    pub at: usize,
+    pub ledger: Ledger,
+    pub left: u64,
+}
+
+impl Here {
+    // The same at another place, with another ledger.
+    fn step(self, at: usize, ledger: Ledger) -> Here
+        ensures { λ r. ⌜ r ≡ record { scope = self .scope; at = at; ledger = ledger; left = self .left } ⌝ }
+    {
+        let scope = self.scope;
+        Here {
+            scope: scope,
+            at: at,
+            ledger: ledger,
+            left: self.left,
+        }
+    }
+
+    // The same with one level less, for the parts of the step.
+    fn below(self) -> Here
+        requires { ⌜ 0 < self .left ⌝ }
+        ensures { λ r. ⌜ r ≡ record { scope = self .scope; at = self .at; ledger = self .ledger; left = self .left - 1 } ⌝ }
+    {
+        let scope = self.scope;
+        let ledger = self.ledger;
+        Here {
+            scope: scope,
+            at: self.at,
+            ledger: ledger,
+            left: self.left - 1,
+        }
+    }
+}
+
+// What the step at a place infers, of at most so many levels.
+#[rattlefmt::skip]
+fn infer(
+    buffer: &[u8], proof: &[u8], state: &[u8], certificates: &[u64], ends: &[u16], facts: &mut [u64], assumptions: &mut [u64],
+    here: Here,
+) -> Inferred
+    ensures walks { λ r. ⌜ Infers (lent buffer proof state certificates ends) facts assumptions here r ⌝ }
+    ensures keeps { λ _. ⌜ KeepsRows here assumptions ⌝ }
+{
+    let at = here.at;
+    let ledger = here.ledger;
+    if here.left == 0 {
+        return nothing(ledger.misfit(at));
+    }
+    if proof.len() <= at {
+        return nothing(ledger.misfit(at));
+    }
+    infer_by(buffer, proof, state, certificates, ends, facts, assumptions, infer_tag_at(proof, at), here.below())
+}
+
+// What a step infers, by its tag; its parts have at most so many levels.
+#[rattlefmt::skip]
+fn infer_by(
+    buffer: &[u8], proof: &[u8], state: &[u8], certificates: &[u64], ends: &[u16], facts: &mut [u64], assumptions: &mut [u64],
+    tag: InferTag, here: Here,
+) -> Inferred
+    ensures walks { λ r. ⌜ InfersTagged (lent buffer proof state certificates ends) facts assumptions tag here r ⌝ }
+    ensures keeps { λ _. ⌜ KeepsRows here assumptions ⌝ }
+{
+    let scope = here.scope;
+    let at = here.at;
+    let ledger = here.ledger;
+    let begin = past(proof, at);
+    match tag {
+        InferTag::LocalTag => local(proof, assumptions, scope, at, ledger),
+        InferTag::CertificateTag => certificate(proof, certificates, scope, at, ledger),
+        InferTag::FirstTag => {
+            let part = infer(buffer, proof, state, certificates, ends, facts, assumptions, here.step(begin, ledger));
+            first(buffer, at, part)
+        }
+        InferTag::SecondTag => {
+            let part = infer(buffer, proof, state, certificates, ends, facts, assumptions, here.step(begin, ledger));
+            second(buffer, at, part)
+        }
+        InferTag::ApplyTag => {
+            let part = infer(buffer, proof, state, certificates, ends, facts, assumptions, here.step(begin, ledger));
+            let used = put_to_use(buffer, proof, at, part, end_in(ends, part.next));
+            let after_used = used.ledger;
+            let premise = used.premise;
+            let conclusion = used.conclusion;
+            if !after_used.goes_on() {
+                return nothing(after_used);
+            }
+            let checked = check(buffer, proof, state, certificates, ends, facts, assumptions, buffer, premise, here.step(used.middle, after_used));
+            let after_checked = checked.ledger;
+            Inferred { ledger: after_checked, judgement: conclusion, next: used.next }
+        }
+        InferTag::InstanceTag => {
+            let read = term_at(proof, begin);
+            let term = read.term;
+            let part = infer(buffer, proof, state, certificates, ends, facts, assumptions, here.step(read.next, ledger));
+            instance(buffer, at, part, term)
+        }
+        InferTag::NoInferTag => nothing(ledger.misfit(at)),
+    }
+}
+
+// Whether the step at a place, of at most so many levels, checks the goal.
+#[rattlefmt::skip]
+pub fn check(
+    buffer: &[u8], proof: &[u8], state: &[u8], certificates: &[u64], ends: &[u16], facts: &mut [u64], assumptions: &mut [u64],
+    goal_bytes: &[u8], goal: Judgement, here: Here,
+) -> Checked
+    ensures walks { λ r. ⌜ Checks (lent buffer proof state certificates ends) facts assumptions «goal_bytes» goal here r ⌝ }
+    ensures keeps { λ _. ⌜ KeepsRows here assumptions ⌝ }
+{
+    let at = here.at;
+    let ledger = here.ledger;
+    if here.left == 0 {
+        return Checked { ledger: ledger.misfit(at), next: at };
+    }
+    let parts = here.below();
+    match check_tag_at(proof, at) {
+        CheckTag::PairTag => pair(buffer, proof, state, certificates, ends, facts, assumptions, goal_bytes, goal, parts),
+        CheckTag::TopStepTag => Checked { ledger: top(goal_bytes, at, goal, ledger), next: past(proof, at) },
+        CheckTag::AtInTag => put_in(buffer, proof, state, certificates, ends, facts, assumptions, Shell::AtShell, goal_bytes, goal, parts),
+        CheckTag::AtOutTag => take_out(buffer, proof, state, certificates, ends, facts, assumptions, Shell::AtShell, goal_bytes, goal, parts),
+        CheckTag::SaysInTag => put_in(buffer, proof, state, certificates, ends, facts, assumptions, Shell::SaysShell, goal_bytes, goal, parts),
+        CheckTag::SaysOutTag => take_out(buffer, proof, state, certificates, ends, facts, assumptions, Shell::SaysShell, goal_bytes, goal, parts),
+        CheckTag::StateTag => Checked { ledger: state_fact(goal_bytes, state, facts, at, goal, ledger), next: past(proof, at) },
+        CheckTag::OrderStepTag => Checked { ledger: order(goal_bytes, at, goal, ledger), next: past(proof, at) },
+        CheckTag::InferredTag => {
+            let inferred = infer_by(buffer, proof, state, certificates, ends, facts, assumptions, infer_tag_at(proof, at), parts);
+            checked_by(buffer, goal_bytes, at, inferred, goal)
+        }
+        CheckTag::NoCheckTag => Checked { ledger: ledger.misfit(at), next: at },
+    }
+}
+
+// 22: both sides of a conjunction.
+#[rattlefmt::skip]
+fn pair(
+    buffer: &[u8], proof: &[u8], state: &[u8], certificates: &[u64], ends: &[u16], facts: &mut [u64], assumptions: &mut [u64],
+    goal_bytes: &[u8], goal: Judgement, here: Here,
+) -> Checked
+    ensures walks { λ r. ⌜ ChecksTagged (lent buffer proof state certificates ends) facts assumptions «goal_bytes» goal here r CheckTag.PairTag ⌝ }
+    ensures keeps { λ _. ⌜ KeepsRows here assumptions ⌝ }
+{
+    let at = here.at;
+    let ledger = here.ledger;
+    let parts = sides_of(goal_bytes, at, FormulaTag::AndTag, goal, ledger);
+    let after_parts = parts.ledger;
+    let one = parts.first;
+    let other = parts.second;
+    if !after_parts.goes_on() {
+        return Checked { ledger: after_parts, next: at };
+    }
+    let checked = check(buffer, proof, state, certificates, ends, facts, assumptions, goal_bytes, one, here.step(past(proof, at), after_parts));
+    let after_one = checked.ledger;
+    if !after_one.goes_on() {
+        return checked;
+    }
+    check(buffer, proof, state, certificates, ends, facts, assumptions, goal_bytes, other, here.step(checked.next, after_one))
+}
+
+// 28 and 2A: what stands inside of the goal's shell is checked, in the scope inside of it.
+#[rattlefmt::skip]
+fn put_in(
+    buffer: &[u8], proof: &[u8], state: &[u8], certificates: &[u64], ends: &[u16], facts: &mut [u64], assumptions: &mut [u64],
+    shell: Shell, goal_bytes: &[u8], goal: Judgement, here: Here,
+) -> Checked
+    ensures walks { λ r. ⌜ ChecksPut (lent buffer proof state certificates ends) facts assumptions «goal_bytes» goal here r shell ⌝ }
+    ensures keeps { λ _. ⌜ KeepsRows here assumptions ⌝ }
+{
+    let scope = here.scope;
+    let at = here.at;
+    let ledger = here.ledger;
+    let inside = inside_of(goal_bytes, at, shell, goal, ledger);
+    let after_inside = inside.ledger;
+    let row = inside.row;
+    let whose = row.whose;
+    let judgement = row.judgement;
+    if !after_inside.goes_on() {
+        return Checked { ledger: after_inside, next: at };
+    }
+    let inner = Here { scope: scope.inside(whose), at: past(proof, at), ledger: after_inside, left: here.left };
+    check(buffer, proof, state, certificates, ends, facts, assumptions, goal_bytes, judgement, inner)
+}
+
+// 29 and 2B: what stands inside of the shell that was inferred becomes an assumption: a plain one, or a claim of who says it.
+#[rattlefmt::skip]
+fn take_out(
+    buffer: &[u8], proof: &[u8], state: &[u8], certificates: &[u64], ends: &[u16], facts: &mut [u64], assumptions: &mut [u64],
+    shell: Shell, goal_bytes: &[u8], goal: Judgement, here: Here,
+) -> Checked
+    ensures walks { λ r. ⌜ ChecksTaken (lent buffer proof state certificates ends) facts assumptions «goal_bytes» goal here r shell ⌝ }
+    ensures keeps { λ _. ⌜ KeepsRows here assumptions ⌝ }
+{
+    let scope = here.scope;
+    let view = scope.view;
+    let count = scope.count;
+    let at = here.at;
+    let ledger = here.ledger;
+    let inferred = infer(buffer, proof, state, certificates, ends, facts, assumptions, here.step(past(proof, at), ledger));
+    let inside = inside_inferred(buffer, at, shell, inferred);
+    let after_inside = inside.ledger;
+    let row = inside.row;
+    if !after_inside.goes_on() {
+        return Checked { ledger: after_inside, next: at };
+    }
+    if MOST_ROWS <= count {
+        return Checked { ledger: after_inside.misfit(at), next: at };
+    }
+    put_row(assumptions, count, row);
+    let more = Scope { count: count + 1, shut: scope.shut, view: view };
+    let inner = Here { scope: more, at: inferred.next, ledger: after_inside, left: here.left };
+    check(buffer, proof, state, certificates, ends, facts, assumptions, goal_bytes, goal, inner)
+}
