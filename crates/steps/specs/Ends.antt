@@ -5,14 +5,13 @@ use mathlib.Core.Path.{_≡_}
 use mathlib.Core.List.{List}
 use mathlib.Core.Option.{some}
 use lib.ListN.{length, getD}
-use denote.Ref.{RefT}
-use denote.Triple.Both.{Both}
 use Rattle.procap.specs.declared.time.Time.{Time}
 use Rattle.procap.specs.declared.time.Time.the-variants.{Moment, MinusInfinity, PlusInfinity, Ctime}
 use Rattle.procap.specs.declared.fact.Term.{Term}
 use Rattle.procap.specs.declared.fact.Term.the-variants.{Name, When}
 use Rattle.bl.specs.Trees.{Infer, local, certificate, first, second, apply, instance, Check, pair, trivial, at-in, at-out, says-in, says-out, state, compare, inferred, offset}
 use Rattle.bl.specs.Steps.{proof-in}
+use Rattle.steps.specs.Lent.{Lent}
 
 -- ── How many bytes a step takes ──
 
@@ -101,9 +100,11 @@ module _ (ends : List ℕ) where
     ToldChecking (compare q) = Unit {0}
     ToldChecking (inferred M) = Told M
 
--- Lent bytes or numbers, as a contract names them.
-abbrev pub Lent : Type 0
-Lent = Both (RefT (List ℕ)) (RefT (List ℕ))
+-- ── As a contract has it ──
+
+-- The bytes are a proof over so many certificates.
+abbrev pub IsProof : Lent → ℕ → Type 0
+IsProof proof certificates = (N : Check) × (proof-in certificates (proof .entry .now) ≡ some N)
 
 -- Where the bytes are a proof, and the table is long enough, it has at the exit where each second part ends.
 abbrev pub EndsTold : Lent → ℕ → Lent → Type 0
