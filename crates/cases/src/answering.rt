@@ -1,10 +1,10 @@
 // The whole way from a case to what is printed.
 use crate::case::case_at;
 use crate::groups::Records;
-use crate::lines::Form;
 use bl::Certificate;
 use procap::answer::Answer;
 use procap::procap::Request;
+use text::line::Form;
 use text::writer::WrittenText;
 use text::writer::write_refusal;
 use text::writer::write_text;
