@@ -91,14 +91,10 @@ impl Ledger {
     pub fn stop(self) -> Stop
         ensures { λ r. ⌜ r ≡ «stop-of» self ⌝ }
     {
-        let number = self.number;
-        let place = self.place;
-        match number {
-            0 => Stop::Going,
-            3 => Stop::Stopped(Answer::StepUnfit(place)),
-            4 => Stop::Stopped(Answer::OrderFalse(place)),
-            _ => Stop::Stopped(Answer::FactMissing(place)),
+        if self.number == 0 {
+            return Stop::Going;
         }
+        Stop::Stopped(Answer::of(self.number, self.place))
     }
 
     // The ledger, stopped by this answer unless it was before.
