@@ -7,9 +7,12 @@ use mathlib.Core.Option.{Option, some, none}
 use lib.ListN.{length, take, drop}
 use Rattle.procap.specs.Outcome.{Outcome, granted}
 use Rattle.procap.specs.declared.time.Time.{Time}
+use Rattle.procap.specs.declared.procap.Request.{Request}
+use Rattle.procap.specs.declared.procap.Procap.{Procap}
 use Rattle.text.specs.Places.{Reads}
 use Rattle.text.specs.Buffers.{put-at}
 use Rattle.bl.specs.Certificates.{most-certificates}
+use Rattle.bl.specs.Calls.{verified}
 use Rattle.bl.specs.declared.Certificate.{Certificate}
 use Rattle.cases.specs.Hex.{is-hex, hex-value, leading-hex, paired}
 use Rattle.cases.specs.Case.{Group, Case, first-group-line, buffer-of, record-at, records-from}
@@ -117,3 +120,8 @@ pub record CaseFound (o : Outcome (Case × ℕ × ℕ)) (r : CaseRead) (bytes : 
 
 abbrev pub CaseReads : Outcome (Case × ℕ × ℕ) → CaseRead → List ℕ → Type 0
 CaseReads o r bytes = Reads o (r .form) (CaseFound o r bytes)
+
+-- What verify comes to for a request, its records, and the formulas and the proof in a buffer: the one ends at `split`, the other at `end`.
+abbrev pub verified-in : List ℕ → Request → Records → ℕ → ℕ → Outcome Procap
+verified-in bytes request certificates split end =
+    verified request (kept-records certificates) (take split bytes) (take (end - split) (drop split bytes))
