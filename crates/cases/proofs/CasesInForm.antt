@@ -13,11 +13,11 @@ use Rattle.procap.proofs.Readers.{IfRead, so-read}
 use Rattle.procap.proofs.Granted.{same-grant, no-grant, went-on}
 use Rattle.bl.specs.Accepting.{AreBytes}
 use Rattle.text.specs.Words.{bytes-of}
+use Rattle.text.specs.LinesInARow.{at-line, one-line}
+use Rattle.text.proofs.Requests.{request-in-form}
 use Rattle.cases.specs.CaseLines.{hex-line}
-use Rattle.cases.specs.LinesInARow.{at-line, one-line}
 use Rattle.cases.specs.Case.{Group, Case, group, groups, case-with, case-lines, case-in, buffer-of}
 use Rattle.cases.proofs.HexBytes.{hex-line-bytes}
-use Rattle.cases.proofs.RequestsInForm.{request-in-form}
 
 -- Of a line that reads, the reader found the value there.
 line-found : {A : Type 0} (line : ℕ) (o : Option (A × ℕ)) (x : A × ℕ × ℕ) → at-line line o ≡ granted x → o ≡ some (x .0, x .2)

@@ -11,9 +11,9 @@ use Rattle.bl.specs.Certificates.{most-certificates}
 use Rattle.bl.specs.declared.Certificate.{Certificate}
 use Rattle.verifier.specs.Verifying.{no-record}
 use Rattle.text.proofs.Putting.{Put, put-none, put-both}
+use Rattle.text.specs.declared.line.Form.the-variants.{Kept}
 use Rattle.cases.specs.Case.{Group, first-group-line, group, groups, buffer-of, records-from}
 use Rattle.cases.specs.Found.{GroupFound, GroupsFound}
-use Rattle.cases.specs.declared.lines.Form.the-variants.{Kept}
 use Rattle.cases.specs.declared.groups.GroupRead.{GroupRead}
 use Rattle.cases.proofs.GroupLaws.{led-by, led-by-nothing, led-more, led-breaks, led-all, groups-one, groups-break, groups-end}
 use Rattle.cases.proofs.Records.{buffer-more, record-stored, records-kept}

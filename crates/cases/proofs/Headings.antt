@@ -11,9 +11,9 @@ use Rattle.procap.specs.declared.answer.Answer.the-variants.{InputMalformed}
 use Rattle.procap.specs.declared.time.Time.{Time}
 use Rattle.procap.proofs.Readers.{so-read}
 use Rattle.text.specs.Words.{bytes-of}
-use Rattle.text.specs.Reader.{line-to}
+use Rattle.text.specs.Line.{line-to}
 use Rattle.text.proofs.Spellings.{line-read}
-use Rattle.cases.specs.LinesInARow.{at-line}
+use Rattle.text.specs.LinesInARow.{at-line}
 use Rattle.cases.specs.CaseLines.{time-line}
 use Rattle.cases.specs.Case.{heading}
 use Rattle.cases.proofs.Times.{time-line-ends}

@@ -12,7 +12,7 @@ use Rattle.procap.specs.Bytes.{then, ensure}
 use Rattle.procap.proofs.Readers.{so-read}
 use Rattle.text.specs.Numbers.{is-digit}
 use Rattle.text.specs.Words.{bytes-of}
-use Rattle.text.specs.Reader.{literal}
+use Rattle.text.specs.Line.{literal}
 use Rattle.text.proofs.Readers.{Takes, literal-read}
 use Rattle.cases.specs.Hex.{is-letter, is-hex, leading-hex, in-pairs, paired}
 use Rattle.cases.specs.CaseLines.{hex-digits, hex-line}

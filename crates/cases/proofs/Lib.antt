@@ -1,14 +1,11 @@
 -- Laws, from a hex digit to a whole case.
 pub mod InARow
-pub mod Forms
 pub mod HexDigits
 pub mod Pairs
 pub mod HexLines
 pub mod HexBytes
 pub mod Times
 pub mod Headings
-pub mod Requests
-pub mod RequestsInForm
 pub mod GroupLaws
 pub mod Records
 pub mod GroupsSoFar

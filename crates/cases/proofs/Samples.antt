@@ -12,8 +12,7 @@ use Rattle.text.specs.Text.{line, term-text, terms-text, fact-text, facts-text,
 use Rattle.text.proofs.Samples.{computes as texts-compute}
 use Rattle.cases.specs.Hex.{is-letter, is-hex, hex-value, leading-hex, in-pairs, paired}
 use Rattle.cases.specs.CaseLines.{first-of, sign, moment, case-time, time-line, hex-digits, hex-line, nothing-more}
-use Rattle.cases.specs.LinesInARow.{at-line}
-use Rattle.cases.specs.Case.{request-lines, heading, group, groups, case-with, case-lines, case-in, buffer-of, records-from}
+use Rattle.cases.specs.Case.{heading, group, groups, case-with, case-lines, case-in, buffer-of, records-from}
 use Rattle.cases.specs.Calls.{checked, printed-of, printed}
 
 -- A case, and what is printed for it.
@@ -153,5 +152,5 @@ samples =
     []
 
 pub samples-come-out : All ComesOut samples
-unfolding calls-compute texts-compute spelled listed digits-of decimal line term-text terms-text fact-text facts-text text-of refusal-text is-letter is-hex hex-value leading-hex in-pairs paired first-of sign moment case-time time-line hex-digits hex-line nothing-more at-line request-lines heading group groups case-with case-lines case-in buffer-of records-from checked printed-of printed
+unfolding calls-compute texts-compute spelled listed digits-of decimal line term-text terms-text fact-text facts-text text-of refusal-text is-letter is-hex hex-value leading-hex in-pairs paired first-of sign moment case-time time-line hex-digits hex-line nothing-more heading group groups case-with case-lines case-in buffer-of records-from checked printed-of printed
 samples-come-out = (refl, (refl, (refl, (refl, (refl, (refl, (refl, (refl, (refl, (refl, (refl, (refl, (refl, (refl, (refl, (refl, (refl, (refl, (refl, (refl, (refl, (refl, tt))))))))))))))))))))))

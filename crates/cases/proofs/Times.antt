@@ -11,7 +11,7 @@ use Rattle.procap.specs.declared.time.Time.{Time}
 use Rattle.procap.specs.declared.time.Time.the-variants.{Moment, MinusInfinity, PlusInfinity}
 use Rattle.procap.proofs.Readers.{IfRead, unread, read, then-read, Ends}
 use Rattle.text.specs.Words.{bytes-of}
-use Rattle.text.specs.Reader.{literal, number-to}
+use Rattle.text.specs.Line.{literal, number-to}
 use Rattle.text.proofs.Readers.{literal-read, number-read}
 use Rattle.cases.specs.CaseLines.{first-of, sign, moment, case-time, time-line}
 use Rattle.cases.specs.Found.{TimeReads}

@@ -11,9 +11,10 @@ use Rattle.procap.specs.declared.procap.Request.{Request}
 use Rattle.bl.specs.Certificates.{most-certificates}
 use Rattle.bl.specs.declared.Certificate.{Certificate}
 use Rattle.text.specs.Words.{bytes-of}
-use Rattle.text.specs.Reader.{line-to}
+use Rattle.text.specs.Line.{line-to}
+use Rattle.text.specs.LinesInARow.{Lines, _>>=_, give, one-line}
+use Rattle.text.specs.RequestLines.{request-lines}
 use Rattle.cases.specs.CaseLines.{time-line, hex-line, nothing-more}
-use Rattle.cases.specs.LinesInARow.{Lines, _>>=_, give, one-line}
 
 -- [Numbers 14] How many bytes the input may have.
 abbrev pub most-input : ℕ
@@ -37,14 +38,6 @@ pub record Case : Type 0 where
   pub proof : List ℕ
 
 module _ (bytes : List ℕ) where
-  -- [Program] The three lines of the request.
-  unfoldable pub request-lines : Lines Request
-  request-lines = do
-    who ← one-line (line-to bytes (bytes-of "who=") largest-name)
-    what ← one-line (line-to bytes (bytes-of "what=") largest-name)
-    right ← one-line (line-to bytes (bytes-of "right=") largest-name)
-    give (record { who = who; what = what; right = right })
-
   -- [Program] The first three lines of a group.
   unfoldable pub heading : Lines (ℕ × Time × Time)
   heading = do
@@ -79,7 +72,7 @@ module _ (bytes : List ℕ) where
   -- [Program] All lines of a case.
   unfoldable pub case-lines : Lines Case
   case-lines = do
-    r ← request-lines
+    r ← request-lines bytes
     count ← one-line (line-to bytes (bytes-of "certs=") most-certificates)
     case-with r count
 

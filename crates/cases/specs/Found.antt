@@ -5,12 +5,14 @@ use mathlib.Core.Path.{_≡_}
 use mathlib.Core.List.{List, [], _∷_, _++_}
 use mathlib.Core.Option.{Option, some, none}
 use lib.ListN.{length, take, drop}
-use Rattle.procap.specs.Outcome.{Outcome, granted, refused}
-use Rattle.procap.specs.declared.answer.Answer.the-variants.{InputMalformed}
+use Rattle.procap.specs.Outcome.{Outcome, granted}
 use Rattle.procap.specs.declared.time.Time.{Time}
 use Rattle.procap.specs.declared.procap.Request.{Request}
+use Rattle.procap.specs.declared.procap.Procap.{Procap}
+use Rattle.text.specs.Places.{Reads}
 use Rattle.text.specs.Buffers.{put-at}
 use Rattle.bl.specs.Certificates.{most-certificates}
+use Rattle.bl.specs.Calls.{verified}
 use Rattle.bl.specs.declared.Certificate.{Certificate}
 use Rattle.cases.specs.Hex.{is-hex, hex-value, leading-hex, paired}
 use Rattle.cases.specs.Case.{Group, Case, first-group-line, buffer-of, record-at, records-from}
@@ -18,15 +20,12 @@ use Rattle.cases.specs.declared.hex.HexDigit.{HexDigit}
 use Rattle.cases.specs.declared.hex.HexDigit.the-variants.{Value, NoDigit}
 use Rattle.cases.specs.declared.hex.PairsRead.{PairsRead}
 use Rattle.cases.specs.declared.hex.HexRead.{HexRead}
-use Rattle.cases.specs.declared.lines.Form.{Form}
-use Rattle.cases.specs.declared.lines.Form.the-variants.{Kept, BrokenAt}
 use Rattle.cases.specs.declared.lines.TimeRead.{TimeRead}
 use Rattle.cases.specs.declared.lines.TimeRead.the-variants.{Found, NoTime}
 use Rattle.cases.specs.declared.groups.Records.{Records}
 use Rattle.cases.specs.declared.groups.HeadingRead.{HeadingRead}
 use Rattle.cases.specs.declared.groups.GroupRead.{GroupRead}
 use Rattle.cases.specs.declared.groups.GroupsRead.{GroupsRead}
-use Rattle.cases.specs.declared.case.RequestRead.{RequestRead}
 use Rattle.cases.specs.declared.case.CaseRead.{CaseRead}
 
 -- ── Hex ──
@@ -71,15 +70,6 @@ HexReads o at start before r after = HexFound o at start before (r .found) (r .n
 abbrev pub TimeReads : Option (Time × ℕ) → TimeRead → Type 0
 TimeReads o (Found t next) = o ≡ some (t, next)
 TimeReads o NoTime = o ≡ none
-
--- What a reader of lines comes to: so much was found, or a line breaks the form.
-abbrev pub Reads : {A : Type 0} → Outcome (A × ℕ × ℕ) → Form → Type 0 → Type 0
-Reads o Kept so = so
-Reads o (BrokenAt line) so = o ≡ refused (InputMalformed line)
-
--- The request, of which the next line is the fourth.
-abbrev pub RequestReads : Outcome (Request × ℕ × ℕ) → RequestRead → Type 0
-RequestReads o r = Reads o (r .form) (o ≡ granted (r .request, 4, r .next))
 
 -- The lines of a group before its formula, no place of which is before the first.
 abbrev pub HeadingReads : Outcome ((ℕ × Time × Time) × ℕ × ℕ) → ℕ → ℕ → HeadingRead → Type 0
@@ -130,3 +120,8 @@ pub record CaseFound (o : Outcome (Case × ℕ × ℕ)) (r : CaseRead) (bytes : 
 
 abbrev pub CaseReads : Outcome (Case × ℕ × ℕ) → CaseRead → List ℕ → Type 0
 CaseReads o r bytes = Reads o (r .form) (CaseFound o r bytes)
+
+-- What verify comes to for a request, its records, and the formulas and the proof in a buffer: the one ends at `split`, the other at `end`.
+abbrev pub verified-in : List ℕ → Request → Records → ℕ → ℕ → Outcome Procap
+verified-in bytes request certificates split end =
+    verified request (kept-records certificates) (take split bytes) (take (end - split) (drop split bytes))

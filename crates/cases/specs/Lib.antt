@@ -1,7 +1,6 @@
 -- A case, and what is printed for it. Read in this order.
 pub mod Hex
 pub mod CaseLines
-pub mod LinesInARow
 pub mod Case
 pub mod Calls
 pub mod Found

@@ -1,27 +1,25 @@
 // The whole way from a case to what is printed.
 use crate::case::case_at;
 use crate::groups::Records;
-use crate::lines::Form;
 use bl::Certificate;
 use procap::answer::Answer;
 use procap::procap::Request;
+use text::line::Form;
 use text::writer::WrittenText;
 use text::writer::write_refusal;
 use text::writer::write_text;
 use verifier::certificates::MOST_CERTIFICATES;
 use verifier::verify::Verified;
 use verifier::verify::verify;
-ghost use Prim.Native.Nat.{_-_, _≤_};
-ghost use lib.ListN.{length, take, drop};
-ghost use Rattle.procap.specs.Outcome.{Outcome};
-ghost use Rattle.procap.specs.declared.procap.Procap.{Procap};
+ghost use Prim.Native.Nat.{_≤_};
+ghost use lib.ListN.{length, take};
 ghost use Rattle.bl.specs.Certificates.{«most-certificates»};
 ghost use Rattle.bl.specs.Calls.{verified};
-ghost use Rattle.text.specs.Calls.{fitting, Wrote};
+ghost use Rattle.text.specs.Calls.{Wrote};
 ghost use Rattle.verifier.specs.Verifying.{HandsOver};
-ghost use Rattle.cases.specs.Calls.{«printed-of», answering};
-ghost use Rattle.cases.specs.Found.{«kept-records»};
-ghost use Rattle.cases.specs.Printing.{Printable};
+ghost use Rattle.cases.specs.Calls.{answering};
+ghost use Rattle.cases.specs.Found.{«verified-in»};
+ghost use Rattle.cases.specs.Printing.{Prints};
 
 // How many bytes a case may have.
 pub const MOST_INPUT: usize = 65_536;
@@ -60,7 +58,7 @@ fn verify_parts(
     requires few { ⌜ certificates .count ≤ «most-certificates» ⌝ }
     requires order { ⌜ split ≤ end ⌝ }
     requires inside { ⌜ end ≤ length (now bytes) ⌝ }
-    ensures { λ r. ⌜ HandsOver (verified request («kept-records» certificates) (take split (now (bytes .entry))) (take (end - split) (drop split (now (bytes .entry))))) r ⌝ }
+    ensures { λ r. ⌜ HandsOver («verified-in» (now (bytes .entry)) request certificates split end) r ⌝ }
 {
     let count = certificates.count;
     let records = certificates.records;
@@ -83,7 +81,7 @@ fn verify_lent(
 
 // Puts what is printed for what verify answers at the front of the buffer.
 fn write_verified(verified: Verified, out: &mut [u8]) -> WrittenText
-    ensures { λ r. ⌜ ((o : Outcome Procap) → HandsOver o verified → Printable o → Wrote (fitting («printed-of» o) (length (now (out .entry)))) (now (out .entry)) r (now (out .exit))) ⌝ }
+    ensures { λ r. ⌜ Prints verified out r ⌝ }
 {
     let answer = verified.answer;
     let procap = verified.procap;

@@ -5,25 +5,18 @@ use crate::groups::Records;
 use crate::groups::groups_at;
 use crate::groups::no_certificates;
 use crate::hex::hex_line;
-use crate::lines::Form;
 use procap::bytes::NumberRead;
 use procap::procap::Request;
-use procap::writable::LARGEST_NAME;
+use text::line::Form;
 use text::line::line;
+use text::request::request_at;
 use verifier::certificates::MOST_CERTIFICATES;
 ghost use mathlib.Core.Path.{_≡_};
 ghost use Prim.Native.Nat.{_*_, _≤_};
 ghost use lib.ListN.{length};
 ghost use Rattle.bl.specs.Certificates.{«most-certificates»};
-ghost use Rattle.cases.specs.Case.{«first-group-line», «request-lines», «case-with», «case-lines»};
-ghost use Rattle.cases.specs.Found.{RequestReads, CaseReads};
-
-// Whether the lines of the request were read, the request, and the place after them.
-pub struct RequestRead {
-    pub form: Form,
-    pub request: Request,
-    pub next: usize,
-}
+ghost use Rattle.cases.specs.Case.{«first-group-line», «case-with», «case-lines»};
+ghost use Rattle.cases.specs.Found.{CaseReads};
 
 // Whether a case was read, and what it asks. In the buffer the certificates' bytes end at `split`, and the proof's at `end`.
 pub struct CaseRead {
@@ -39,7 +32,7 @@ pub(crate) fn case_at(input: &[u8], bytes: &mut [u8]) -> CaseRead
     requires room { ⌜ length (now input) ≤ 2 * length (now bytes) ⌝ }
     ensures { λ r. ⌜ CaseReads («case-lines» (now (input .entry)) 1 0) r (now (bytes .exit)) ⌝ }
 {
-    let asked = request_at(input);
+    let asked = request_at(input, 0);
     let form = asked.form;
     if let Form::BrokenAt(broken) = form {
         return no_case(broken);
@@ -98,42 +91,5 @@ fn no_case(broken: usize) -> CaseRead
         certificates: certificates,
         split: 0,
         end: 0,
-    }
-}
-
-// The request in the first three lines.
-fn request_at(input: &[u8]) -> RequestRead
-    ensures { λ r. ⌜ RequestReads («request-lines» (now (input .entry)) 1 0) r ⌝ }
-{
-    let NumberRead::Number(who, after_who) = line(input, 0, b"who=", LARGEST_NAME) else {
-        return no_request(1);
-    };
-    let NumberRead::Number(what, after_what) = line(input, after_who, b"what=", LARGEST_NAME) else {
-        return no_request(2);
-    };
-    let NumberRead::Number(right, next) = line(input, after_what, b"right=", LARGEST_NAME) else {
-        return no_request(3);
-    };
-    let request = Request {
-        who: who as u16,
-        what: what as u16,
-        right: right as u16,
-    };
-    RequestRead {
-        form: Form::Kept,
-        request: request,
-        next: next,
-    }
-}
-
-// What is handed back where a line breaks the form of the request.
-fn no_request(broken: usize) -> RequestRead
-    ensures { λ r. ⌜ r .form ≡ Form.BrokenAt broken ⌝ }
-{
-    let request = Request::none();
-    RequestRead {
-        form: Form::BrokenAt(broken),
-        request: request,
-        next: 0,
     }
 }

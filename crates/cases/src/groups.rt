@@ -1,12 +1,12 @@
 // The groups of a case: who says what, and when.
 use crate::hex::hex_line;
-use crate::lines::Form;
 use crate::lines::TimeRead;
 use crate::lines::time_line;
 use bl::Certificate;
 use procap::bytes::NumberRead;
 use procap::time::Time;
 use procap::writable::LARGEST_NAME;
+use text::line::Form;
 use verifier::certificates::MOST_CERTIFICATES;
 ghost use mathlib.Core.Path.{_≡_};
 ghost use Prim.Native.Nat.{_*_, _≤_};

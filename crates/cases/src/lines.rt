@@ -1,4 +1,4 @@
-// Which line breaks the form of a case, and the lines that hold a time.
+// The lines of a case that hold a time.
 use procap::bytes::NumberRead;
 use procap::time::LATEST_SECOND;
 use procap::time::Time;
@@ -7,12 +7,6 @@ use text::line::after;
 use text::line::number;
 ghost use Rattle.cases.specs.CaseLines.{«case-time», «time-line»};
 ghost use Rattle.cases.specs.Found.{TimeReads};
-
-// Whether lines keep the form of a case, or which is the first that breaks it.
-pub enum Form {
-    Kept,
-    BrokenAt(usize),
-}
 
 // A time that was read and the place after it, or none.
 pub enum TimeRead {

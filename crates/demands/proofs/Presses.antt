@@ -18,7 +18,7 @@ use Rattle.bl.proofs.CaseP.{request-P, records-P, buffer-P, proof-P, computes a
 use Rattle.text.specs.Words.{bytes-of}
 use Rattle.text.specs.Calls.{reading}
 use Rattle.text.proofs.Samples.{computes as texts-compute}
-use Rattle.door.specs.Door.{each-holds, opening, opening-text}
+use Rattle.door.specs.Door.{each-holds, before-facts, opening, opening-text}
 
 -- Case P's text.
 abbrev pub text-P : String
@@ -95,7 +95,7 @@ fifteen-presses =
     []
 
 pub fifteen-presses-come-out : All ComesOut fifteen-presses
-unfolding calls-compute texts-compute spelled listed TermInForm all? distinct? arguments? facts? in-range? term-in-form? fact-in-form? request? request-in-form? writable? reading each-holds opening opening-text
+unfolding calls-compute texts-compute spelled listed TermInForm all? distinct? arguments? facts? in-range? term-in-form? fact-in-form? request? request-in-form? writable? reading each-holds before-facts opening opening-text
 fifteen-presses-come-out = (
   (refl, refl, refl),
   (

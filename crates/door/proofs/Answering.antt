@@ -55,10 +55,7 @@ opening-refuses : (p : Procap) (r : Request) (m : ℕ) (state : List ℕ) → Re
 unfolding opening
 opening-refuses p r m state =
     go-on-refused Refuses _ _ (require-refused Refuses ProcapMalformed (writable? p) (omega arith, omega arith)) λ u e.
-    go-on-refused Refuses _ _ (press-refused Refuses (omega arith, omega arith) (omega arith, omega arith) m state) λ σ _.
-    go-on-refused Refuses _ _ (require-refused Refuses RequestDiffers (request? r (p .request)) (omega arith, omega arith)) λ _ _.
-    go-on-refused Refuses _ _ (require-refused Refuses MomentOutside (decLe (p .from) m) (omega arith, omega arith)) λ _ _.
-    go-on-refused Refuses _ _ (require-refused Refuses MomentOutside (decLe m (p .to)) (omega arith, omega arith)) λ _ _.
+    go-on-refused Refuses _ _ (before-refuses (p .request) (p .from) (p .to) r m state) λ σ _.
     each-refuses m σ 0 (listed p) (omega (arith, few-listed p (was-so ProcapMalformed (writable? p) u e .few-facts)))
 
 text-refuses : (text : List ℕ) (r : Request) (m : ℕ) (state : List ℕ) → RefusesWell (opening-text text r m state)

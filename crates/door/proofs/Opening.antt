@@ -4,18 +4,18 @@ use Prim.Native.Nat.{ℕ, suc}
 use mathlib.Core.Path.{_≡_, refl}
 use mathlib.Core.List.{List, [], _∷_}
 use mathlib.Core.Logic.{_↔_}
-use native.Mathlib.Decide.{decLe}
 use Rattle.procap.specs.Lists.{All}
 use Rattle.procap.specs.Facts.{Spelled}
 use Rattle.procap.specs.Procaps.{listed, HoldsAt}
 use Rattle.procap.specs.Outcome.{granted, go-on}
-use Rattle.procap.specs.Deciding.{writable?, request?, holds-at?}
-use Rattle.procap.specs.declared.answer.Answer.the-variants.{RequestDiffers, MomentOutside, FactMissing, ProcapMalformed}
+use Rattle.procap.specs.Deciding.{writable?, holds-at?}
+use Rattle.procap.specs.declared.answer.Answer.the-variants.{FactMissing, ProcapMalformed}
 use Rattle.procap.specs.declared.procap.Request.{Request}
 use Rattle.procap.specs.declared.procap.Procap.{Procap}
-use Rattle.procap.proofs.Granted.{went-on, goes-on, was-so, is-so, press-read, reads-press}
+use Rattle.procap.proofs.Granted.{went-on, goes-on, was-so, is-so}
 use Rattle.door.specs.Door.{each-holds, opening}
 use Rattle.door.specs.Opens.{Opens}
+use Rattle.door.proofs.BeforeFacts.{was-passed, is-passed}
 
 module _ (m : ℕ) (σ : List Spelled) where
   -- Where no fact is missing, each holds, and the other way round.
@@ -36,22 +36,15 @@ module _ (p : Procap) (r : Request) (m : ℕ) (state : List ℕ) where
   unfolding opening
   opened e =
       went-on _ _ _ e λ u e₁ e.
-      went-on _ _ _ e λ σ e₂ e.
-      went-on _ _ _ e λ v e₃ e.
-      went-on _ _ _ e λ w e₄ e.
-      went-on _ _ _ e λ x e₅ e₆.
-      press-read m state σ e₂ λ in-range reads.
+      went-on _ _ _ e λ σ e₂ e₃.
+      was-passed (p .request) (p .from) (p .to) r m state σ e₂ λ in-range reads own since until.
       record {
         can-be-written = was-so ProcapMalformed (writable? p) u e₁;
         moment-in-range = in-range;
         facts = σ;
         state-reads = reads;
-        own-request = was-so RequestDiffers (request? r (p .request)) v e₃;
-        satisfied = record {
-          since = was-so MomentOutside (decLe (p .from) m) w e₄;
-          until = was-so MomentOutside (decLe m (p .to)) x e₅;
-          facts-hold = none-missing m σ 0 (listed p) e₆;
-        };
+        own-request = own;
+        satisfied = record { since = since; until = until; facts-hold = none-missing m σ 0 (listed p) e₃ };
       }
 
   opens : Opens p r m state → opening p r m state ≡ granted tt
@@ -60,11 +53,8 @@ module _ (p : Procap) (r : Request) (m : ℕ) (state : List ℕ) where
       let σ = o .facts in
       let s = o .satisfied in
       rw (is-so ProcapMalformed (writable? p) (o .can-be-written))
-      (rw (reads-press m state σ (o .moment-in-range) (o .state-reads))
-      (rw (is-so RequestDiffers (request? r (p .request)) (o .own-request))
-      (rw (is-so MomentOutside (decLe (p .from) m) (s .since))
-      (rw (is-so MomentOutside (decLe m (p .to)) (s .until))
-      (all-there m σ 0 (listed p) (s .facts-hold))))))
+      (rw (is-passed (p .request) (p .from) (p .to) r m state σ (o .moment-in-range) (o .state-reads) (o .own-request) (s .since) (s .until))
+      (all-there m σ 0 (listed p) (s .facts-hold)))
 
   -- The door opens exactly when the request is the procap's own and the procap is satisfied, for a procap that can be written, a moment in range and a state that is well formed.
   pub opens-exactly : (opening p r m state ≡ granted tt) ↔ Opens p r m state

@@ -18,6 +18,7 @@ use Rattle.procap.specs.declared.procap.Procap.{Procap}
 use Rattle.procap.proofs.Granted.{is-so, is-not-so, reads-press}
 use Rattle.state.specs.Standing.{WellFormed}
 use Rattle.door.specs.Door.{before-facts, opening}
+use Rattle.door.proofs.BeforeFacts.{is-passed}
 
 -- Bytes that are no state say nothing.
 says-nothing : (state : List ℕ) → (WellFormed state → ⊥) → stated state ≡ none
@@ -70,8 +71,5 @@ module _ (asked : Request) (from to : ℕ) (r : Request) (m : ℕ) (state : List
 
           -- None of these
           pub left-to-the-facts : m ≤ to → Granted ≡ answer-of (before-facts asked from to r m state)
-          unfolding before-facts go-on answer-of
-          left-to-the-facts until =
-              rw (reads-press m state (formed .0) in-range (formed .1))
-              (rw (is-so RequestDiffers (request? r asked) own)
-              (rw (is-so MomentOutside (decLe from m) since) (rw (is-so MomentOutside (decLe m to) until) refl)))
+          unfolding answer-of
+          left-to-the-facts until = rw (is-passed asked from to r m state (formed .0) in-range (formed .1) own since until) refl

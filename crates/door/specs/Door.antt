@@ -37,14 +37,11 @@ before-facts asked from to r m state =
     go-on (require MomentOutside (decLe m to)) λ _.
     granted σ
 
--- [Numbers, order of the door] 12, 11, 7, 8, 9, 10.
+-- [Numbers, order of the door] 12, then what comes before the facts, then 10: in all 12, 11, 7, 8, 9, 10.
 unfoldable pub opening : Procap → Request → ℕ → List ℕ → Outcome (Unit {0})
 opening p r m state =
     go-on (require ProcapMalformed (writable? p)) λ _.
-    go-on (read-press m state) λ σ.
-    go-on (require RequestDiffers (request? r (p .request))) λ _.
-    go-on (require MomentOutside (decLe (p .from) m)) λ _.
-    go-on (require MomentOutside (decLe m (p .to))) λ _.
+    go-on (before-facts (p .request) (p .from) (p .to) r m state) λ σ.
     each-holds m σ 0 (listed p)
 
 -- [Two questions] What it answers to the desk firmware, which has the procap as its text: 12 comes first, for bytes that are none.

@@ -28,7 +28,7 @@ use Rattle.ledger.specs.declared.Reading.the-variants.{Office, Press}
 use Rattle.ledger.specs.declared.Ledger.{Ledger}
 use Rattle.ledger.specs.Books.{book, Sound, fact-numbers, list-numbers, fact-in, facts-in, Gives, stop-of, reading-in, keeping, stopped-by, kept-of, reading-of, facts-said, resume, unless-stopped}
 use Rattle.ledger.specs.Putting.{KeptBefore}
-use Rattle.ledger.proofs.Stopping.{Stops, false-stops, fault-stops}
+use Rattle.ledger.proofs.Stopping.{Stops, refusal-stops, fault-stops}
 use Rattle.ledger.proofs.Giving.{goes-or-stopped, stays, refuses, same-sound}
 use Rattle.ledger.proofs.Listing.{more-sound, facts-more}
 
@@ -77,7 +77,7 @@ module _ (state list : List ℕ) (l : Ledger) (q : ℕ) (t u : Time) (d : Decisi
   -- An order that is decided false stops the walk.
   pub order-fails : d ≡ Fails → Gives state (book l list) (ask-order q t u) (book (stopped-by (OrderFalse q) l) list) tt
   unfolding learn narrow
-  order-fails k = denies state list l (at-most t u) q (OrderFalse q) (false-stops q) s (learnt state (reading-in l) _ q _ o ∙ rw (← h, k))
+  order-fails k = denies state list l (at-most t u) q (OrderFalse q) (refusal-stops (OrderFalse q) (omega arith)) s (learnt state (reading-in l) _ q _ o ∙ rw (← h, k))
 
 -- Without room for a fact no walk that asks for one goes on.
 pub no-room : (state list : List ℕ) (l : Ledger) (q : ℕ) (f : Fact) → Sound (book l list) → (l .count < most-facts → ⊥)

@@ -17,7 +17,7 @@ use Rattle.ledger.specs.declared.Stop.the-variants.{Going, Stopped}
 use Rattle.ledger.specs.declared.Ledger.{Ledger}
 use Rattle.ledger.specs.Books.{Book, book, Sound, HasRoom, Gives, stop-of, reading-in, misfitted, stopped-by, kept-of, reading-of, resume, unless-stopped}
 use Rattle.ledger.proofs.Listing.{facts-counted}
-use Rattle.ledger.proofs.Stopping.{Stops, unfit-stops, stopped-now, stopped-before, stopped-reading, stopped-count}
+use Rattle.ledger.proofs.Stopping.{Stops, refusal-stops, stopped-now, stopped-before, stopped-reading, stopped-count}
 
 -- ── One line of a `do` ──
 
@@ -145,7 +145,7 @@ refuses state list l answer w a k s h = record {
 pub misfits : {A : Type 0} (state list : List ℕ) (l : Ledger) (q : ℕ) (a : A) → Sound (book l list)
     → Gives state (book l list) (misfit q) (book (misfitted l q) list) a
 unfolding run
-misfits state list l q a s = refuses state list l (StepUnfit q) (misfit q) a (unfit-stops q) s refl
+misfits state list l q a s = refuses state list l (StepUnfit q) (misfit q) a (refusal-stops (StepUnfit q) (omega arith)) s refl
 
 -- What comes to nothing comes to it with any value.
 pub misfits-any : {A B : Type 0} (state : List ℕ) (b r : Book) (q : ℕ) (a : A) (x : B) → Gives state b (misfit q) r a → Gives state b (misfit q) r x
@@ -174,6 +174,6 @@ not-going (Stopped answer) n = (answer, refl)
 -- After a misfit a ledger has stopped.
 pub misfitted-stopped : (l : Ledger) (q : ℕ) → (answer : Answer) × (stop-of (misfitted l q) ≡ Stopped answer)
 misfitted-stopped l q = ⊎-elim
-    (λ e. (StepUnfit q, stopped-now l (StepUnfit q) (unfit-stops q) e))
+    (λ e. (StepUnfit q, stopped-now l (StepUnfit q) (refusal-stops (StepUnfit q) (omega arith)) e))
     (λ e. (e .0, stopped-before l (StepUnfit q) (e .0) (e .1)))
     (goes-or-stopped (stop-of l))

@@ -1,5 +1,5 @@
 -- What the plain numbers of a ledger say of its stop and of its reading, and what an answer that stops it leaves of them.
-use Prim.Native.Nat.{ℕ, _-_}
+use Prim.Native.Nat.{ℕ, _-_, _<_}
 use mathlib.Core.Bool.{Bool, true, false}
 use mathlib.Core.Path.{_≡_, refl, sym, _∙_}
 use native.Mathlib.Omega.{arith}
@@ -8,8 +8,9 @@ use borrow.Author.Tests.{eqb-true, eqb-false, eq-eqb, ne-eqb}
 use Rattle.procap.specs.Tells.{Tells, pick}
 use Rattle.procap.specs.Answers.{number-of, place-of}
 use Rattle.procap.specs.declared.answer.Answer.{Answer}
-use Rattle.procap.specs.declared.answer.Answer.the-variants.{StepUnfit, OrderFalse}
+use Rattle.procap.specs.declared.answer.Answer.the-variants.{OrderFalse, FactMissing}
 use Rattle.procap.proofs.Telling.{picked, tells-if}
+use Rattle.procap.proofs.AnswerNumbers.{answer-reads-back}
 use Rattle.bl.specs.Questions.{Question, at-most, holds}
 use Rattle.bl.specs.Readings.{fault}
 use Rattle.ledger.specs.declared.Reading.the-variants.{Office, Press}
@@ -20,13 +21,9 @@ use Rattle.ledger.specs.Books.{stop-by, stop-of, reading-by, reading-in,
 
 -- ── The numbers of a ledger ──
 
--- A stop by an answer is no going on, and neither is one of two such.
+-- A stop by an answer is no going on.
 stopped-apart : (answer : Answer) → Stopped answer ≡ Going → ⊥
 stopped-apart answer e = let z : _≡_ {A = ℕ} 0 1 = cc in omega arith
-
-either-apart : (b : Bool) (s t : Stop) → (s ≡ Going → ⊥) → (t ≡ Going → ⊥) → pick b s t ≡ Going → ⊥
-either-apart true s t m n = m
-either-apart false s t m n = n
 
 -- A walk goes on where the number is 0, and only there.
 number-going : (l : Ledger) → l .number ≡ 0 → stop-of l ≡ Going
@@ -35,12 +32,7 @@ number-going l e = rw (eq-eqb (l .number) 0 e)
 
 going-number : (l : Ledger) → stop-of l ≡ Going → l .number ≡ 0
 unfolding stop-by
-going-number l e =
-    picked (eqb (l .number) 0) _ _ _
-    (either-apart (eqb (l .number) 3) _ _ (stopped-apart _)
-    (either-apart (eqb (l .number) 4) _ _ (stopped-apart _) (stopped-apart _)))
-    e
-    (λ t same. eqb-true (l .number) 0 t)
+going-number l e = picked (eqb (l .number) 0) _ _ _ (stopped-apart _) e (λ t same. eqb-true (l .number) 0 t)
 
 -- So the test of the number tells whether the walk goes on.
 pub tells-going : (l : Ledger) → Tells (eqb (l .number) 0) (stop-of l ≡ Going)
@@ -57,22 +49,19 @@ at-press n apart = rw (ne-eqb n 0 apart)
 
 -- ── An answer that stops a walk ──
 
--- Its number and its place stand for it.
+-- Its number and its place stand for it,
 abbrev pub Stops : Answer → Type 0
 Stops answer = stop-by (number-of answer) (place-of answer) ≡ Stopped answer
 
-pub unfit-stops : (q : ℕ) → Stops (StepUnfit q)
+-- as those of every refusal do.
+pub refusal-stops : (answer : Answer) → 0 < number-of answer → Stops answer
 unfolding stop-by
-unfit-stops q = refl
-
-pub false-stops : (q : ℕ) → Stops (OrderFalse q)
-unfolding stop-by
-false-stops q = refl
+refusal-stops answer h = rw (ne-eqb (number-of answer) 0 (λ e. omega arith), answer-reads-back answer)
 
 pub fault-stops : (x : Question) (q : ℕ) → Stops (fault x q)
-unfolding stop-by fault
-fault-stops (at-most t u) q = refl
-fault-stops (holds f) q = refl
+unfolding fault
+fault-stops (at-most t u) q = refusal-stops (OrderFalse q) (omega arith)
+fault-stops (holds f) q = refusal-stops (FactMissing q) (omega arith)
 
 -- It is kept if it is the first.
 pub stopped-now : (l : Ledger) (answer : Answer) → Stops answer → stop-of l ≡ Going → stop-of (stopped-by answer l) ≡ Stopped answer

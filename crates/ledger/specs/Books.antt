@@ -7,14 +7,14 @@ use lib.ListN.{length, getD}
 use lib.Dec.{eqb}
 use Rattle.procap.specs.Tells.{pick}
 use Rattle.procap.specs.Times.{earliest, latest}
-use Rattle.procap.specs.Answers.{number-of, place-of}
+use Rattle.procap.specs.Answers.{number-of, place-of, answer-with}
 use Rattle.procap.specs.Facts.{Spelled, spelled, fact-of}
 use Rattle.procap.specs.Numbered.{of-numbers}
 use Rattle.procap.specs.Procaps.{most-facts}
 use Rattle.procap.specs.States.{stated}
 use Rattle.procap.specs.Outcome.{Outcome, refused}
 use Rattle.procap.specs.declared.answer.Answer.{Answer}
-use Rattle.procap.specs.declared.answer.Answer.the-variants.{StepUnfit, OrderFalse, FactMissing}
+use Rattle.procap.specs.declared.answer.Answer.the-variants.{StepUnfit}
 use Rattle.procap.specs.declared.fact.Argument.{Argument}
 use Rattle.procap.specs.declared.fact.Fact.{Fact}
 use Rattle.bl.specs.Questions.{Walk, done, asks, Test}
@@ -55,10 +55,7 @@ OnClock (Press m) = m ≤ latest
 
 -- What stopped a walk, by the number and the place of the answer; 0 while it goes on.
 unfoldable pub stop-by : ℕ → ℕ → Stop
-stop-by n p =
-    pick (eqb n 0) Going
-    (pick (eqb n (number-of (StepUnfit p))) (Stopped (StepUnfit p))
-    (pick (eqb n (number-of (OrderFalse p))) (Stopped (OrderFalse p)) (Stopped (FactMissing p))))
+stop-by n p = pick (eqb n 0) Going (Stopped (answer-with n p))
 
 -- The same of a ledger.
 abbrev pub stop-of : Ledger → Stop

@@ -16,16 +16,15 @@ use procap::time::LATEST_SECOND;
 use procap::time::Time;
 use state::stands_in;
 ghost use mathlib.Core.Path.{_≡_};
-ghost use mathlib.Core.List.{List};
 ghost use Prim.Native.Nat.{ℕ, _+_, _*_, _≤_, _<_, min, max};
 ghost use lib.ListN.{length, getD};
 ghost use Rattle.procap.specs.Lists.{In};
 ghost use Rattle.procap.specs.Tells.{Tells};
-ghost use Rattle.procap.specs.Order.{decided};
-ghost use Rattle.procap.specs.Facts.{spelled, «fact-of», «argument-of», «no-argument», «most-terms»};
-ghost use Rattle.procap.specs.Procaps.{«most-facts», «procap-of»};
-ghost use Rattle.bl.specs.Questions.{«ask-order», «ask-fact»};
-ghost use Rattle.ledger.specs.Books.{OnClock, begun, opened, keeping, «stop-of», «reading-in», book, Sound, Gives, Leads, «list-numbers», «fact-numbers», «argument-in», «facts-in», «fact-in», «stopped-by», misfitted};
+ghost use Rattle.procap.specs.Facts.{spelled, «argument-of», «no-argument», «most-terms»};
+ghost use Rattle.procap.specs.Procaps.{«most-facts»};
+ghost use Rattle.bl.specs.Questions.{«ask-order»};
+ghost use Rattle.ledger.specs.Books.{OnClock, begun, opened, keeping, «stop-of», book, Sound, Leads, «list-numbers», «fact-numbers», «argument-in», «facts-in», «fact-in», «stopped-by», misfitted};
+ghost use Rattle.ledger.specs.Asking.{Narrows, AsksFact, ListsFact, «kept-procap»};
 ghost use Rattle.ledger.specs.Putting.{KeptBefore};
 
 // How many numbers a listed fact takes: its predicate, its count, and two for each term.
@@ -91,14 +90,10 @@ impl Ledger {
     pub fn stop(self) -> Stop
         ensures { λ r. ⌜ r ≡ «stop-of» self ⌝ }
     {
-        let number = self.number;
-        let place = self.place;
-        match number {
-            0 => Stop::Going,
-            3 => Stop::Stopped(Answer::StepUnfit(place)),
-            4 => Stop::Stopped(Answer::OrderFalse(place)),
-            _ => Stop::Stopped(Answer::FactMissing(place)),
+        if self.number == 0 {
+            return Stop::Going;
         }
+        Stop::Stopped(Answer::of(self.number, self.place))
     }
 
     // The ledger, stopped by this answer unless it was before.
@@ -141,7 +136,7 @@ impl Ledger {
 
     // The ledger with what the office's decision about an order leaves of its moments.
     fn narrowed(self, offset: usize, decision: Decision) -> Ledger
-        ensures { λ r. ⌜ ((state list : List ℕ) (left right : Time) → Sound (book self list) → «reading-in» self ≡ Reading.Office → decision ≡ decided left right → Gives state (book self list) («ask-order» offset left right) (book r list) tt) ⌝ }
+        ensures { λ r. ⌜ Narrows self offset decision r ⌝ }
     {
         match decision {
             Decision::Holds => self,
@@ -195,7 +190,7 @@ pub fn ask_fact(
     offset: usize,
     fact: Fact,
 ) -> Ledger
-    ensures { λ r. ⌜ (Sound (book ledger (now (facts .entry))) → fact ≡ «fact-of» (spelled fact) → fact .count ≤ «most-terms» → Gives (now (state .entry)) (book ledger (now (facts .entry))) («ask-fact» offset (spelled fact)) (book r (now (facts .exit))) tt) ⌝ }
+    ensures { λ r. ⌜ AsksFact state facts ledger offset fact r ⌝ }
 {
     if !ledger.goes_on() {
         return ledger;
@@ -212,7 +207,7 @@ pub fn ask_fact(
 
 // The fact goes to the end of the office's list, unless it stands there.
 fn list_fact(facts: &mut [u64], ledger: Ledger, fact: Fact) -> Ledger
-    ensures { λ r. ⌜ ((state : List ℕ) (offset : ℕ) → Sound (book ledger (now (facts .entry))) → «reading-in» ledger ≡ Reading.Office → fact ≡ «fact-of» (spelled fact) → Gives state (book ledger (now (facts .entry))) («ask-fact» offset (spelled fact)) (book r (now (facts .exit))) tt) ⌝ }
+    ensures { λ r. ⌜ ListsFact facts ledger fact r ⌝ }
 {
     let count = ledger.count;
     // The walk of a proof that reads has room for each fact that it asks for (`HasRoom`): the test only keeps the index below within the list.
@@ -326,7 +321,7 @@ fn put_term(facts: &mut [u64], at: usize, term: Term)
 
 // The procap for a request of what the ledger and the list keep.
 pub fn procap_of(request: Request, ledger: Ledger, facts: &[u64]) -> Procap
-    ensures { λ r. ⌜ (Sound (book ledger (now (facts .entry))) → r ≡ «procap-of» request (ledger .from) (ledger .to) («facts-in» (now (facts .entry)) (ledger .count))) ⌝ }
+    ensures { λ r. ⌜ (Sound (book ledger (now (facts .entry))) → r ≡ «kept-procap» request ledger (now (facts .entry))) ⌝ }
 {
     let count = ledger.count;
     let none = Fact::none();

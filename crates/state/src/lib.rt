@@ -15,12 +15,12 @@ ghost use Rattle.procap.specs.Tells.{Tells};
 ghost use mathlib.Core.List.{List};
 ghost use mathlib.Core.Option.{some};
 ghost use Prim.Native.Nat.{ℕ, _+_, _≤_};
-ghost use Rattle.procap.specs.Facts.{Spelled, spelled, «spelled-at-moment», «most-terms»};
+ghost use Rattle.procap.specs.Facts.{Spelled, spelled, «most-terms»};
 ghost use Rattle.procap.specs.Procaps.{HoldsAt};
 ghost use Rattle.procap.specs.Bytes.{many};
 ghost use Rattle.procap.specs.Reading.{TermReads, FactReads, «with-predicate»};
 ghost use Rattle.procap.specs.States.{settled, «settled-term», fact, stated};
-ghost use Rattle.state.specs.Standing.{WellFormed, Stands, Finds};
+ghost use Rattle.state.specs.Standing.{WellFormed, Stands, StandsAt, Finds};
 
 // How many bytes a state has at the most.
 pub const MOST_STATE_BYTES: usize = 4_096;
@@ -75,7 +75,7 @@ pub fn holds_at(state: &[u8], wanted: Fact, moment: u64) -> bool
 
 // Whether the fact at a place of the state is this one, with the moment put for ctime.
 fn stands_at(state: &[u8], at: usize, wanted: Fact, moment: u64) -> bool
-    ensures { λ r. ⌜ ((f : Spelled) (e : ℕ) → fact (now (state .entry)) at ≡ some (f, e) → Tells r («spelled-at-moment» moment (spelled wanted) ≡ f)) ⌝ }
+    ensures { λ r. ⌜ StandsAt (now (state .entry)) at wanted moment r ⌝ }
 {
     let read = fact_at(state, at);
     if !read.found {

@@ -12,7 +12,7 @@ use lib.Seq.{drop-cons}
 use borrow.Author.Tests.{le-leb, lt-leb, ne-eqb}
 use Rattle.procap.specs.Bytes.{then, ensure}
 use Rattle.text.specs.Numbers.{digit-zero, is-digit, while-digit, leading-digits, value, one-spelling}
-use Rattle.text.specs.Reader.{digits, number-to}
+use Rattle.text.specs.Line.{digits, number-to}
 use Rattle.text.specs.Places.{DigitReads}
 use Rattle.text.specs.declared.line.Digit.{Digit}
 use Rattle.text.specs.declared.line.Digit.the-variants.{Value, NoDigit}

@@ -9,7 +9,8 @@ use Rattle.procap.specs.Bytes.{then}
 use Rattle.procap.specs.Reading.{with-predicate}
 use Rattle.procap.proofs.WithPredicate.{predicate-given}
 use Rattle.text.specs.Words.{bytes-of}
-use Rattle.text.specs.Reader.{literal, number-to, terms, fact-line}
+use Rattle.text.specs.Line.{literal, number-to}
+use Rattle.text.specs.Reader.{terms, fact-line}
 
 -- A fact's line: its word, its predicate and its terms.
 module _ (text : List ℕ) (at : ℕ) where

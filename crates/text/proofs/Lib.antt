@@ -2,6 +2,8 @@
 pub mod Numerals
 pub mod Readers
 pub mod Spellings
+pub mod Forms
+pub mod Requests
 pub mod WholeTexts
 pub mod Theorems
 pub mod Samples

@@ -10,7 +10,7 @@ use borrow.Author.Tests.{eq-eqb, ne-eqb}
 use Rattle.procap.specs.Bytes.{then, ensure}
 use Rattle.procap.proofs.Numbers.{byte-read, byte-none}
 use Rattle.text.specs.Words.{bytes-of}
-use Rattle.text.specs.Reader.{literal, number-to, line-to}
+use Rattle.text.specs.Line.{literal, number-to, line-to}
 use Rattle.text.specs.Places.{PlaceReads}
 use Rattle.text.specs.declared.line.Place.{Place}
 

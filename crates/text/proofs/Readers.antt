@@ -18,7 +18,7 @@ use Rattle.procap.specs.Bytes.{Reader, then, ensure, big-endian, byte, to-the-e
 use Rattle.procap.proofs.Numbers.{number-read as number-at, byte-read as byte-at, byte-none}
 use Rattle.procap.proofs.Readers.{IfRead, unread, read, then-read as then-so, ensure-read, left-after}
 use Rattle.text.specs.Numbers.{most-digits, decimal, leading-digits, value}
-use Rattle.text.specs.Reader.{literal, digits, number-to}
+use Rattle.text.specs.Line.{literal, digits, number-to}
 use Rattle.text.proofs.Numerals.{decimal-is-digits, decimal-says, decimal-one-spelling, run-is-decimal, leading-are, leading-first, leading-of}
 
 -- ── Places ──

@@ -1,4 +1,4 @@
--- Laws of reading a text line by line: what the request, the moments, the procap and the whole text are where each line stands, and that
+-- Laws of reading a text line by line: what the moments, the procap and the whole text are where each line stands, and that
 -- there are none where one does not.
 use Prim.Native.Nat.{ℕ, _≤_, _<_}
 use mathlib.Core.Bool.{true, false, not}
@@ -11,7 +11,6 @@ use Rattle.procap.specs.Lists.{Distinct, pad}
 use Rattle.procap.specs.Times.{latest}
 use Rattle.procap.specs.Facts.{Spelled, fact-of, no-fact}
 use Rattle.procap.specs.Procaps.{most-facts, version-one, empty-procap, procap-of}
-use Rattle.procap.specs.Writable.{largest-name}
 use Rattle.procap.specs.Outcome.{Outcome, granted, refused, or-else, answer-of, procap-handed}
 use Rattle.procap.specs.Bytes.{Reader, then, ensure, many, to-the-end, whole}
 use Rattle.procap.specs.Deciding.{distinct?, spelled?}
@@ -21,10 +20,12 @@ use Rattle.procap.specs.declared.procap.Request.{Request}
 use Rattle.procap.specs.declared.procap.Procap.{Procap}
 use Rattle.procap.proofs.Telling.{so-told, not-told}
 use Rattle.text.specs.Words.{bytes-of}
-use Rattle.text.specs.Reader.{line-to, fact-line, request-lines, moment-lines, procap-with, procap-lines, text-in}
-use Rattle.text.specs.Places.{RequestReads, MomentsReads, OnLines, LinesFound, LinesReads, SeesBy, Sees}
+use Rattle.text.specs.Line.{line-to}
+use Rattle.text.specs.LinesInARow.{uncounted}
+use Rattle.text.specs.RequestLines.{request-lines}
+use Rattle.text.specs.Reader.{fact-line, moment-lines, procap-with, procap-lines, text-in}
+use Rattle.text.specs.Places.{MomentsReads, OnLines, LinesFound, LinesReads, SeesBy, Sees}
 use Rattle.text.specs.declared.fact_places.LinesRead.{LinesRead}
-use Rattle.text.specs.declared.reader.RequestRead.{RequestRead}
 use Rattle.text.specs.declared.reader.MomentsRead.{MomentsRead}
 use Rattle.text.specs.declared.reader.ReadText.{ReadText}
 use Rattle.text.specs.declared.reader.Overview.{Overview}
@@ -32,12 +33,6 @@ use Rattle.text.specs.declared.reader.Overview.{Overview}
 -- ── What the flags say ──
 
 -- Where the flag is false nothing was read; where it is true, the values beside it.
-pub request-missing : (o : Option (Request × ℕ)) (r : RequestRead) → not (r .found) ≡ true → RequestReads o r → o ≡ none
-request-missing o r f h = rw (not-true (r .found) f) at h
-
-pub request-found : (o : Option (Request × ℕ)) (r : RequestRead) → not (r .found) ≡ false → RequestReads o r → o ≡ some (r .request, r .next)
-request-found o r f h = rw (not-false (r .found) f) at h
-
 pub moments-missing : (o : Option ((ℕ × ℕ) × ℕ)) (r : MomentsRead) → not (r .found) ≡ true → MomentsReads o r → o ≡ none
 moments-missing o r f h = rw (not-true (r .found) f) at h
 
@@ -60,30 +55,6 @@ module _ (text : List ℕ) (o : Outcome Procap) (r : Overview) where
 
   pub overview-found : not (r .found) ≡ false → Sees text o r → SeesBy text o true r
   overview-found f h = rw (not-false (r .found) f) at h
-
--- ── The request ──
-
-module _ (text : List ℕ) (at : ℕ) where
-  -- Without one of its three lines there is no request.
-  pub no-who : line-to text (bytes-of "who=") largest-name at ≡ none → request-lines text at ≡ none
-  unfolding request-lines then
-  no-who e = rw e
-
-  module _ (who after-who : ℕ) (e : line-to text (bytes-of "who=") largest-name at ≡ some (who, after-who)) where
-    pub no-what : line-to text (bytes-of "what=") largest-name after-who ≡ none → request-lines text at ≡ none
-    unfolding request-lines then
-    no-what f = rw (e, f)
-
-    module _ (what after-what : ℕ) (f : line-to text (bytes-of "what=") largest-name after-who ≡ some (what, after-what)) where
-      pub no-right : line-to text (bytes-of "right=") largest-name after-what ≡ none → request-lines text at ≡ none
-      unfolding request-lines then
-      no-right g = rw (e, f, g)
-
-      -- With all three it is the request of their numbers.
-      pub request-here : (right next : ℕ) → line-to text (bytes-of "right=") largest-name after-what ≡ some (right, next)
-          → request-lines text at ≡ some (record { who = who; what = what; right = right }, next)
-      unfolding request-lines then
-      request-here right next g = rw (e, f, g)
 
 -- ── The moments ──
 
@@ -186,11 +157,11 @@ module _ (text : List ℕ) where
 
     -- Nor without its request or its moments.
     module _ (v : version ≡ version-one) where
-      pub text-no-request : request-lines text start ≡ none → text-in text ≡ none
+      pub text-no-request : uncounted (request-lines text) start ≡ none → text-in text ≡ none
       unfolding text-in whole to-the-end procap-lines then ensure
       text-no-request f = rw (e, v, f)
 
-      module _ (r : Request) (after-request : ℕ) (f : request-lines text start ≡ some (r, after-request)) where
+      module _ (r : Request) (after-request : ℕ) (f : uncounted (request-lines text) start ≡ some (r, after-request)) where
         pub text-no-moments : moment-lines text after-request ≡ none → text-in text ≡ none
         unfolding text-in whole to-the-end procap-lines then ensure
         text-no-moments g = rw (e, v, f, g)

@@ -9,6 +9,7 @@ use native.Mathlib.Decide.{ℕ-discrete}
 use Rattle.procap.specs.Lists.{All, pad}
 use Rattle.procap.specs.Facts.{Spelled, fact-of}
 use Rattle.procap.specs.Procaps.{procap-of}
+use Rattle.procap.specs.Outcome.{go-on}
 use Rattle.procap.specs.Bytes.{then, ensure, many, big-endian, next, number, to-the-end, whole}
 use Rattle.procap.specs.Deciding.{told, goes-with?, in?, distinct?, lists?, terms?, spelled?}
 use Rattle.procap.specs.declared.time.Time.the-variants.{Moment, MinusInfinity, PlusInfinity, Ctime}
@@ -16,11 +17,14 @@ use Rattle.procap.specs.declared.fact.Term.the-variants.{Name, When}
 use Rattle.procap.specs.declared.procap.Procap.{Procap}
 use Rattle.text.specs.Words.{bytes-of}
 use Rattle.text.specs.Numbers.{is-digit, while-digit, leading-digits, value, one-spelling}
-use Rattle.text.specs.Reader.{literal, digits, number-to, line-to, term-with, term, more-terms, terms, fact-line, request-lines, moment-lines, procap-with, procap-lines, text-in}
+use Rattle.text.specs.Line.{literal, digits, number-to, line-to}
+use Rattle.text.specs.LinesInARow.{at-line, said}
+use Rattle.text.specs.RequestLines.{request-lines}
+use Rattle.text.specs.Reader.{term-with, term, more-terms, terms, fact-line, moment-lines, procap-with, procap-lines, text-in}
 
 -- To unfold this is to unfold all that its line names.
 unfoldable pub computes : Unit {0}
-unfolding All pad Dec·and Dec·not ℕ-discrete fact-of procap-of then ensure many big-endian next number to-the-end whole told goes-with? in? distinct? lists? terms? spelled? is-digit while-digit leading-digits value one-spelling literal digits number-to line-to term-with term more-terms terms fact-line request-lines moment-lines procap-with procap-lines text-in
+unfolding All pad Dec·and Dec·not ℕ-discrete fact-of procap-of then ensure many big-endian next number to-the-end whole go-on told goes-with? in? distinct? lists? terms? spelled? is-digit while-digit leading-digits value one-spelling literal digits number-to line-to term-with term more-terms terms fact-line at-line said request-lines moment-lines procap-with procap-lines text-in
 computes = tt
 
 -- A text, and the procap that it says, or none.

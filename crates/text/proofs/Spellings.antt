@@ -26,7 +26,8 @@ use Rattle.procap.proofs.Readers.{unread, read}
 use Rattle.text.specs.Words.{bytes-of}
 use Rattle.text.specs.Numbers.{most-digits, decimal, is-digit, while-digit, leading-digits}
 use Rattle.text.specs.Text.{line, term-text, terms-text, fact-text, facts-text}
-use Rattle.text.specs.Reader.{term-letter, Mark, space, line-end, no-mark, mark-of, line-to, term-with, term, more-terms, terms, fact-line}
+use Rattle.text.specs.Line.{line-to}
+use Rattle.text.specs.Reader.{term-letter, Mark, space, line-end, no-mark, mark-of, term-with, term, more-terms, terms, fact-line}
 use Rattle.text.proofs.Readers.{Takes, takes-none, joined, parted, TextRead, then-read, byte-read, byte-found, literal-read, literal-found, number-read, number-found}
 
 -- What is so of both is so of the one that a comparison picks.

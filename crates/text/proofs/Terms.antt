@@ -17,7 +17,8 @@ use Rattle.procap.specs.declared.tag.TermTag.the-variants.{NameTag, MomentTag}
 use Rattle.procap.proofs.Numbers.{byte-read, byte-none}
 use Rattle.procap.proofs.ReadSoFar.{led-by, led-by-one}
 use Rattle.text.specs.Words.{bytes-of}
-use Rattle.text.specs.Reader.{number-to, term-letter, term-with, term, literal, terms, more-terms, space}
+use Rattle.text.specs.Line.{number-to, literal}
+use Rattle.text.specs.Reader.{term-letter, term-with, term, terms, more-terms, space}
 use Rattle.text.proofs.Lines.{literal-same, literal-other, literal-past}
 
 module _ (text : List ℕ) (at : ℕ) where

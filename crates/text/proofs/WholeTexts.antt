@@ -11,7 +11,7 @@ use Rattle.procap.specs.Lists.{All, Distinct}
 use Rattle.procap.specs.Times.{latest}
 use Rattle.procap.specs.Facts.{Spelled}
 use Rattle.procap.specs.Procaps.{most-facts, version-one, listed, procap-of}
-use Rattle.procap.specs.Writable.{largest-name, RequestInForm, Writable}
+use Rattle.procap.specs.Writable.{RequestInForm, Writable}
 use Rattle.procap.specs.Bytes.{then, ensure}
 use Rattle.procap.specs.Deciding.{distinct?, spelled?}
 use Rattle.procap.specs.declared.procap.Request.{Request}
@@ -20,15 +20,12 @@ use Rattle.procap.proofs.Listed.{listed-back}
 use Rattle.procap.proofs.Readers.{read, ensure-read}
 use Rattle.text.specs.Words.{bytes-of}
 use Rattle.text.specs.Text.{line, facts-text, text-of}
-use Rattle.text.specs.Reader.{request-lines, moment-lines, procap-with, procap-lines}
+use Rattle.text.specs.Reader.{moment-lines, procap-with, procap-lines}
 use Rattle.text.proofs.Readers.{Takes, joined, parted, TextRead, then-read}
 use Rattle.text.proofs.Spellings.{line-read, line-found, facts-read, facts-found}
+use Rattle.text.proofs.Requests.{request-text, request-read, request-found, said-granted}
 use Rattle.procap.proofs.Telling.{told-so, so-told}
 use Rattle.procap.proofs.Rebuilt.{SpelledInForm, rebuilt, listed-count, listed-in-form, made-writable}
-
--- The lines of the request.
-abbrev request-text : Request → List ℕ
-request-text r = line (bytes-of "who=") (r .who) ++ line (bytes-of "what=") (r .what) ++ line (bytes-of "right=") (r .right)
 
 -- The lines of the moments.
 abbrev moments-text : ℕ × ℕ → List ℕ
@@ -56,15 +53,6 @@ made-text r from to fs =
 module _ {bytes : List ℕ} where
   -- ── What is read ──
 
-  -- A request is read from just its lines.
-  request-read : (at : ℕ) → TextRead bytes at request-text RequestInForm (request-lines bytes at)
-  unfolding request-lines
-  request-read at =
-      then-read (line-read (bytes-of "who=") largest-name at (omega arith)) λ who m₁ t₁ h₁.
-      then-read (line-read (bytes-of "what=") largest-name m₁ (omega arith)) λ what m₂ t₂ h₂.
-      then-read (line-read (bytes-of "right=") largest-name m₂ (omega arith)) λ right m₃ t₃ h₃.
-      read (joined (joined t₁ t₂) t₃, record { who-in-range = h₁; what-in-range = h₂; right-in-range = h₃ })
-
   -- Two moments are read from just their lines, and they are in order and in range.
   moments-read : (at : ℕ) → TextRead bytes at moments-text (λ m. (m .0 ≤ m .1) × (m .1 ≤ latest)) (moment-lines bytes at)
   unfolding moment-lines
@@ -80,7 +68,7 @@ module _ {bytes : List ℕ} where
   procap-read at =
       then-read (line-read (bytes-of "procap=") version-one at (omega arith)) λ version m₁ t₁ h₁.
       ensure-read _ _ _ λ e₁.
-      then-read (request-read m₁) λ r m₂ t₂ names.
+      then-read (request-read 1 m₁) λ r m₂ t₂ names.
       then-read (moments-read m₂) λ m m₃ t₃ h₃.
       then-read (line-read (bytes-of "facts=") most-facts m₃ (omega arith)) λ count m₄ t₄ few.
       then-read (facts-read count m₄) λ fs m₅ t₅ h₅.
@@ -92,17 +80,6 @@ module _ {bytes : List ℕ} where
       read (rw made-text taken, made-writable r (m .0) (m .1) fs names (h₃ .0) (h₃ .1) few-facts (h₅ .1) (told-so (distinct? spelled? fs) e₂))
 
   -- ── What is found ──
-
-  -- A request whose lines stand there is found.
-  request-found : (r : Request) {at after : ℕ} → RequestInForm r → Takes bytes at (request-text r) after → request-lines bytes at ≡ some (r, after)
-  unfolding request-lines then
-  request-found r names h =
-      parted (line (bytes-of "who=") (r .who) ++ line (bytes-of "what=") (r .what)) (line (bytes-of "right=") (r .right)) h λ m₂ t₁₂ t₃.
-      parted (line (bytes-of "who=") (r .who)) (line (bytes-of "what=") (r .what)) t₁₂ λ m₁ t₁ t₂.
-      let who = line-found (bytes-of "who=") largest-name (r .who) (omega arith) (names .who-in-range) t₁ in
-      let what = line-found (bytes-of "what=") largest-name (r .what) (omega arith) (names .what-in-range) t₂ in
-      let right = line-found (bytes-of "right=") largest-name (r .right) (omega arith) (names .right-in-range) t₃ in
-      rw (who, what, right)
 
   -- Two moments in order and in range whose lines stand there are found.
   moments-found : (from to : ℕ) {at after : ℕ} → from ≤ to → to ≤ latest → Takes bytes at (moments-text (from, to)) after
@@ -135,7 +112,8 @@ module _ {bytes : List ℕ} where
       parted one (request-text r) t₁₂ λ m₁ t₁ t₂.
       let version = line-found (bytes-of "procap=") version-one version-one (omega arith) (omega arith) t₁ in
       let facts = procap-with-found r from to fs few form distinct t₄ in
-      rw (version, request-found r names t₂, moments-found from to order range t₃, facts)
+      let request = said-granted _ r 4 m₂ (request-found r 1 names t₂) in
+      rw (version, request, moments-found from to order range t₃, facts)
 
   -- So is every procap that can be written.
   pub procap-found : (p : Procap) {at after : ℕ} → Writable p → Takes bytes at (text-of p) after → procap-lines bytes at ≡ some (p, after)

@@ -2,6 +2,9 @@
 pub mod Words
 pub mod Numbers
 pub mod Text
+pub mod Line
+pub mod LinesInARow
+pub mod RequestLines
 pub mod Reader
 pub mod Places
 pub mod Buffers

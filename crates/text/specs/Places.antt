@@ -5,22 +5,25 @@ use mathlib.Core.Path.{_≡_}
 use mathlib.Core.List.{List, [], _∷_}
 use mathlib.Core.Option.{Option, some, none}
 use lib.ListN.{length, take, drop}
-use Rattle.procap.specs.Lists.{Distinct}
+use Rattle.procap.specs.Lists.{In, Distinct}
+use Rattle.procap.specs.Tells.{Tells}
 use Rattle.procap.specs.Facts.{Spelled}
 use Rattle.procap.specs.Procaps.{most-facts, procap-of}
 use Rattle.procap.specs.Outcome.{Outcome, granted, refused}
-use Rattle.procap.specs.declared.answer.Answer.the-variants.{ProcapMalformed}
+use Rattle.procap.specs.declared.answer.Answer.the-variants.{ProcapMalformed, InputMalformed}
 use Rattle.procap.specs.declared.procap.Procap.{Procap}
 use Rattle.procap.specs.declared.procap.Request.{Request}
 use Rattle.text.specs.Numbers.{digit-zero, leading-digits}
 use Rattle.text.specs.declared.line.Place.{Place}
 use Rattle.text.specs.declared.line.Place.the-variants.{At, Nowhere}
+use Rattle.text.specs.declared.line.Form.{Form}
+use Rattle.text.specs.declared.line.Form.the-variants.{Kept, BrokenAt}
 use Rattle.text.specs.declared.line.Digit.{Digit}
 use Rattle.text.specs.declared.line.Digit.the-variants.{Value, NoDigit}
 use Rattle.text.specs.Reader.{fact-line}
 use Rattle.text.specs.declared.fact_places.LinesRead.{LinesRead}
 use Rattle.text.specs.declared.reader.Overview.{Overview}
-use Rattle.text.specs.declared.reader.RequestRead.{RequestRead}
+use Rattle.text.specs.declared.request.RequestRead.{RequestRead}
 use Rattle.text.specs.declared.reader.MomentsRead.{MomentsRead}
 
 -- The place after what a reader finds, or none.
@@ -34,15 +37,16 @@ DigitReads text at (Value d) =
     (d < 10) × (at < length text) × (leading-digits (drop at text) ≡ (digit-zero + d) ∷ leading-digits (drop (at + 1) text))
 DigitReads text at NoDigit = leading-digits (drop at text) ≡ []
 
--- The request that a reader finds and the place after it; or none, by the flag.
-abbrev pub RequestFound : Option (Request × ℕ) → Bool → Request → ℕ → Type 0
-RequestFound o true r next = o ≡ some (r, next)
-RequestFound o false r next = o ≡ none
+-- What a reader of counted lines comes to, by their form: so much was found, or this line breaks it.
+abbrev pub Reads : {A : Type 0} → Outcome (A × ℕ × ℕ) → Form → Type 0 → Type 0
+Reads o Kept so = so
+Reads o (BrokenAt line) so = o ≡ refused (InputMalformed line)
 
-abbrev pub RequestReads : Option (Request × ℕ) → RequestRead → Type 0
-RequestReads o r = RequestFound o (r .found) (r .request) (r .next)
+-- The request, where its lines are counted from 1.
+abbrev pub RequestReads : Outcome (Request × ℕ × ℕ) → RequestRead → Type 0
+RequestReads o r = Reads o (r .form) (o ≡ granted (r .request, 4, r .next))
 
--- The same of two moments.
+-- Two moments that a reader finds and the place after them; or none, by the flag.
 abbrev pub MomentsFound : Option ((ℕ × ℕ) × ℕ) → Bool → ℕ → ℕ → ℕ → Type 0
 MomentsFound o true from to next = o ≡ some ((from, to), next)
 MomentsFound o false from to next = o ≡ none
@@ -60,6 +64,11 @@ OnLines text [] [] = Unit {0}
 OnLines text [] (f ∷ fs) = ⊥
 OnLines text (p ∷ ps) [] = ⊥
 OnLines text (p ∷ ps) (f ∷ fs) = ((e : ℕ) × ReadsAt text p f e) × OnLines text ps fs
+
+-- The flag tells whether the fact on the line from a place to its end is on one of the lines at the first so many places.
+abbrev pub StandsBefore : List ℕ → ℕ → ℕ → List ℕ → ℕ → Bool → Type 0
+StandsBefore text at end places count r =
+    (f : Spelled) (fs : List Spelled) → ReadsAt text at f end → OnLines text (take count places) fs → Tells r (In f fs)
 
 -- So many lines of facts that a reader finds, no two alike, by their places, and the place after them; or, by the flag, there are no such lines.
 abbrev pub LinesFound : List ℕ → Option (List Spelled × ℕ) → ℕ → Bool → List ℕ → ℕ → Type 0

@@ -1,9 +1,8 @@
 -- [Text] What reads as a procap. A reader goes from a place to a value and the place after it.
-use Prim.Native.Nat.{ℕ, zero, suc, _+_}
+use Prim.Native.Nat.{ℕ, zero, suc}
 use Prim.Native.Char.{code}
 use mathlib.Core.List.{List, [], _∷_}
-use mathlib.Core.Option.{Option, some}
-use lib.ListN.{length, drop}
+use mathlib.Core.Option.{Option}
 use lib.Dec.{leb, eqb}
 use Rattle.procap.specs.Tells.{pick}
 use Rattle.procap.specs.Times.{latest}
@@ -20,7 +19,9 @@ use Rattle.procap.specs.declared.tag.TermTag.the-variants.{NameTag, MomentTag, 
 use Rattle.procap.specs.declared.procap.Request.{Request}
 use Rattle.procap.specs.declared.procap.Procap.{Procap}
 use Rattle.text.specs.Words.{bytes-of}
-use Rattle.text.specs.Numbers.{leading-digits, value, one-spelling}
+use Rattle.text.specs.Line.{literal, number-to, line-to}
+use Rattle.text.specs.LinesInARow.{uncounted}
+use Rattle.text.specs.RequestLines.{request-lines}
 
 -- [Text] The term that a letter or a sign announces.
 abbrev pub term-letter : ℕ → TermTag
@@ -41,41 +42,13 @@ abbrev pub mark-of : ℕ → Mark
 mark-of b = pick (eqb b (code " ")) space (pick (eqb b (code "\n")) line-end no-mark)
 
 module _ (bytes : List ℕ) where
-  -- Just these bytes.
-  unfoldable pub literal : List ℕ → Reader (Unit {0})
-  literal [] = give tt
-  literal (b ∷ bs) = do
-    x ← byte bytes
-    _ ← ensure (eqb x b)
-    literal bs
-
-  -- All digits that stand next.
-  unfoldable pub digits : Reader (List ℕ)
-  digits at = let ds = leading-digits (drop at bytes) in some (ds, at + length ds)
-
-  -- [Text] A number up to a limit, in its one spelling.
-  unfoldable pub number-to : ℕ → Reader ℕ
-  number-to limit = do
-    ds ← digits
-    _ ← ensure (one-spelling ds)
-    _ ← ensure (leb (value 0 ds) limit)
-    give (value 0 ds)
-
-  -- [Text] A line with a number up to a limit.
-  unfoldable pub line-to : List ℕ → ℕ → Reader ℕ
-  line-to word limit = do
-    _ ← literal word
-    n ← number-to limit
-    _ ← literal (bytes-of "\n")
-    give n
-
   -- [Text] A term by its letter: names and moments have their ranges.
   unfoldable pub term-with : TermTag → Reader Term
   term-with NameTag = do
-    n ← number-to largest-name
+    n ← number-to bytes largest-name
     give (Name n)
   term-with MomentTag = do
-    k ← number-to latest
+    k ← number-to bytes latest
     give (When (Moment k))
   term-with MinusInfinityTag = give (When MinusInfinity)
   term-with PlusInfinityTag = give (When PlusInfinity)
@@ -101,7 +74,7 @@ module _ (bytes : List ℕ) where
   -- Terms up to the line's end, each after one space: no more than n.
   unfoldable pub terms : ℕ → Reader (List Term)
   terms zero = do
-    _ ← literal (bytes-of "\n")
+    _ ← literal bytes (bytes-of "\n")
     give []
   terms (suc n) = do
     b ← byte bytes
@@ -110,31 +83,23 @@ module _ (bytes : List ℕ) where
   -- [Text] A fact's line.
   unfoldable pub fact-line : Reader Spelled
   fact-line = do
-    _ ← literal (bytes-of "fact=")
-    p ← number-to largest-name
+    _ ← literal bytes (bytes-of "fact=")
+    p ← number-to bytes largest-name
     ts ← terms most-terms
     give (p, ts)
-
-  -- [Text] The three lines of the request.
-  unfoldable pub request-lines : Reader Request
-  request-lines = do
-    who ← line-to (bytes-of "who=") largest-name
-    what ← line-to (bytes-of "what=") largest-name
-    right ← line-to (bytes-of "right=") largest-name
-    give (record { who = who; what = what; right = right })
 
   -- [Text] The two lines of moments, in order.
   unfoldable pub moment-lines : Reader (ℕ × ℕ)
   moment-lines = do
-    from ← line-to (bytes-of "from=") latest
-    to ← line-to (bytes-of "to=") latest
+    from ← line-to bytes (bytes-of "from=") latest
+    to ← line-to bytes (bytes-of "to=") latest
     _ ← ensure (leb from to)
     give (from, to)
 
   -- [Text] The lines of facts, few and none repeated, and the procap of these with a request and two moments.
   unfoldable pub procap-with : Request → ℕ → ℕ → Reader Procap
   procap-with r from to = do
-    count ← line-to (bytes-of "facts=") most-facts
+    count ← line-to bytes (bytes-of "facts=") most-facts
     fs ← many fact-line count
     _ ← ensure (told (distinct? spelled? fs))
     give (procap-of r from to fs)
@@ -142,9 +107,9 @@ module _ (bytes : List ℕ) where
   -- [Text] All lines.
   unfoldable pub procap-lines : Reader Procap
   procap-lines = do
-    version ← line-to (bytes-of "procap=") version-one
+    version ← line-to bytes (bytes-of "procap=") version-one
     _ ← ensure (eqb version version-one)
-    r ← request-lines
+    r ← uncounted (request-lines bytes)
     m ← moment-lines
     procap-with r (m .0) (m .1)
 

@@ -7,13 +7,13 @@ ghost use mathlib.Core.Path.{_≡_};
 ghost use mathlib.Core.List.{List, map};
 ghost use Prim.Native.Nat.{ℕ, _≤_};
 ghost use lib.ListN.{take};
-ghost use Rattle.procap.specs.Lists.{pad, In};
+ghost use Rattle.procap.specs.Lists.{pad};
 ghost use Rattle.procap.specs.Tells.{Tells};
 ghost use Rattle.procap.specs.Facts.{Spelled, «fact-of», «no-fact»};
 ghost use Rattle.procap.specs.Procaps.{«most-facts»};
 ghost use Rattle.procap.specs.Bytes.{many};
 ghost use Rattle.text.specs.Reader.{«fact-line»};
-ghost use Rattle.text.specs.Places.{OnLines, LinesReads, ReadsAt};
+ghost use Rattle.text.specs.Places.{OnLines, LinesReads, ReadsAt, StandsBefore};
 
 // How many bytes the word takes with which every line of a fact begins.
 const WORD_BYTES: usize = 5;
@@ -72,7 +72,7 @@ fn stood_before(
     count: usize,
 ) -> bool
     requires { ⌜ count ≤ «most-facts» ⌝ }
-    ensures { λ r. ⌜ ((f : Spelled) (fs : List Spelled) → ReadsAt (now (text .entry)) at f end → OnLines (now (text .entry)) (take count places) fs → Tells r (In f fs)) ⌝ }
+    ensures { λ r. ⌜ StandsBefore (now (text .entry)) at end places count r ⌝ }
 {
     let mut i: usize = 0;
     while i < count {

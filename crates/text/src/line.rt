@@ -2,13 +2,19 @@
 use procap::bytes::NumberRead;
 ghost use mathlib.Core.Path.{_≡_};
 ghost use Rattle.procap.specs.Reading.{NumberReads, AtMostRead};
-ghost use Rattle.text.specs.Reader.{literal, «number-to», «line-to»};
+ghost use Rattle.text.specs.Line.{literal, «number-to», «line-to»};
 ghost use Rattle.text.specs.Places.{PlaceReads, DigitReads};
 
 // The place after what was read, or none.
 pub enum Place {
     At(usize),
     Nowhere,
+}
+
+// Whether lines keep their form, or which is the first that breaks it.
+pub enum Form {
+    Kept,
+    BrokenAt(usize),
 }
 
 // A digit, by its value, or none.

@@ -1,7 +1,9 @@
 // From a text to the procap that it says.
 use crate::fact_places::facts_on;
 use crate::fact_places::lines_at;
+use crate::line::Form;
 use crate::line::line;
+use crate::request::request_at;
 use procap::answer::Answer;
 use procap::bytes::NumberRead;
 use procap::procap::MOST_FACTS;
@@ -9,13 +11,12 @@ use procap::procap::Procap;
 use procap::procap::Request;
 use procap::procap::VERSION;
 use procap::time::LATEST_SECOND;
-use procap::writable::LARGEST_NAME;
 ghost use mathlib.Core.Bool.{Bool};
 ghost use mathlib.Core.Path.{_≡_};
 ghost use Rattle.procap.specs.Procaps.{«empty-procap»};
 ghost use Rattle.procap.specs.Outcome.{«answer-of», «procap-handed»};
-ghost use Rattle.text.specs.Reader.{«request-lines», «moment-lines», «procap-with»};
-ghost use Rattle.text.specs.Places.{RequestReads, MomentsReads, Sees};
+ghost use Rattle.text.specs.Reader.{«moment-lines», «procap-with»};
+ghost use Rattle.text.specs.Places.{MomentsReads, Sees};
 ghost use Rattle.text.specs.Calls.{«read-to-the-end», reading};
 
 // The answer of reading a text, and the procap that it says.
@@ -32,13 +33,6 @@ pub struct Overview {
     pub to: u64,
     pub count: usize,
     pub places: [usize; MOST_FACTS],
-}
-
-// Whether a request was read, the request, and the place after it.
-struct RequestRead {
-    found: bool,
-    request: Request,
-    next: usize,
 }
 
 // Whether two moments were read, the two, and the place after them.
@@ -87,7 +81,8 @@ pub fn look_over(text: &[u8]) -> Overview
         return nothing_seen();
     }
     let asked = request_at(text, after_version);
-    if !asked.found {
+    let form = asked.form;
+    if let Form::BrokenAt(_) = form {
         return nothing_seen();
     }
     let moments = moments_at(text, asked.next);
@@ -148,43 +143,6 @@ fn no_text() -> ReadText
     ReadText {
         answer: Answer::ProcapMalformed,
         procap: empty,
-    }
-}
-
-// The three lines of the request at a place.
-fn request_at(text: &[u8], at: usize) -> RequestRead
-    ensures { λ r. ⌜ RequestReads («request-lines» (now (text .entry)) at) r ⌝ }
-{
-    let NumberRead::Number(who, after_who) = line(text, at, b"who=", LARGEST_NAME) else {
-        return no_request();
-    };
-    let NumberRead::Number(what, after_what) = line(text, after_who, b"what=", LARGEST_NAME) else {
-        return no_request();
-    };
-    let NumberRead::Number(right, next) = line(text, after_what, b"right=", LARGEST_NAME) else {
-        return no_request();
-    };
-    let request = Request {
-        who: who as u16,
-        what: what as u16,
-        right: right as u16,
-    };
-    RequestRead {
-        found: true,
-        request: request,
-        next: next,
-    }
-}
-
-// What is handed back where no request was read.
-fn no_request() -> RequestRead
-    ensures { λ r. ⌜ r .found ≡ Bool.false ⌝ }
-{
-    let request = Request::none();
-    RequestRead {
-        found: false,
-        request: request,
-        next: 0,
     }
 }
 

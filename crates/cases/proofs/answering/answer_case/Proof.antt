@@ -3,9 +3,9 @@
 use borrow.Author.Needs.{needs}
 use lib.ListN.{length}
 use Rattle.procap.specs.declared.answer.Answer.the-variants.{InputMalformed}
+use Rattle.text.proofs.Forms.{kept-told, broken-told}
 use Rattle.cases.specs.Case.{case-lines}
 use Rattle.cases.specs.Found.{CaseFound}
-use Rattle.cases.proofs.Forms.{kept-told, broken-told}
 use Rattle.cases.proofs.Printables.{verified-of, case-is-printable}
 use Rattle.cases.proofs.CasesAnswered.{too-long-is-no-case, broken-is-no-case, lines-say-case, no-case-answered, case-answered}
 use Rattle.cases.proofs.CasesFound.{hands-over-case}

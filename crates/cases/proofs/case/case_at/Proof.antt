@@ -7,9 +7,9 @@ use Rattle.procap.specs.Outcome.{granted}
 use Rattle.procap.proofs.Handed.{number-told, bound-told}
 use Rattle.bl.specs.Certificates.{most-certificates}
 use Rattle.text.specs.Words.{bytes-of}
-use Rattle.text.specs.Reader.{line-to}
-use Rattle.cases.specs.Case.{request-lines}
-use Rattle.cases.proofs.Forms.{kept-told, broken-told, broken-handed}
+use Rattle.text.specs.Line.{line-to}
+use Rattle.text.specs.RequestLines.{request-lines}
+use Rattle.text.proofs.Forms.{kept-told, broken-told, broken-handed}
 use Rattle.cases.proofs.WholeCases.{request-broken, no-certs, case-says}
 use Rattle.cases.proofs.case.case_at.Statement.{statement}
 use Rattle.cases.proofs.case.case_at.Tie as tie

@@ -6,10 +6,10 @@ use native.Mathlib.Numerals.{add-one}
 use native.Mathlib.Omega.{arith}
 use borrow.Author.Needs.{needs}
 use Rattle.text.specs.Words.{bytes-of}
+use Rattle.text.proofs.Forms.{kept-told, broken-told, broken-handed}
 use Rattle.cases.specs.CaseLines.{hex-line}
 use Rattle.cases.specs.Case.{first-group-line, groups}
 use Rattle.cases.specs.Found.{HexFound, GroupsFound}
-use Rattle.cases.proofs.Forms.{kept-told, broken-told, broken-handed}
 use Rattle.cases.proofs.HexLines.{hex-missing, hex-found}
 use Rattle.cases.proofs.TwoParts.{front-found, back-found, ends-inside, ends-in-order}
 use Rattle.cases.proofs.WholeCases.{groups-broken, no-proof, something-more, case-here}

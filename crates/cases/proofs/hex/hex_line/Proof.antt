@@ -4,7 +4,7 @@ use mathlib.Core.Path.{_≡_}
 use mathlib.Core.Option.{some}
 use native.Mathlib.Omega.{arith}
 use borrow.Author.Needs.{needs}
-use Rattle.text.specs.Reader.{literal}
+use Rattle.text.specs.Line.{literal}
 use Rattle.text.proofs.Lines.{place-told}
 use Rattle.cases.specs.Hex.{paired}
 use Rattle.cases.proofs.HexLines.{hex-unread, hex-no-word, word-forward, hex-ends, two-places, hex-ends-not}

@@ -4,7 +4,7 @@ use mathlib.Core.Option.{none}
 use borrow.Author.Needs.{needs}
 use Rattle.procap.proofs.Handed.{number-told}
 use Rattle.text.specs.Words.{bytes-of}
-use Rattle.text.specs.Reader.{literal}
+use Rattle.text.specs.Line.{literal}
 use Rattle.text.proofs.Lines.{place-told}
 use Rattle.cases.proofs.Times.{minus-here, plus-here, moment-here, no-time}
 use Rattle.cases.proofs.lines.time_at.Statement.{statement}

@@ -2,7 +2,7 @@
 use mathlib.Core.Path.{_≡_}
 use mathlib.Core.Option.{some}
 use borrow.Author.Needs.{needs}
-use Rattle.text.specs.Reader.{literal}
+use Rattle.text.specs.Line.{literal}
 use Rattle.text.proofs.Lines.{place-told}
 use Rattle.cases.specs.CaseLines.{case-time}
 use Rattle.cases.proofs.Times.{time-told, time-no-word, time-no-time, time-no-end, time-here}

@@ -5,7 +5,7 @@ use native.Mathlib.Omega.{arith}
 use borrow.Author.Needs.{needs}
 use Rattle.procap.proofs.Handed.{number-told, bound-told}
 use Rattle.text.specs.Words.{bytes-of}
-use Rattle.text.specs.Reader.{literal}
+use Rattle.text.specs.Line.{literal}
 use Rattle.text.proofs.Lines.{place-told}
 use Rattle.text.proofs.FactLines.{no-fact-word, no-predicate, fact-line-with}
 use Rattle.text.proofs.facts.fact_at.Statement.{statement}

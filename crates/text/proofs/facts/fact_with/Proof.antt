@@ -12,7 +12,8 @@ use Rattle.procap.proofs.Handed.{term-told}
 use Rattle.procap.proofs.ReadSoFar.{ReadSoFar, none-yet, one-more, rest-is}
 use Rattle.procap.proofs.WithPredicate.{no-fact-with, fact-with}
 use Rattle.text.specs.Words.{bytes-of}
-use Rattle.text.specs.Reader.{literal, terms}
+use Rattle.text.specs.Line.{literal}
+use Rattle.text.specs.Reader.{terms}
 use Rattle.text.proofs.Lines.{place-told}
 use Rattle.text.proofs.Terms.{no-term-after, term-after, no-space, no-line-end, line-ends}
 use Rattle.text.proofs.facts.fact_with.Statement.{statement}

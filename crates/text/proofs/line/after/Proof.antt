@@ -3,7 +3,7 @@ use Prim.Native.Nat.{_-_, _≤_}
 use mathlib.Core.Path.{_≡_, refl, _∙_}
 use native.Mathlib.Omega.{arith}
 use lib.ListN.{length, drop}
-use Rattle.text.specs.Reader.{literal}
+use Rattle.text.specs.Line.{literal}
 use Rattle.text.proofs.Lines.{word-same, word-other, word-past, word-end}
 use Rattle.text.proofs.line.after.Statement.{statement}
 use Rattle.text.proofs.line.after.Tie as tie

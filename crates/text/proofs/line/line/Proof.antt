@@ -3,7 +3,7 @@ use mathlib.Core.Path.{_≡_}
 use mathlib.Core.Option.{some}
 use borrow.Author.Needs.{needs}
 use Rattle.procap.proofs.Handed.{number-told, bound-told}
-use Rattle.text.specs.Reader.{literal, number-to}
+use Rattle.text.specs.Line.{literal, number-to}
 use Rattle.text.proofs.Lines.{place-told, line-no-word, line-no-number, line-no-end, line-here}
 use Rattle.text.proofs.line.line.Statement.{statement}
 use Rattle.text.proofs.line.line.Tie as tie

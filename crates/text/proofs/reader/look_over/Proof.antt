@@ -7,9 +7,14 @@ use borrow.Author.Needs.{needs}
 use Rattle.procap.specs.Procaps.{version-one}
 use Rattle.procap.proofs.Handed.{number-told, bound-told}
 use Rattle.text.specs.Words.{bytes-of}
-use Rattle.text.specs.Reader.{line-to, request-lines, moment-lines}
+use Rattle.text.specs.Line.{line-to}
+use Rattle.text.specs.RequestLines.{request-lines}
+use Rattle.text.specs.LinesInARow.{uncounted}
+use Rattle.text.specs.Reader.{moment-lines}
 use Rattle.text.specs.Calls.{reading}
-use Rattle.text.proofs.Readings.{request-missing, request-found, moments-missing, moments-found, no-version, version-zero, text-no-request, text-no-moments, text-says, none-seen}
+use Rattle.text.proofs.Forms.{kept-told, broken-told}
+use Rattle.text.proofs.Requests.{said-granted, said-refused}
+use Rattle.text.proofs.Readings.{moments-missing, moments-found, no-version, version-zero, text-no-request, text-no-moments, text-says, none-seen}
 use Rattle.text.proofs.reader.look_over.Statement.{statement}
 use Rattle.text.proofs.reader.look_over.Tie as tie
 
@@ -25,56 +30,30 @@ version-known c =
     omega (arith, c .if1 .left)
 
 -- The request stands from there on, and the moments after it.
-request-read : (c : tie.Else2)
+request-read : (c : tie.After-enum-told3)
     → let first = c .before .before .before .before in
     let args = first .before .before .before .before .before .before .args in
     let asked = c .before .before .request-at .result in
-    request-lines (args .text .now) (first .before .version .given .0 .1 .0) ≡ some (asked .request, asked .next)
-request-read c = request-found _ (c .before .before .request-at .result) (c .if2 .left) (c .before .before .request-at .ensures)
+    uncounted (request-lines (args .text .now)) (first .before .version .given .0 .1 .0) ≡ some (asked .request, asked .next)
+request-read c = said-granted _ _ _ _ (kept-told _ _ (c .enum-told3 .given .1) (c .before .before .request-at .ensures))
 
-moments-read : (c : tie.Else3)
+moments-read : (c : tie.Else2)
     → let request = c .before .before .before in
     let args = request .before .before .before .before .before .before .before .before .before .before .args in
     let moments = c .before .before .moments-at .result in
     moment-lines (args .text .now) (request .before .before .request-at .result .next) ≡ some ((moments .from, moments .to), moments .next)
-moments-read c = moments-found _ (c .before .before .moments-at .result) (c .if3 .left) (c .before .before .moments-at .ensures)
+moments-read c = moments-found _ (c .before .before .moments-at .result) (c .if2 .left) (c .before .before .moments-at .ensures)
 
-slice-aggregate-line : tie.Need-slice-aggregate-line
-slice-aggregate-line c = search needs
-
-cast-line : tie.Need-cast-line
-cast-line c = search needs
-
-line-requires : tie.Need-line-requires
-line-requires c κs = search needs
-
-enum-known-version : tie.Need-enum-known-version
-enum-known-version c = search needs
-
-enum-told : tie.Need-enum-told
-enum-told c = search needs
-
-nothing-seen-requires : tie.Need-nothing-seen-requires
-nothing-seen-requires c κs = search needs
-
+-- Without one of these there is no text.
 returns : tie.Need-returns
 unfolding reading
 returns c =
     none-seen _ _ _ (c .nothing-seen .ensures)
     (no-version _ (number-told _ (c .before .enum-told .given .1) (c .before .before .before .line .ensures .0)))
 
-nothing-seen-requires-2 : tie.Need-nothing-seen-requires-2
-nothing-seen-requires-2 c κs = search needs
-
 returns-2 : tie.Need-returns-2
 unfolding reading
 returns-2 c = none-seen _ _ _ (c .nothing-seen2 .ensures) (version-zero _ _ _ (version-read (c .before .before)) (c .before .if1 .taken))
-
-request-at-requires : tie.Need-request-at-requires
-request-at-requires c κs = search needs
-
-nothing-seen-requires-3 : tie.Need-nothing-seen-requires-3
-nothing-seen-requires-3 c κs = search needs
 
 returns-3 : tie.Need-returns-3
 unfolding reading
@@ -82,13 +61,7 @@ returns-3 c =
     let asked = c .before .before .before in
     none-seen _ _ _ (c .nothing-seen3 .ensures)
     (text-no-request _ _ _ (version-read (asked .before .before)) (version-known (asked .before))
-    (request-missing _ (asked .request-at .result) (c .before .if2 .taken) (asked .request-at .ensures)))
-
-moments-at-requires : tie.Need-moments-at-requires
-moments-at-requires c κs = search needs
-
-nothing-seen-requires-4 : tie.Need-nothing-seen-requires-4
-nothing-seen-requires-4 c κs = search needs
+    (said-refused _ _ (broken-told _ _ (c .before .enum-told2 .given .1) (asked .request-at .ensures))))
 
 returns-4 : tie.Need-returns-4
 unfolding reading
@@ -98,11 +71,9 @@ returns-4 c =
     let version = request .before .before .before in
     none-seen _ _ _ (c .nothing-seen4 .ensures)
     (text-no-moments _ _ _ (version-read (version .before)) (version-known version) _ _ (request-read request)
-    (moments-missing _ (read .moments-at .result) (c .before .if3 .taken) (read .moments-at .ensures)))
+    (moments-missing _ (read .moments-at .result) (c .before .if2 .taken) (read .moments-at .ensures)))
 
-look-over-facts-requires : tie.Need-look-over-facts-requires
-look-over-facts-requires c κs = search needs
-
+-- With them the text says what the rest says.
 returns-5 : tie.Need-returns-5
 unfolding reading
 returns-5 c =
@@ -116,20 +87,8 @@ pub look-over-spec : {M : Type 1} → statement M
 look-over-spec =
     tie.close
     (tie.spec
-    slice-aggregate-line
-    cast-line
-    line-requires
-    enum-known-version
-    enum-told
-    nothing-seen-requires
-    returns
-    nothing-seen-requires-2
-    returns-2
-    request-at-requires
-    nothing-seen-requires-3
-    returns-3
-    moments-at-requires
-    nothing-seen-requires-4
-    returns-4
-    look-over-facts-requires
-    returns-5)
+    (λ c. search needs) (λ c. search needs) (λ c κs. search needs) (λ c. search needs) (λ c. search needs) (λ c κs. search needs) returns
+    (λ c κs. search needs) returns-2
+    (λ c κs. search needs) (λ c. search needs) (λ c κs. search needs) returns-3
+    (λ c. search needs) (λ c κs. search needs) (λ c κs. search needs) returns-4
+    (λ c κs. search needs) returns-5)

@@ -9,7 +9,8 @@ use Rattle.procap.specs.Procaps.{most-facts}
 use Rattle.procap.specs.Bytes.{many}
 use Rattle.procap.proofs.Handed.{number-told, bound-told}
 use Rattle.text.specs.Words.{bytes-of}
-use Rattle.text.specs.Reader.{line-to, fact-line}
+use Rattle.text.specs.Line.{line-to}
+use Rattle.text.specs.Reader.{fact-line}
 use Rattle.text.specs.Places.{LinesFound}
 use Rattle.text.proofs.Readings.{lines-missing, lines-found, no-count, no-such-lines, bytes-left, procap-whole, none-whole, none-seen, some-seen}
 use Rattle.text.proofs.reader.look_over_facts.Statement.{statement}

@@ -3,9 +3,9 @@ use Prim.Native.Nat.{ℕ}
 use mathlib.Core.Path.{_≡_, sym, subst}
 use Rattle.procap.specs.Outcome.{Outcome, refused}
 use Rattle.procap.specs.declared.answer.Answer.the-variants.{InputMalformed}
-use Rattle.cases.specs.Found.{Reads}
-use Rattle.cases.specs.declared.lines.Form.{Form}
-use Rattle.cases.specs.declared.lines.Form.the-variants.{Kept, BrokenAt}
+use Rattle.text.specs.Places.{Reads}
+use Rattle.text.specs.declared.line.Form.{Form}
+use Rattle.text.specs.declared.line.Form.the-variants.{Kept, BrokenAt}
 
 module _ {A : Type 0} (o : Outcome (A × ℕ × ℕ)) (so : Type 0) {form : Form} where
   -- Where the form is kept, so much was found.

@@ -26,3 +26,12 @@ at-line line (some r) = granted (r .0, suc line, r .1)
 -- One line. A line that is missing breaks the form too: nothing can be read there.
 abbrev pub one-line : {A : Type 0} → Reader A → Lines A
 one-line r = λ line at. at-line line (r at)
+
+-- What lines say to a reader that does not ask which of them breaks: the value and the place after it, or none.
+unfoldable pub said : {A : Type 0} → Outcome (A × ℕ × ℕ) → Option (A × ℕ)
+said (granted x) = some (x .0, x .2)
+said (refused answer) = none
+
+-- Lines read so: where their count begins does not matter.
+abbrev pub uncounted : {A : Type 0} → Lines A → Reader A
+uncounted r = λ at. said (r 1 at)
