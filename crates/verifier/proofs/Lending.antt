@@ -212,7 +212,7 @@ module _ {M : Type 1} (𝓤 : URA M) (H : Heap 𝓤) (A : Atoms 𝓤) (W : Given
       abbrev Passed : Fml
       Passed = fsep (Asked rq) (fsep (St.the-row .own stop (w ∷ [])) (fsep (usize .own (length (s .now)) (vint w64 (length (s .now)) ∷ [])) (fsep Reading (fsep (Bytes κ′ b) rest))))
 
-      abbrev Onward-asks : SProp 𝓤
+      abbrev pub Onward-asks : SProp 𝓤
       Onward-asks = sep 𝓤 (sep 𝓤 (sep 𝓤 (A .lft (β ∷ []) fullShare) (sep 𝓤 (A .lft κ′ q′) more)) (sem 𝓤 H A Passed)) (emp 𝓤)
 
       -- What it asks, and what is kept meanwhile.

@@ -1,6 +1,9 @@
 -- Laws on the calls.
 pub mod CertificateLaws
 pub mod Lending
+pub mod Further
+pub mod Lendable
+pub mod OverRecords
 pub mod LendingRecords
 pub mod VerifyLent
 pub mod WalkBegins
