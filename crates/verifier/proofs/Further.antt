@@ -13,7 +13,18 @@ use prog.Wp.{Heap, Env, noLocal}
 use ghost.Atoms.{Atoms}
 use types.Kit.{Given, Item, Goal, Seq, Step, step, allocs, passes, frees, ‵, raw, _⊛_, mean, ⋆, _$_, move, use0, use1, split, join, drop, nth, del, pull, unpull}
 use types.Run.{Finds, Reads, Opds, init, load, and-then, no-more, alloc1, pass1, free1}
+use contract.Lifetimes.{Lfts}
+use denote.RattleType.{mirs}
 use denote.Laws.{Typed}
+use denote.Signature.{Slot, typesAt}
+
+-- No lifetime at all, where only the types in the machine are asked; and these types.
+abbrev nowhere : (n : ℕ) → Lfts n
+nowhere zero = tt
+nowhere (suc n) = ([], nowhere n)
+
+abbrev pub types-in : {n : ℕ} → List (Slot n) → List Ty
+types-in {n} rest = mirs (typesAt rest (nowhere n))
 
 -- A block for each.
 abbrev pub Blocks : List Ty → Type 0

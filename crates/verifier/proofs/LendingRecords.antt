@@ -117,7 +117,7 @@ module _ (size : ℕ) (xs : List Certificate) (n : ℕ) where
           Reading = ShrSlice erased (α ∷ []) T.the-row .own (front-at xs n l γ) (front-val xs n l ∷ [])
 
           -- What the callee asks: the tokens, and what its arguments own.
-          abbrev Callee-asks : SProp 𝓤
+          abbrev pub Callee-asks : SProp 𝓤
           Callee-asks = sep 𝓤 (sep 𝓤 (sep 𝓤 (A .lft (α ∷ []) fullShare) more) (sem 𝓤 H A (fsep (Asked rq) (fsep Reading rest)))) (emp 𝓤)
 
           asks : ent 𝓤 (sem 𝓤 H A rest) (sep 𝓤 (sem 𝓤 H A rest) (sem 𝓤 H A rest)) → Is Rq.the-row rq (request-val rq ∷ [])

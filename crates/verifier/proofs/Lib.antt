@@ -5,6 +5,7 @@ pub mod Further
 pub mod Lendable
 pub mod OverRecords
 pub mod LendingRecords
+pub mod RecordsLent
 pub mod VerifyLent
 pub mod WalkBegins
 pub mod Answers

@@ -1,7 +1,7 @@
 -- A call over lent records: it takes a request, the records, a buffer and further parameters, takes the records into rows of its own, and goes on with a function of the request, the stop, how many records there are, the rows, the buffer and the further parameters.
 -- Its code meets its contract where the contract of the function that goes on gives it, once the records are taken. A walk of the MIR by hand, since the borrow checker does not cover a slice of structs; every such call is this code, by computation.
 use mathlib.Core.Path.{_≡_, refl, sym, subst}
-use Prim.Native.Nat.{ℕ, zero, suc}
+use Prim.Native.Nat.{ℕ, suc}
 use native.Mathlib.Omega.{arith}
 use mathlib.Core.List.{List, [], _∷_}
 use lib.ListN.{length}
@@ -16,7 +16,7 @@ use prog.Memory.{Memory}
 use prog.Routine.{Routine}
 use prog.Wp.{Heap, Env, noLocal, Calls, Loops, WpFn}
 use ghost.Atoms.{Atoms, sem}
-use contract.Monad.{Fun, fact, fact-use}
+use contract.Monad.{Fun, factI}
 use contract.Lifetimes.{Lfts, Shares, toks}
 use types.Kit.{Given, Item, ‵, raw, ⋆, some, given, later, _$_, _∵_, !, qed, by, move, use0, use1, join, pick, learn, frame, show, check, await, updating, now as at-once, done}
 use types.Part.{agg, rep, whole, sub, look-in}
@@ -51,15 +51,10 @@ use Rattle.ledger.proofs.Stop as St
 use Rattle.ledger.proofs.Stop.Laws as St′
 use Rattle.judging.specs.RowsOf.{all-numbers}
 use Rattle.verifier.specs.Verifying.{Taken}
-use Rattle.verifier.proofs.Further.{then-locals, past, copies, Rooms, Cells, forgotten, allocs-them, passes-them, frees-them, copies-them, beyond, stand-fourth}
-use Rattle.verifier.proofs.Lendable.{Back, Ends, meets-by, seen, leaves, Lendables, lawfuls, copyables, slice, a-request}
+use Rattle.verifier.proofs.Further.{types-in, then-locals, past, copies, Rooms, Cells, forgotten, allocs-them, passes-them, frees-them, copies-them, beyond, stand-fourth}
+use Rattle.verifier.proofs.Lendable.{Back, Ends, meets-by, seen, leaves, Lendables, lawfuls, copyables, silents}
 use Rattle.verifier.proofs.Lending.{request-val, lent-val, rows-val, rows-at, zeros, zeros-val, zeros-are, zeros-typed, Owned, Tokens, Taking, Onward-asks, takes, lends-rows, rows-back}
 use Rattle.verifier.proofs.certificates.take_records.Symbol.{name as #verifier·certificates·take-records}
-
--- No lifetime at all, where only the types in the machine are asked.
-abbrev nowhere : (n : ℕ) → Lfts n
-nowhere zero = tt
-nowhere (suc n) = ([], nowhere n)
 
 -- What is promised of a result: φ of whatever records are as many as the lent ones and are taken.
 abbrev pub Promised : {X : Type 0} → RefT (List Certificate) → RefT (List ℕ) → (List Certificate → X → Type 0) → List ℕ → Stop → X → Type 0
@@ -84,7 +79,7 @@ module _ {m : ℕ} (rest : List (Slot (suc (suc m)))) (κs : Lfts (suc (suc m)))
 -- `m` further lifetimes and `rest` further parameters; a result of type R, which is τ in the machine; and f, which goes on.
 module _ (m : ℕ) (rest : List (Slot (suc (suc m)))) (R : RattleType) (τ : Ty) (f : Name) where
   abbrev τs : List Ty
-  τs = mirs (typesAt rest (nowhere (suc (suc m))))
+  τs = types-in rest
 
   -- The j-th local after the parameters: the rows, the stop, their address and all of them to be filled, how many records there are, the rows' address and all of them to be read.
   abbrev own : ℕ → Place
@@ -194,7 +189,7 @@ module _ (m : ℕ) (rest : List (Slot (suc (suc m)))) (R : RattleType) (τ : Ty)
         exits r u is h =
             via 𝓤 (alive 𝓤 H A signature κs qs) (fst∗ 𝓤 (alive 𝓤 H A signature κs qs) (sem 𝓤 H A All))
             (leaves 𝓤 H A W signature c κs qs a g
-            (a-request 𝓤 H A W, (slice 𝓤 H A W (named 0) (κs .0) T.the-row, (slice 𝓤 H A W (named 1) (κs .1 .0) u8, lendable κs))) r u makes is (owed κs a g r h))
+            ((λ x. (tt, id⊢ 𝓤 (emp 𝓤))), ((λ x. (tt, id⊢ 𝓤 (emp 𝓤))), ((λ x. (tt, id⊢ 𝓤 (emp 𝓤))), silents 𝓤 H A (typesAt rest κs) (lendable κs)))) r u makes is (owed κs a g r h))
 
         -- The function's own locals, at their blocks.
         abbrev mine : ℕ → ℕ → ℕ → ℕ → ℕ → ℕ → ℕ → Env 𝓤 H
@@ -250,7 +245,7 @@ module _ (m : ℕ) (rest : List (Slot (suc (suc m)))) (R : RattleType) (τ : Ty)
 
       pub over-records : Meets 𝓤 H A signature (WpFn 𝓤 H C Λ function) (closing 𝓤 H A (seen signature) c)
       over-records =
-          meets-by 𝓤 H A W (seen signature) c (WpFn 𝓤 H C Λ function) (λ κs qs a vss g are.
+          meets-by 𝓤 H A W (seen signature) c (WpFn 𝓤 H C Λ function) (λ κs a. Unit {0}) (λ κs a g. factI 𝓤 (Unit {0}) _ tt) (λ κs qs a vss g so are.
           let Ps : List RattleType = typesAt (signature .params) κs in
           let told : vss ≡ (request-val (a .0) ∷ [], (lent-val (a .1 .0) ∷ [], (lent-val (a .1 .1 .0) ∷ [], vss .1 .1 .1))) = λ i. (
             LL.tells Rq.the-type Rq′.the-laws (a .0) (vss .0) (are .0) i,
