@@ -11,7 +11,7 @@ ghost use Rattle.procap.specs.Procaps.{«request-of»};
 ghost use Rattle.procap.specs.Outcome.{«answer-of»};
 ghost use Rattle.door.specs.Door.{«opening-text»};
 ghost use Rattle.from_c.specs.Packing.{packed};
-ghost use Rattle.from_c.specs.Calls.{«value-opening», «opened-of»};
+ghost use Rattle.from_c.specs.Calls.{«value-opening-over», «opened-of»};
 
 // What the door answers to a procap value, as one number: 12 for bytes that are no value.
 #[no_mangle]
@@ -23,7 +23,7 @@ pub extern "C" fn desk_door_on_value(
     moment: u64,
     state: &[u8],
 ) -> u64
-    ensures { λ r. ⌜ r ≡ packed («answer-of» («value-opening» (now (value .entry)) («request-of» who what right) moment (now (state .entry)))) 0 ⌝ }
+    ensures { λ r. ⌜ r ≡ packed («answer-of» («value-opening-over» value who what right moment state)) 0 ⌝ }
 {
     if value.len() != VALUE_BYTES {
         return as_number(Answer::ProcapMalformed, 0);

@@ -10,8 +10,7 @@ ghost use mathlib.Core.Path.{_≡_};
 ghost use Prim.Native.Nat.{_≤_};
 ghost use lib.ListN.{take};
 ghost use Rattle.procap.specs.Outcome.{«answer-of»};
-ghost use Rattle.bl.specs.Calls.{verified, directly};
-ghost use Rattle.verifier.specs.Verifying.{HandsOver};
+ghost use Rattle.verifier.specs.Verifying.{HandsOver, «verified-over», «directly-over»};
 ghost use Rattle.from_c.specs.Records.{«lent-at-most»};
 
 // What verify answers to the first `count` of the records, which are lent to it.
@@ -23,7 +22,7 @@ pub(crate) fn verify_lent(
     proof: &[u8],
 ) -> Verified
     requires { ⌜ count ≤ «lent-at-most» ⌝ }
-    ensures { λ r. ⌜ HandsOver (verified request (take count records) (now (buffer .entry)) (now (proof .entry))) r ⌝ }
+    ensures { λ r. ⌜ HandsOver («verified-over» request (take count records) buffer proof) r ⌝ }
 {
     verify(request, &records[..count], buffer, proof)
 }
@@ -39,7 +38,7 @@ pub(crate) fn direct_lent(
     state: &[u8],
 ) -> Answer
     requires { ⌜ count ≤ «lent-at-most» ⌝ }
-    ensures { λ r. ⌜ r ≡ «answer-of» (directly request (take count records) (now (buffer .entry)) (now (proof .entry)) moment (now (state .entry))) ⌝ }
+    ensures { λ r. ⌜ r ≡ «answer-of» («directly-over» request (take count records) buffer proof moment state) ⌝ }
 {
     direct(request, &records[..count], buffer, proof, moment, state)
 }

@@ -12,14 +12,11 @@ use text::reader::read_text;
 use text::writer::write_text;
 ghost use mathlib.Core.Path.{_≡_};
 ghost use lib.ListN.{length};
-ghost use Rattle.procap.specs.Procaps.{«request-of»};
 ghost use Rattle.procap.specs.Outcome.{«answer-of»};
-ghost use Rattle.bl.specs.Calls.{directly};
 ghost use Rattle.text.specs.Calls.{«buffer-left»};
 ghost use Rattle.cases.specs.Calls.{answering};
 ghost use Rattle.from_c.specs.Packing.{packed, «packed-text»};
-ghost use Rattle.from_c.specs.Records.{«records-in»};
-ghost use Rattle.from_c.specs.Calls.{verifying, rewriting, «value-writing»};
+ghost use Rattle.from_c.specs.Calls.{«verifying-over», «checking-over», rewriting, «value-writing-over»};
 
 // Verifies, and puts the text of the procap at the front of the buffer that is lent for it: 13 where it is shorter. The answer comes as one number.
 #[no_mangle]
@@ -32,8 +29,8 @@ pub extern "C" fn office_verify(
     proof: &[u8],
     out: &mut [u8],
 ) -> u64
-    ensures answer { λ r. ⌜ r ≡ «packed-text» (verifying («request-of» who what right) (now (records .entry)) (now (buffer .entry)) (now (proof .entry)) (length (now (out .entry)))) ⌝ }
-    ensures buffer { λ r. ⌜ now (out .exit) ≡ «buffer-left» (verifying («request-of» who what right) (now (records .entry)) (now (buffer .entry)) (now (proof .entry)) (length (now (out .entry)))) (now (out .entry)) ⌝ }
+    ensures answer { λ r. ⌜ r ≡ «packed-text» («verifying-over» who what right records buffer proof out) ⌝ }
+    ensures buffer { λ r. ⌜ now (out .exit) ≡ «buffer-left» («verifying-over» who what right records buffer proof out) (now (out .entry)) ⌝ }
 {
     let request = Request::of(who, what, right);
     let table = records_in(records);
@@ -62,7 +59,7 @@ pub extern "C" fn office_direct(
     moment: u64,
     state: &[u8],
 ) -> u64
-    ensures { λ r. ⌜ r ≡ packed («answer-of» (directly («request-of» who what right) («records-in» (now (records .entry))) (now (buffer .entry)) (now (proof .entry)) moment (now (state .entry)))) 0 ⌝ }
+    ensures { λ r. ⌜ r ≡ packed («answer-of» («checking-over» who what right records buffer proof moment state)) 0 ⌝ }
 {
     let request = Request::of(who, what, right);
     let table = records_in(records);
@@ -105,8 +102,8 @@ pub extern "C" fn office_rewrite(text: &[u8], out: &mut [u8]) -> u64
 // Writes the text of a value: 12 for bytes that are no value and for a value that cannot be written, then 13.
 #[no_mangle]
 pub extern "C" fn office_write(value: &[u8], out: &mut [u8]) -> u64
-    ensures answer { λ r. ⌜ r ≡ «packed-text» («value-writing» (now (value .entry)) (length (now (out .entry)))) ⌝ }
-    ensures buffer { λ r. ⌜ now (out .exit) ≡ «buffer-left» («value-writing» (now (value .entry)) (length (now (out .entry)))) (now (out .entry)) ⌝ }
+    ensures answer { λ r. ⌜ r ≡ «packed-text» («value-writing-over» value out) ⌝ }
+    ensures buffer { λ r. ⌜ now (out .exit) ≡ «buffer-left» («value-writing-over» value out) (now (out .entry)) ⌝ }
 {
     if value.len() != VALUE_BYTES {
         return as_number(Answer::ProcapMalformed, 0);

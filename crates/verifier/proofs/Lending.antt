@@ -20,12 +20,11 @@ use ghost.Atoms.{Atoms, sem}
 use contract.Monad.{Fun}
 use contract.Lifetimes.{toks}
 use types.Kit.{Given, Item, Goal, Soaks, Seq, Step, step, Post, runs, lands, ‵, raw, _⊛_, ⋆, some, given, later}
-use types.Kit.{_$_, _∵_, !, qed, move, drop, use0, use1, use2, use3, split, join, pick, learn, fsplit, fjoin, frame, await, done}
+use types.Kit.{_$_, _∵_, !, qed, move, drop, use1, use2, use3, split, join, pick, learn, fsplit, fjoin, frame, await, done}
 use types.Tokens.{lft-new, lft-end}
 use types.Run.{Opds}
 use sound.WpLaws.{FmC}
-use denote.RattleType.{RattleType}
-use denote.Laws.{Is, Makes}
+use denote.Laws.{Is}
 use denote.Plain.{uint-makes, uint-lawful}
 use denote.Builtin.{u8, u64, usize}
 use denote.Array.{Array, arrayVal, array-lawful}
@@ -125,13 +124,6 @@ module _ {M : Type 1} (𝓤 : URA M) (H : Heap 𝓤) (A : Atoms 𝓤) (W : Given
   abbrev Toks : Item 𝓤
   Toks = Tokens 𝓤 κ q κ′ q′ more
 
-  -- What is had at exit, beside the result and what is said of it.
-  pub ends : (R : RattleType) → Makes 𝓤 H A R (Is R) → (r : R .Denot) (u : Val) → Is R r (u ∷ []) → {P : SProp 𝓤} → ent 𝓤 (emp 𝓤) P
-      → ent 𝓤 (⋆ 𝓤 H A (Toks ∷ ‵ All ∷ []))
-      (sep 𝓤 (sep 𝓤 (sep 𝓤 (A .lft κ q) (sep 𝓤 (A .lft κ′ q′) more)) (sep 𝓤 (sem 𝓤 H A All) (sem 𝓤 H A (R .own r (u ∷ []))))) P)
-  ends R makes r u is {P} said =
-      qed W (Toks ∷ ‵ All ∷ []) ∵ owned ! R (Is R) makes r (u ∷ []) is $ move ! (2 ∷ 0 ∷ []) $ join ! $ move ! (1 ∷ 0 ∷ []) $ join ! $ frame ! $ use0 W (raw P) said $ done !
-
   -- ── The rows at l are filled from the records ──
   module _ (mem : Memory → SProp 𝓤) (run : Routine → Fun 𝓤) (l : ℕ) where
     -- They are lent to `take_records` for the lifetime α under the name γ.
@@ -212,7 +204,7 @@ module _ {M : Type 1} (𝓤 : URA M) (H : Heap 𝓤) (A : Atoms 𝓤) (W : Given
       abbrev Passed : Fml
       Passed = fsep (Asked rq) (fsep (St.the-row .own stop (w ∷ [])) (fsep (usize .own (length (s .now)) (vint w64 (length (s .now)) ∷ [])) (fsep Reading (fsep (Bytes κ′ b) rest))))
 
-      abbrev Onward-asks : SProp 𝓤
+      abbrev pub Onward-asks : SProp 𝓤
       Onward-asks = sep 𝓤 (sep 𝓤 (sep 𝓤 (A .lft (β ∷ []) fullShare) (sep 𝓤 (A .lft κ′ q′) more)) (sem 𝓤 H A Passed)) (emp 𝓤)
 
       -- What it asks, and what is kept meanwhile.

@@ -16,10 +16,9 @@ use base.Fml.{GName, Fml, fsep, flft, fat, froom}
 use prog.Wp.{Heap}
 use ghost.Atoms.{Atoms, sem}
 use contract.Monad.{fact, fact-mono}
-use types.Kit.{Given, Item, Goal, Soaks, Seq, Step, step, ‵, raw, _⊛_, ⋆, some, later, _$_, _∵_, !, qed, move, use0, use1, use2, use3, split, join, pick, rewrite, fsplit, fjoin, frame, await, done}
+use types.Kit.{Given, Item, Goal, Soaks, Seq, Step, step, ‵, raw, _⊛_, ⋆, some, later, _$_, _∵_, !, qed, move, use1, use2, use3, split, join, pick, rewrite, fsplit, fjoin, frame, await, done}
 use types.Tokens.{lft-new, lft-end}
-use denote.RattleType.{RattleType}
-use denote.Laws.{Is, Makes}
+use denote.Laws.{Is}
 use denote.Memory.{pointee}
 use denote.Builtin.{usize}
 use denote.Array.{Array, array-vals, array-lawful}
@@ -82,13 +81,6 @@ module _ (size : ℕ) (xs : List Certificate) (n : ℕ) where
   Room-for-copy l = froom (tyArray T′.mir size) l 0
 
   module _ {M : Type 1} (𝓤 : URA M) (H : Heap 𝓤) (A : Atoms 𝓤) (W : Given 𝓤 H A) where
-    -- What is had at exit, beside the result and what is said of it.
-    pub ends : (rq : Request) (rest : Fml) (more : SProp 𝓤) (R : RattleType) → Makes 𝓤 H A R (Is R) → (r : R .Denot) (u : Val) → Is R r (u ∷ []) → {P : SProp 𝓤} → ent 𝓤 (emp 𝓤) P
-        → ent 𝓤 (⋆ 𝓤 H A (raw more ∷ ‵ (Owned rq rest) ∷ [])) (sep 𝓤 (sep 𝓤 more (sep 𝓤 (sem 𝓤 H A (Owned rq rest)) (sem 𝓤 H A (R .own r (u ∷ []))))) P)
-    ends rq rest more R makes r u is {P} said =
-        qed W (raw more ∷ ‵ (Owned rq rest) ∷ []) ∵ owned ! R (Is R) makes r (u ∷ []) is $
-        move ! (2 ∷ 0 ∷ []) $ join ! $ move ! (1 ∷ 0 ∷ []) $ join ! $ frame ! $ use0 W (raw P) said $ done !
-
     module _ (is : Is (Array T.the-row size) xs (records-vals xs)) where
       -- The array fits a local of its type.
       pub records-typed : Holds (hasTy (tyArray T′.mir size) (records-val xs)) × WT (records-val xs)
@@ -117,7 +109,7 @@ module _ (size : ℕ) (xs : List Certificate) (n : ℕ) where
           Reading = ShrSlice erased (α ∷ []) T.the-row .own (front-at xs n l γ) (front-val xs n l ∷ [])
 
           -- What the callee asks: the tokens, and what its arguments own.
-          abbrev Callee-asks : SProp 𝓤
+          abbrev pub Callee-asks : SProp 𝓤
           Callee-asks = sep 𝓤 (sep 𝓤 (sep 𝓤 (A .lft (α ∷ []) fullShare) more) (sem 𝓤 H A (fsep (Asked rq) (fsep Reading rest)))) (emp 𝓤)
 
           asks : ent 𝓤 (sem 𝓤 H A rest) (sep 𝓤 (sem 𝓤 H A rest) (sem 𝓤 H A rest)) → Is Rq.the-row rq (request-val rq ∷ [])

@@ -4,6 +4,8 @@ use mathlib.Core.Path.{_≡_}
 use mathlib.Core.List.{List}
 use mathlib.Core.Option.{some}
 use lib.ListN.{length, getD}
+use denote.Ref.{RefT}
+use denote.Triple.Both.{Both}
 use Rattle.procap.specs.Desk.{read-press}
 use Rattle.procap.specs.Numbered.{time-numbers}
 use Rattle.procap.specs.Outcome.{Outcome, granted, refused, go-on, answer-of, procap-handed}
@@ -17,7 +19,7 @@ use Rattle.bl.specs.Questions.{done}
 use Rattle.bl.specs.Steps.{proof-in}
 use Rattle.bl.specs.Readings.{start, office, press, run}
 use Rattle.bl.specs.Walk.{walk}
-use Rattle.bl.specs.Calls.{issue}
+use Rattle.bl.specs.Calls.{read-case, issue, verified, directly}
 use Rattle.ledger.specs.declared.Reading.{Reading}
 use Rattle.ledger.specs.declared.Stop.{Stop}
 use Rattle.ledger.specs.declared.Stop.the-variants.{Going, Stopped}
@@ -28,6 +30,13 @@ use Rattle.judging.specs.declared.rows.Row.{Row}
 use Rattle.judging.specs.declared.rows.Whose.the-variants.{Claim}
 use Rattle.formula.specs.PutIn.{no-terms}
 use Rattle.judging.specs.RowsOf.{row-in, all-numbers, Certified}
+
+-- Lent numbers and lent records, as a contract names them: on entry and at the exit.
+abbrev pub Numbers : Type 0
+Numbers = Both (RefT (List ℕ)) (RefT (List ℕ))
+
+abbrev pub Records : Type 0
+Records = Both (RefT (List Certificate)) (RefT (List Certificate))
 
 -- A record of zeros, which stands past the end of a list of records.
 abbrev pub no-record : Certificate
@@ -50,6 +59,11 @@ Walked r buffer proof state rows reading list l list′ =
     (cs : List Statement) (N : Check) → OnClock reading → length list ≡ list-numbers → Certified buffer rows cs → proof-in (length cs) proof ≡ some N
     → Sound (book l list′) × (resume state (book l list′) (done (tt {0})) ≡ run (reading-of state reading) (walk r cs N) start)
 
+-- The same of what is lent, where r is the ledger at the end.
+abbrev pub WalkedOver : Request → Numbers → Numbers → Numbers → Numbers → Numbers → Reading → Ledger → Type 0
+WalkedOver request buffer proof state rows facts reading r =
+    Walked request (buffer .entry .now) (proof .entry .now) (state .entry .now) (rows .entry .now) reading (facts .entry .now) r (facts .exit .now)
+
 -- An outcome goes on with a value, or is stopped by its answer.
 abbrev pub Stops : {A : Type 0} → Outcome A → Stop → Type 0
 Stops {A} o Going = (a : A) × (o ≡ granted a)
@@ -59,6 +73,15 @@ Stops o (Stopped answer) = o ≡ refused answer
 pub record CaseReads (rows buffer proof : List ℕ) (cs : List Statement) (N : Check) : Type 0 where
   pub certified : Certified buffer rows cs
   pub proof-reads : proof-in (length cs) proof ≡ some N
+
+-- What is so of whatever certificates the rows are, with the proof that reads over them.
+abbrev pub OnceRead : Numbers → Numbers → Numbers → (List Statement → Check → Type 0) → Type 0
+OnceRead rows buffer proof P = (cs : List Statement) (N : Check) → CaseReads (rows .entry .now) (buffer .entry .now) (proof .entry .now) cs N → P cs N
+
+-- Where `stop` is what so many records come to, r is what they and the proof come to.
+abbrev pub CaseStops : Stop → Numbers → ℕ → Stop → Type 0
+CaseStops stop proof n r =
+    (records : List Certificate) (buffer : List ℕ) → length records ≡ n → Stops (statements buffer records) stop → Stops (read-case records buffer (proof .entry .now)) r
 
 -- The records before the i-th are taken: there are not too many in all, each is well formed, and its row is put.
 pub record TakenTo (records : List Certificate) (buffer : List ℕ) (i : ℕ) (rows : List ℕ) : Type 0 where
@@ -81,6 +104,21 @@ Takes buffer c i stop rows stop′ rows′ =
 pub record Taken (records : List Certificate) (buffer : List ℕ) (stop : Stop) (rows : List ℕ) : Type 0 where
   pub stops : Stops (statements buffer records) stop
   pub rows-are : (cs : List Statement) → statements buffer records ≡ granted cs → Certified buffer rows cs
+
+-- The same of what is lent.
+abbrev pub TakenFrom : Records → Numbers → Stop → List ℕ → Type 0
+TakenFrom certificates buffer stop rows = Taken (certificates .entry .now) (buffer .entry .now) stop rows
+
+-- What is so of whatever records are so many and are taken.
+abbrev pub OnceTaken : Stop → ℕ → Numbers → Numbers → (List Certificate → Type 0) → Type 0
+OnceTaken stop n rows buffer P = (records : List Certificate) → length records ≡ n → Taken records (buffer .entry .now) stop (rows .entry .now) → P records
+
+-- What verify and the direct check come to for some records, over what is lent.
+abbrev pub verified-over : Request → List Certificate → Numbers → Numbers → Outcome Procap
+verified-over request records buffer proof = verified request records (buffer .entry .now) (proof .entry .now)
+
+abbrev pub directly-over : Request → List Certificate → Numbers → Numbers → ℕ → Numbers → Outcome (Unit {0})
+directly-over request records buffer proof moment state = directly request records (buffer .entry .now) (proof .entry .now) moment (state .entry .now)
 
 -- What verify comes to from there on.
 unfoldable pub verified-case : Request → List Statement → Check → Outcome Procap

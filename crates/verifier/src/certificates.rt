@@ -17,7 +17,7 @@ ghost use lib.ListN.{length};
 ghost use Rattle.procap.specs.Tells.{Tells};
 ghost use Rattle.bl.specs.Certificates.{«fixed-time», «most-certificates»};
 ghost use Rattle.judging.specs.RowsOf.{«all-numbers»};
-ghost use Rattle.verifier.specs.Verifying.{«row-of», WellFormedRecord, Taken, Takes};
+ghost use Rattle.verifier.specs.Verifying.{«row-of», WellFormedRecord, TakenFrom, Takes};
 
 // How many records are taken.
 pub const MOST_CERTIFICATES: usize = 32;
@@ -26,7 +26,7 @@ pub const MOST_PART_BYTES: usize = 256;
 
 // Whether to go on, from the lent records: too many of them stop, and so does the first malformed one. The rows of those before it are put.
 pub(crate) fn take_records(certificates: &[Certificate], buffer: &[u8], rows: &mut [u64]) -> Stop
-    ensures { λ r. ⌜ (length (now (rows .entry)) ≡ «all-numbers» → Taken (now (certificates .entry)) (now (buffer .entry)) r (now (rows .exit))) ⌝ }
+    ensures { λ r. ⌜ (length (now (rows .entry)) ≡ «all-numbers» → TakenFrom certificates buffer r (now (rows .exit))) ⌝ }
 {
     let count = certificates.len();
     let all = how_many(count);

@@ -17,21 +17,15 @@ use procap::procap::Request;
 use procap::time::LATEST_SECOND;
 use steps::MOST_PROOF_LEVELS;
 ghost use mathlib.Core.Path.{_≡_};
-ghost use mathlib.Core.List.{List};
-ghost use Prim.Native.Nat.{ℕ};
-ghost use lib.ListN.{length};
 ghost use Rattle.procap.specs.Procaps.{«empty-procap»};
 ghost use Rattle.procap.specs.Outcome.{«answer-of», «procap-handed», «or-else»};
-ghost use Rattle.bl.specs.Trees.{Check};
-ghost use Rattle.bl.specs.declared.Certificate.{Certificate};
-ghost use Rattle.bl.specs.Certificates.{Statement, statements};
 ghost use Rattle.bl.specs.Steps.{«proof-in»};
 ghost use Rattle.bl.specs.Rules.{goal};
-ghost use Rattle.bl.specs.Calls.{verified, directly, «read-case», issue};
+ghost use Rattle.bl.specs.Calls.{issue};
 ghost use Rattle.ledger.specs.Books.{book, Sound, «kept-of»};
 ghost use Rattle.formula.specs.PutIn.{«no-terms»};
 ghost use Rattle.formula.specs.Meaning.{Means};
-ghost use Rattle.verifier.specs.Verifying.{Taken, Walked, Stops, CaseReads, HandsOver, «verified-case», «checked-case»};
+ghost use Rattle.verifier.specs.Verifying.{WalkedOver, Stops, CaseStops, OnceRead, OnceTaken, HandsOver, «verified-over», «directly-over», «verified-case», «checked-case»};
 
 // How many bytes the goal of a request takes.
 pub const GOAL_BYTES: usize = 17;
@@ -49,8 +43,8 @@ pub fn verify(
     buffer: &[u8],
     proof: &[u8],
 ) -> Verified
-    ensures answer { λ r. ⌜ r .answer ≡ «answer-of» (verified request (now (certificates .entry)) (now (buffer .entry)) (now (proof .entry))) ⌝ }
-    ensures procap { λ r. ⌜ r .procap ≡ «procap-handed» (verified request (now (certificates .entry)) (now (buffer .entry)) (now (proof .entry))) ⌝ }
+    ensures answer { λ r. ⌜ r .answer ≡ «answer-of» («verified-over» request (now (certificates .entry)) buffer proof) ⌝ }
+    ensures procap { λ r. ⌜ r .procap ≡ «procap-handed» («verified-over» request (now (certificates .entry)) buffer proof) ⌝ }
 {
     let mut rows = [0u64; ALL_NUMBERS];
     let stop = take_records(certificates, buffer, &mut rows);
@@ -66,7 +60,7 @@ fn verify_taken(
     buffer: &[u8],
     proof: &[u8],
 ) -> Verified
-    ensures { λ r. ⌜ ((records : List Certificate) → length records ≡ certificates → Taken records (now (buffer .entry)) stop (now (rows .entry)) → HandsOver (verified request records (now (buffer .entry)) (now (proof .entry))) r) ⌝ }
+    ensures { λ r. ⌜ OnceTaken stop certificates rows buffer (λ records. HandsOver («verified-over» request records buffer proof) r) ⌝ }
 {
     match malformed(stop, proof, certificates) {
         Stop::Stopped(answer) => refused(answer),
@@ -76,7 +70,7 @@ fn verify_taken(
 
 // What verify answers to certificates and a proof that are well formed.
 fn verify_case(request: Request, rows: &[u64], buffer: &[u8], proof: &[u8]) -> Verified
-    ensures { λ r. ⌜ ((cs : List Statement) (N : Check) → CaseReads (now (rows .entry)) (now (buffer .entry)) (now (proof .entry)) cs N → HandsOver («verified-case» request cs N) r) ⌝ }
+    ensures { λ r. ⌜ OnceRead rows buffer proof (λ cs N. HandsOver («verified-case» request cs N) r) ⌝ }
 {
     let mut facts = [0u64; LIST_NUMBERS];
     let ledger = walked(
@@ -127,7 +121,7 @@ pub fn direct(
     moment: u64,
     state: &[u8],
 ) -> Answer
-    ensures { λ r. ⌜ r ≡ «answer-of» (directly request (now (certificates .entry)) (now (buffer .entry)) (now (proof .entry)) moment (now (state .entry))) ⌝ }
+    ensures { λ r. ⌜ r ≡ «answer-of» («directly-over» request (now (certificates .entry)) buffer proof moment state) ⌝ }
 {
     let mut rows = [0u64; ALL_NUMBERS];
     let stop = take_records(certificates, buffer, &mut rows);
@@ -154,7 +148,7 @@ fn direct_taken(
     moment: u64,
     state: &[u8],
 ) -> Answer
-    ensures { λ r. ⌜ ((records : List Certificate) → length records ≡ certificates → Taken records (now (buffer .entry)) stop (now (rows .entry)) → r ≡ «answer-of» (directly request records (now (buffer .entry)) (now (proof .entry)) moment (now (state .entry)))) ⌝ }
+    ensures { λ r. ⌜ OnceTaken stop certificates rows buffer (λ rs. r ≡ «answer-of» («directly-over» request rs buffer proof moment state)) ⌝ }
 {
     match malformed(stop, proof, certificates) {
         Stop::Stopped(answer) => answer,
@@ -171,7 +165,7 @@ fn check_case(
     moment: u64,
     state: &[u8],
 ) -> Answer
-    ensures { λ r. ⌜ ((cs : List Statement) (N : Check) → CaseReads (now (rows .entry)) (now (buffer .entry)) (now (proof .entry)) cs N → r ≡ «answer-of» («checked-case» request cs N moment (now (state .entry)))) ⌝ }
+    ensures { λ r. ⌜ OnceRead rows buffer proof (λ cs N. r ≡ «answer-of» («checked-case» request cs N moment (now (state .entry)))) ⌝ }
 {
     if LATEST_SECOND < moment {
         return Answer::MomentAboveLatest;
@@ -198,7 +192,7 @@ fn check_case(
 
 // Whether to go on: what is malformed stops, the records, of which there are so many, before the proof.
 fn malformed(stop: Stop, proof: &[u8], certificates: usize) -> Stop
-    ensures { λ r. ⌜ ((records : List Certificate) (buffer : List ℕ) → length records ≡ certificates → Stops (statements buffer records) stop → Stops («read-case» records buffer (now (proof .entry))) r) ⌝ }
+    ensures { λ r. ⌜ CaseStops stop proof certificates r ⌝ }
 {
     match stop {
         Stop::Stopped(answer) => Stop::Stopped(answer),
@@ -227,7 +221,7 @@ fn walked(
     facts: &mut [u64],
     reading: Reading,
 ) -> Ledger
-    ensures { λ r. ⌜ Walked request (now (buffer .entry)) (now (proof .entry)) (now (state .entry)) (now (certificates .entry)) reading (now (facts .entry)) r (now (facts .exit)) ⌝ }
+    ensures { λ r. ⌜ WalkedOver request buffer proof state certificates facts reading r ⌝ }
 {
     let bytes = goal_of(request);
     let goal = Judgement::front_on_ctime();
