@@ -9,9 +9,10 @@ use Rattle.procap.specs.declared.time.Time.{Time}
 use Rattle.procap.specs.declared.fact.Term.{Term}
 use Rattle.procap.specs.declared.fact.Term.the-variants.{Name, When}
 use Rattle.bl.specs.Trees.{Place, fixed, Sort, Formula, top, and, implies, all, says, at, fact, order, put}
-use Rattle.bl.specs.Questions.{Walk, done, misfit, _>>=_, ask-order, ask-fact, need, need-equal}
+use Rattle.bl.specs.Questions.{Walk, done, misfit, _>>=_, ask-order, ask-fact, need}
 use Rattle.bl.specs.Kinds.{as-name, as-time, as-terms, as-top, as-and, as-implies, as-all, as-says, as-at, as-fact, as-order}
-use Rattle.bl.specs.Walk.{need-view, need-sort}
+use Rattle.bl.specs.Rules.{InView}
+use Rattle.bl.specs.Walk.{in-view?, need-view, need-sort}
 use Rattle.judging.specs.declared.judge.View.{View}
 use Rattle.judging.specs.declared.judge.View.the-variants.{NoView, ViewOf}
 use Rattle.judging.specs.Judging.{view-in, and-sides, implies-sides, at-parts, says-parts, top-goal, fact-goal, order-goal, put-in}
@@ -22,15 +23,15 @@ module _ (q : ℕ) where
 
   -- The view of the principal, of another, of none.
   pub own-view : (v : View) (j k : ℕ) → v ≡ ViewOf j → j ≡ k → need-view q (view-in v) k ≡ done tt
-  unfolding need-view view-in need-equal
+  unfolding need-view in-view? InView view-in
   own-view v j k e f = rw e (if-pos (ℕ-discrete j k) f (done tt) (misfit q))
 
   pub other-view : (v : View) (j k : ℕ) → v ≡ ViewOf j → (j ≡ k → ⊥) → need-view q (view-in v) k ≡ misfit q
-  unfolding need-view view-in need-equal
+  unfolding need-view in-view? InView view-in
   other-view v j k e n = rw e (if-neg (ℕ-discrete j k) n (done tt) (misfit q))
 
   pub no-view : (v : View) (k : ℕ) → v ≡ NoView → need-view q (view-in v) k ≡ misfit q
-  unfolding need-view view-in
+  unfolding need-view in-view? InView view-in
   no-view v k e = rw e
 
   -- ── What must be there ──

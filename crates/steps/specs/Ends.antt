@@ -11,7 +11,7 @@ use Rattle.procap.specs.declared.fact.Term.{Term}
 use Rattle.procap.specs.declared.fact.Term.the-variants.{Name, When}
 use Rattle.bl.specs.Trees.{Infer, local, certificate, first, second, apply, instance, Check, pair, trivial, at-in, at-out, says-in, says-out, state, compare, inferred, offset}
 use Rattle.bl.specs.Steps.{proof-in}
-use Rattle.steps.specs.Lent.{Lent}
+use Rattle.procap.specs.Lent.{Lent}
 
 -- ── How many bytes a step takes ──
 

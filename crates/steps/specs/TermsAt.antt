@@ -6,7 +6,7 @@ use Rattle.procap.specs.Bytes.{term}
 use Rattle.procap.specs.declared.fact.Term.{Term}
 use Rattle.procap.specs.declared.time.Time.{Time}
 use Rattle.bl.specs.Steps.{time}
-use Rattle.steps.specs.Lent.{Lent}
+use Rattle.procap.specs.Lent.{Lent}
 use Rattle.steps.specs.declared.TermAt.{TermAt}
 use Rattle.steps.specs.declared.TimeAt.{TimeAt}
 

@@ -12,7 +12,7 @@ use Rattle.bl.specs.declared.CheckTag.{CheckTag}
 use Rattle.bl.specs.declared.CheckTag.the-variants.{PairTag, TopStepTag, AtInTag, AtOutTag, SaysInTag, SaysOutTag, StateTag, OrderStepTag, InferredTag, NoCheckTag}
 use Rattle.bl.specs.Tags.{infer-tag, check-tag}
 use Rattle.bl.specs.Steps.{most-proof-levels, time}
-use Rattle.steps.specs.Lent.{Lent}
+use Rattle.procap.specs.Lent.{Lent}
 use Rattle.steps.specs.Ends.{slot}
 use Rattle.steps.specs.declared.todo.Todo.{Todo}
 use Rattle.steps.specs.declared.todo.Todo.the-variants.{Times, Inferring, Checking, Second}

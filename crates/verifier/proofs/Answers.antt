@@ -36,6 +36,7 @@ use Rattle.verifier.specs.declared.verify.Verified.{Verified}
 use Rattle.ledger.specs.Books.{OnClock, stop-of, Book, book, list-numbers, Sound, facts-in, kept-of, facts-said, reading-of, resume}
 use Rattle.ledger.proofs.Giving.{stop-refused, stop-going}
 use Rattle.verifier.specs.Verifying.{Taken, Walked, Stops, CaseReads, verified-case, checked-case, HandsOver}
+use Rattle.steps.specs.Ends.{ToldChecking}
 use Rattle.verifier.proofs.CertificateLaws.{statements-count}
 
 -- ── Outcomes that are handed over ──
@@ -104,11 +105,15 @@ module _ (records : List Certificate) (buffer proof : List ℕ) where
 -- ── The calls ──
 
 module _ (r : Request) (records : List Certificate) (buffer proof : List ℕ) {stop : Stop} {rows : List ℕ} (taken : Taken records buffer stop rows) where
+  -- What the table has, where the proof reads over the records.
+  abbrev TellsEnds : List ℕ → Type 0
+  TellsEnds ends = (N : Check) → proof-in (length records) proof ≡ some N → ToldChecking ends N
+
   -- A case that reads, once its records are taken.
-  reads-so : (x : List Statement × Check) → read-case records buffer proof ≡ granted x → CaseReads rows buffer proof (x .0) (x .1)
-  reads-so x e =
+  reads-so : (ends : List ℕ) → TellsEnds ends → (x : List Statement × Check) → read-case records buffer proof ≡ granted x → CaseReads rows ends buffer proof (x .0) (x .1)
+  reads-so ends told x e =
       case-read r records buffer proof (x .0) (x .1) e
-      (λ e₁ e₂. record { certified = taken .rows-are (x .0) e₁; proof-reads = rw (statements-count buffer records (x .0) e₁) e₂ })
+      (λ e₁ e₂. record { certified = taken .rows-are (x .0) e₁; proof-reads = rw (statements-count buffer records (x .0) e₁) e₂; told = told (x .1) e₂ })
 
   module _ (v : Verified) where
     abbrev Answered : Type 0
@@ -118,21 +123,21 @@ module _ (r : Request) (records : List Certificate) (buffer proof : List ℕ) {s
     unfolding verified
     verify-stops answer e f = hands-refusal _ answer v (refused-on _ _ answer e) f
 
-    pub verify-goes-on : (x : List Statement × Check) → read-case records buffer proof ≡ granted x
-        → ((cs : List Statement) (N : Check) → CaseReads rows buffer proof cs N → HandsOver (verified-case r cs N) v) → Answered
+    pub verify-goes-on : {ends : List ℕ} → TellsEnds ends → (x : List Statement × Check) → read-case records buffer proof ≡ granted x
+        → ((cs : List Statement) (N : Check) → CaseReads rows ends buffer proof cs N → HandsOver (verified-case r cs N) v) → Answered
     unfolding verified verified-case
-    verify-goes-on x e k = rw (goes-on (read-case records buffer proof) (λ y. verified-case r (y .0) (y .1)) x e) (k (x .0) (x .1) (reads-so x e))
+    verify-goes-on {ends} told x e k = rw (goes-on (read-case records buffer proof) (λ y. verified-case r (y .0) (y .1)) x e) (k (x .0) (x .1) (reads-so ends told x e))
 
   module _ (m : ℕ) (state : List ℕ) (a : Answer) where
     pub direct-stops : read-case records buffer proof ≡ refused a → a ≡ answer-of (directly r records buffer proof m state)
     unfolding directly checked-case answer-of
     direct-stops e = sym (ap answer-of (refused-on (read-case records buffer proof) (λ y. checked-case r (y .0) (y .1) m state) a e))
 
-    pub direct-goes-on : (x : List Statement × Check) → read-case records buffer proof ≡ granted x
-        → ((cs : List Statement) (N : Check) → CaseReads rows buffer proof cs N → a ≡ answer-of (checked-case r cs N m state))
+    pub direct-goes-on : {ends : List ℕ} → TellsEnds ends → (x : List Statement × Check) → read-case records buffer proof ≡ granted x
+        → ((cs : List Statement) (N : Check) → CaseReads rows ends buffer proof cs N → a ≡ answer-of (checked-case r cs N m state))
         → a ≡ answer-of (directly r records buffer proof m state)
     unfolding directly checked-case
-    direct-goes-on x e k = k (x .0) (x .1) (reads-so x e) ∙ sym (ap answer-of (goes-on (read-case records buffer proof) (λ y. checked-case r (y .0) (y .1) m state) x e))
+    direct-goes-on {ends} told x e k = k (x .0) (x .1) (reads-so ends told x e) ∙ sym (ap answer-of (goes-on (read-case records buffer proof) (λ y. checked-case r (y .0) (y .1) m state) x e))
 
 -- ── The walk's end ──
 
@@ -145,11 +150,11 @@ resume-going : (state : List ℕ) (b : Book) → stop-of (b .ledger) ≡ Going �
 unfolding resume run
 resume-going state b e = stop-going _ _ e
 
-module _ (r : Request) (buffer proof state rows : List ℕ) (reading : Reading) (list : List ℕ) (l : Ledger) (list′ : List ℕ)
-    (on-clock : OnClock reading) (room : length list ≡ list-numbers) (walked : Walked r buffer proof state rows reading list l list′)
-    (cs : List Statement) (N : Check) (reads : CaseReads rows buffer proof cs N) where
+module _ (r : Request) (buffer proof state rows ends : List ℕ) (reading : Reading) (list : List ℕ) (l : Ledger) (list′ : List ℕ)
+    (on-clock : OnClock reading) (room : length list ≡ list-numbers) (walked : Walked (record { request = r; reading = reading }) buffer proof state rows ends list l list′)
+    (cs : List Statement) (N : Check) (reads : CaseReads rows ends buffer proof cs N) where
   came : Sound (book l list′) × (resume state (book l list′) (done (tt {0})) ≡ run (reading-of state reading) (walk r cs N) start)
-  came = walked cs N on-clock room (reads .certified) (reads .proof-reads)
+  came = walked cs N on-clock room reads
 
   walk-stopped : (answer : Answer) → stop-of l ≡ Stopped answer → run (reading-of state reading) (walk r cs N) start ≡ refused answer
   walk-stopped answer e = sym (came .1) ∙ resume-stopped state (book l list′) answer e

@@ -22,14 +22,14 @@ use Rattle.ledger.specs.declared.Ledger.{Ledger}
 use Rattle.judging.specs.declared.judge.Scope.{Scope}
 use Rattle.judging.specs.declared.judge.View.the-variants.{NoView}
 use Rattle.formula.specs.declared.parts.Judgement.{Judgement}
-use Rattle.judging.specs.declared.walk.Checked.{Checked}
+use Rattle.judging.specs.declared.judge.Checked.{Checked}
 use Rattle.ledger.proofs.Stopping.{at-press}
 use Rattle.ledger.specs.Books.{OnClock, begun, stop-by, reading-by, book, list-numbers, Sound, HasRoom, facts-in, kept-of, reading-of, unless-stopped, resume}
 use Rattle.formula.specs.PutIn.{no-terms}
 use Rattle.formula.specs.Meaning.{Means}
 use Rattle.judging.specs.RowsOf.{Assumed, all-numbers}
 use Rattle.judging.specs.Judging.{view-in}
-use Rattle.judging.specs.Walking.{Around, Checks}
+use Rattle.walk.specs.Walking.{Sources, Around, ChecksAt}
 use Rattle.verifier.specs.Verifying.{Walked}
 
 -- The ledger at the start is sound.
@@ -61,23 +61,23 @@ outermost = record { count = 0; shut = 0; view = NoView }
 abbrev goal-on-ctime : Judgement
 goal-on-ctime = record { formula = record { at = 0; terms = no-terms }; from = time-numbers Ctime; to = time-numbers Ctime }
 
-walk-of-goal : (r : Request) (buffer proof state rows assumptions goal-bytes : List ℕ) (reading : Reading) (list : List ℕ) (c : Checked) (list′ : List ℕ)
+walk-of-goal : (r : Request) (S : Sources) (assumptions goal-bytes : List ℕ) (reading : Reading) (list : List ℕ) (c : Checked) (list′ : List ℕ)
     → length assumptions ≡ all-numbers
     → Means goal-bytes 0 (record { at = 0; terms = no-terms }) (goal r)
-    → Checks buffer proof state rows assumptions outermost (begun reading) list most-proof-levels goal-bytes goal-on-ctime 0 c list′
-    → Walked r buffer proof state rows reading list (c .ledger) list′
+    → ChecksAt S assumptions outermost (begun reading) list most-proof-levels goal-bytes goal-on-ctime 0 c list′
+    → Walked (record { request = r; reading = reading }) (S .buffer) (S .proof) (S .state) (S .certificates) (S .ends) list (c .ledger) list′
 unfolding Assumed walk view-in time-of
-walk-of-goal r buffer proof state rows assumptions goal-bytes reading list c list′ all-there means checks cs N on-clock room certified reads =
-    let around : Around buffer rows assumptions outermost most-proof-levels cs [] = record { certified = certified; assumed = tt; shut-inside = omega arith; room = omega arith; all-there = all-there } in
-    let passes = checks cs [] N (length proof) (begun-sound reading list room) around (proof-step (length cs) proof N reads) (goal r) means in
-    (passes .gives .sound, passes .gives .resumed (begun-room reading list proof r cs N reads) ∙ begun-resumes state list reading r cs N)
+walk-of-goal r S assumptions goal-bytes reading list c list′ all-there means checks cs N on-clock room reads =
+    let around : Around S assumptions outermost most-proof-levels cs [] = record { certified = reads .certified; assumed = tt; shut-inside = omega arith; room = omega arith; all-there = all-there } in
+    let passes = checks cs [] N (length (S .proof)) (begun-sound reading list room) around (proof-step (length cs) (S .proof) N (reads .proof-reads)) (reads .told) (goal r) means in
+    (passes .gives .sound, passes .gives .resumed (begun-room reading list (S .proof) r cs N (reads .proof-reads)) ∙ begun-resumes (S .state) list reading r cs N)
 
 -- So the walk from the goal of a request, with the ledger at its start, is the walk of the proof.
-pub walk-of-request : (r : Request) (buffer proof state rows assumptions goal-bytes : List ℕ) (reading : Reading) (list : List ℕ) (c : Checked) (list′ : List ℕ) (l : Ledger) (j : Judgement)
+pub walk-of-request : (r : Request) (S : Sources) (assumptions goal-bytes : List ℕ) (reading : Reading) (list : List ℕ) (c : Checked) (list′ : List ℕ) (l : Ledger) (j : Judgement)
     → (OnClock reading → l ≡ begun reading) → j ≡ goal-on-ctime
     → length assumptions ≡ all-numbers
     → Means goal-bytes 0 (record { at = 0; terms = no-terms }) (goal r)
-    → Checks buffer proof state rows assumptions outermost l list most-proof-levels goal-bytes j 0 c list′
-    → Walked r buffer proof state rows reading list (c .ledger) list′
-walk-of-request r buffer proof state rows assumptions goal-bytes reading list c list′ l j is-begun is-goal all-there means checks cs N on-clock =
-    walk-of-goal r buffer proof state rows assumptions goal-bytes reading list c list′ all-there means (rw (is-begun on-clock, is-goal) at checks) cs N on-clock
+    → ChecksAt S assumptions outermost l list most-proof-levels goal-bytes j 0 c list′
+    → Walked (record { request = r; reading = reading }) (S .buffer) (S .proof) (S .state) (S .certificates) (S .ends) list (c .ledger) list′
+walk-of-request r S assumptions goal-bytes reading list c list′ l j is-begun is-goal all-there means checks cs N on-clock =
+    walk-of-goal r S assumptions goal-bytes reading list c list′ all-there means (rw (is-begun on-clock, is-goal) at checks) cs N on-clock

@@ -6,6 +6,7 @@ use mathlib.Core.Option.{some}
 use lib.ListN.{length, getD}
 use denote.Ref.{RefT}
 use denote.Triple.Both.{Both}
+use Rattle.procap.specs.Lent.{Lent}
 use Rattle.procap.specs.Desk.{read-press}
 use Rattle.procap.specs.Numbered.{time-numbers}
 use Rattle.procap.specs.Outcome.{Outcome, granted, refused, go-on, answer-of, procap-handed}
@@ -20,10 +21,11 @@ use Rattle.bl.specs.Steps.{proof-in}
 use Rattle.bl.specs.Readings.{start, office, press, run}
 use Rattle.bl.specs.Walk.{walk}
 use Rattle.bl.specs.Calls.{read-case, issue, verified, directly}
-use Rattle.ledger.specs.declared.Reading.{Reading}
 use Rattle.ledger.specs.declared.Stop.{Stop}
 use Rattle.ledger.specs.declared.Stop.the-variants.{Going, Stopped}
 use Rattle.verifier.specs.declared.verify.Verified.{Verified}
+use Rattle.verifier.specs.declared.verify.Asked.{Asked}
+use Rattle.steps.specs.Ends.{ToldChecking, EndsTold}
 use Rattle.ledger.specs.declared.Ledger.{Ledger}
 use Rattle.ledger.specs.Books.{OnClock, book, list-numbers, Sound, reading-of, resume}
 use Rattle.judging.specs.declared.rows.Row.{Row}
@@ -31,10 +33,7 @@ use Rattle.judging.specs.declared.rows.Whose.the-variants.{Claim}
 use Rattle.formula.specs.PutIn.{no-terms}
 use Rattle.judging.specs.RowsOf.{row-in, all-numbers, Certified}
 
--- Lent numbers and lent records, as a contract names them: on entry and at the exit.
-abbrev pub Numbers : Type 0
-Numbers = Both (RefT (List ℕ)) (RefT (List ℕ))
-
+-- Lent records, as a contract names them: on entry and at the exit.
 abbrev pub Records : Type 0
 Records = Both (RefT (List Certificate)) (RefT (List Certificate))
 
@@ -53,33 +52,39 @@ row-of c = record {
 abbrev pub WellFormedRecord : List ℕ → Certificate → Type 0
 WellFormedRecord buffer c = (s : Statement) × (statement-of buffer c ≡ some s)
 
+-- The rows are the certificates cs, the proof reads over them, and the table has where the second part of each 26 ends.
+pub record CaseReads (rows ends buffer proof : List ℕ) (cs : List Statement) (N : Check) : Type 0 where
+  pub certified : Certified buffer rows cs
+  pub proof-reads : proof-in (length cs) proof ≡ some N
+  pub told : ToldChecking ends N
+
 -- The ledger and the list at the end are what the walk of the proof comes to.
-abbrev pub Walked : Request → List ℕ → List ℕ → List ℕ → List ℕ → Reading → List ℕ → Ledger → List ℕ → Type 0
-Walked r buffer proof state rows reading list l list′ =
-    (cs : List Statement) (N : Check) → OnClock reading → length list ≡ list-numbers → Certified buffer rows cs → proof-in (length cs) proof ≡ some N
-    → Sound (book l list′) × (resume state (book l list′) (done (tt {0})) ≡ run (reading-of state reading) (walk r cs N) start)
+abbrev pub Walked : Asked → List ℕ → List ℕ → List ℕ → List ℕ → List ℕ → List ℕ → Ledger → List ℕ → Type 0
+Walked asked buffer proof state rows ends list l list′ =
+    (cs : List Statement) (N : Check) → OnClock (asked .reading) → length list ≡ list-numbers → CaseReads rows ends buffer proof cs N
+    → Sound (book l list′) × (resume state (book l list′) (done (tt {0})) ≡ run (reading-of state (asked .reading)) (walk (asked .request) cs N) start)
 
 -- The same of what is lent, where r is the ledger at the end.
-abbrev pub WalkedOver : Request → Numbers → Numbers → Numbers → Numbers → Numbers → Reading → Ledger → Type 0
-WalkedOver request buffer proof state rows facts reading r =
-    Walked request (buffer .entry .now) (proof .entry .now) (state .entry .now) (rows .entry .now) reading (facts .entry .now) r (facts .exit .now)
+abbrev pub WalkedOver : Asked → Lent → Lent → Lent → Lent → Lent → Lent → Ledger → Type 0
+WalkedOver asked buffer proof state rows ends facts r =
+    Walked asked (buffer .entry .now) (proof .entry .now) (state .entry .now) (rows .entry .now) (ends .entry .now) (facts .entry .now) r (facts .exit .now)
 
 -- An outcome goes on with a value, or is stopped by its answer.
 abbrev pub Stops : {A : Type 0} → Outcome A → Stop → Type 0
 Stops {A} o Going = (a : A) × (o ≡ granted a)
 Stops o (Stopped answer) = o ≡ refused answer
 
--- The rows are the certificates cs, and the proof reads over them.
-pub record CaseReads (rows buffer proof : List ℕ) (cs : List Statement) (N : Check) : Type 0 where
-  pub certified : Certified buffer rows cs
-  pub proof-reads : proof-in (length cs) proof ≡ some N
-
 -- What is so of whatever certificates the rows are, with the proof that reads over them.
-abbrev pub OnceRead : Numbers → Numbers → Numbers → (List Statement → Check → Type 0) → Type 0
-OnceRead rows buffer proof P = (cs : List Statement) (N : Check) → CaseReads (rows .entry .now) (buffer .entry .now) (proof .entry .now) cs N → P cs N
+abbrev pub OnceRead : Lent → Lent → Lent → Lent → (List Statement → Check → Type 0) → Type 0
+OnceRead rows ends buffer proof P =
+    (cs : List Statement) (N : Check) → CaseReads (rows .entry .now) (ends .entry .now) (buffer .entry .now) (proof .entry .now) cs N → P cs N
+
+-- Where nothing stopped, the table has where the second part of each 26 ends.
+abbrev pub ToldUnlessStopped : Lent → ℕ → Lent → Stop → Type 0
+ToldUnlessStopped proof n ends r = r ≡ Going → EndsTold proof n ends
 
 -- Where `stop` is what so many records come to, r is what they and the proof come to.
-abbrev pub CaseStops : Stop → Numbers → ℕ → Stop → Type 0
+abbrev pub CaseStops : Stop → Lent → ℕ → Stop → Type 0
 CaseStops stop proof n r =
     (records : List Certificate) (buffer : List ℕ) → length records ≡ n → Stops (statements buffer records) stop → Stops (read-case records buffer (proof .entry .now)) r
 
@@ -106,18 +111,18 @@ pub record Taken (records : List Certificate) (buffer : List ℕ) (stop : Stop) 
   pub rows-are : (cs : List Statement) → statements buffer records ≡ granted cs → Certified buffer rows cs
 
 -- The same of what is lent.
-abbrev pub TakenFrom : Records → Numbers → Stop → List ℕ → Type 0
+abbrev pub TakenFrom : Records → Lent → Stop → List ℕ → Type 0
 TakenFrom certificates buffer stop rows = Taken (certificates .entry .now) (buffer .entry .now) stop rows
 
 -- What is so of whatever records are so many and are taken.
-abbrev pub OnceTaken : Stop → ℕ → Numbers → Numbers → (List Certificate → Type 0) → Type 0
+abbrev pub OnceTaken : Stop → ℕ → Lent → Lent → (List Certificate → Type 0) → Type 0
 OnceTaken stop n rows buffer P = (records : List Certificate) → length records ≡ n → Taken records (buffer .entry .now) stop (rows .entry .now) → P records
 
 -- What verify and the direct check come to for some records, over what is lent.
-abbrev pub verified-over : Request → List Certificate → Numbers → Numbers → Outcome Procap
+abbrev pub verified-over : Request → List Certificate → Lent → Lent → Outcome Procap
 verified-over request records buffer proof = verified request records (buffer .entry .now) (proof .entry .now)
 
-abbrev pub directly-over : Request → List Certificate → Numbers → Numbers → ℕ → Numbers → Outcome (Unit {0})
+abbrev pub directly-over : Request → List Certificate → Lent → Lent → ℕ → Lent → Outcome (Unit {0})
 directly-over request records buffer proof moment state = directly request records (buffer .entry .now) (proof .entry .now) moment (state .entry .now)
 
 -- What verify comes to from there on.

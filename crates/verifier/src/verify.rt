@@ -5,7 +5,6 @@ use formula::parts::Judgement;
 use judging::judge::Scope;
 use judging::judge::View;
 use judging::rows::ALL_NUMBERS;
-use judging::walk::check;
 use ledger::LIST_NUMBERS;
 use ledger::Ledger;
 use ledger::Reading;
@@ -16,6 +15,10 @@ use procap::procap::Procap;
 use procap::procap::Request;
 use procap::time::LATEST_SECOND;
 use steps::MOST_PROOF_LEVELS;
+use steps::ends::MOST_ENDS;
+use steps::well_formed;
+use walk::Here;
+use walk::check;
 ghost use mathlib.Core.Path.{_≡_};
 ghost use Rattle.procap.specs.Procaps.{«empty-procap»};
 ghost use Rattle.procap.specs.Outcome.{«answer-of», «procap-handed», «or-else»};
@@ -25,7 +28,8 @@ ghost use Rattle.bl.specs.Calls.{issue};
 ghost use Rattle.ledger.specs.Books.{book, Sound, «kept-of»};
 ghost use Rattle.formula.specs.PutIn.{«no-terms»};
 ghost use Rattle.formula.specs.Meaning.{Means};
-ghost use Rattle.verifier.specs.Verifying.{WalkedOver, Stops, CaseStops, OnceRead, OnceTaken, HandsOver, «verified-over», «directly-over», «verified-case», «checked-case»};
+ghost use Rattle.steps.specs.Ends.{EndsTold};
+ghost use Rattle.verifier.specs.Verifying.{WalkedOver, Stops, CaseStops, OnceRead, OnceTaken, HandsOver, «verified-over», «directly-over», «verified-case», «checked-case», ToldUnlessStopped};
 
 // How many bytes the goal of a request takes.
 pub const GOAL_BYTES: usize = 17;
@@ -34,6 +38,12 @@ pub const GOAL_BYTES: usize = 17;
 pub struct Verified {
     pub answer: Answer,
     pub procap: Procap,
+}
+
+// What is asked of a proof: whether it shows a request, at the office or at a press.
+struct Asked {
+    pub request: Request,
+    pub reading: Reading,
 }
 
 // Whether the proof shows the request from the certificates, and the procap for it.
@@ -62,26 +72,29 @@ fn verify_taken(
 ) -> Verified
     ensures { λ r. ⌜ OnceTaken stop certificates rows buffer (λ records. HandsOver («verified-over» request records buffer proof) r) ⌝ }
 {
-    match malformed(stop, proof, certificates) {
+    let mut ends = [0u16; MOST_ENDS];
+    match malformed(stop, proof, certificates, &mut ends) {
         Stop::Stopped(answer) => refused(answer),
-        Stop::Going => verify_case(request, rows, buffer, proof),
+        Stop::Going => verify_case(request, rows, &ends, buffer, proof),
     }
 }
 
 // What verify answers to certificates and a proof that are well formed.
-fn verify_case(request: Request, rows: &[u64], buffer: &[u8], proof: &[u8]) -> Verified
-    ensures { λ r. ⌜ OnceRead rows buffer proof (λ cs N. HandsOver («verified-case» request cs N) r) ⌝ }
+fn verify_case(
+    request: Request,
+    rows: &[u64],
+    ends: &[u16],
+    buffer: &[u8],
+    proof: &[u8],
+) -> Verified
+    ensures { λ r. ⌜ OnceRead rows ends buffer proof (λ cs N. HandsOver («verified-case» request cs N) r) ⌝ }
 {
     let mut facts = [0u64; LIST_NUMBERS];
-    let ledger = walked(
-        request,
-        buffer,
-        proof,
-        b"",
-        rows,
-        &mut facts,
-        Reading::Office,
-    );
+    let asked = Asked {
+        request: request,
+        reading: Reading::Office,
+    };
+    let ledger = walked(asked, buffer, proof, b"", rows, ends, &mut facts);
     let stop = ledger.stop();
     match stop {
         Stop::Stopped(answer) => refused(answer),
@@ -150,9 +163,10 @@ fn direct_taken(
 ) -> Answer
     ensures { λ r. ⌜ OnceTaken stop certificates rows buffer (λ rs. r ≡ «answer-of» («directly-over» request rs buffer proof moment state)) ⌝ }
 {
-    match malformed(stop, proof, certificates) {
+    let mut ends = [0u16; MOST_ENDS];
+    match malformed(stop, proof, certificates, &mut ends) {
         Stop::Stopped(answer) => answer,
-        Stop::Going => check_case(request, rows, buffer, proof, moment, state),
+        Stop::Going => check_case(request, rows, &ends, buffer, proof, moment, state),
     }
 }
 
@@ -160,12 +174,13 @@ fn direct_taken(
 fn check_case(
     request: Request,
     rows: &[u64],
+    ends: &[u16],
     buffer: &[u8],
     proof: &[u8],
     moment: u64,
     state: &[u8],
 ) -> Answer
-    ensures { λ r. ⌜ OnceRead rows buffer proof (λ cs N. r ≡ «answer-of» («checked-case» request cs N moment (now (state .entry)))) ⌝ }
+    ensures { λ r. ⌜ OnceRead rows ends buffer proof (λ cs N. r ≡ «answer-of» («checked-case» request cs N moment (now (state .entry)))) ⌝ }
 {
     if LATEST_SECOND < moment {
         return Answer::MomentAboveLatest;
@@ -174,15 +189,11 @@ fn check_case(
         return Answer::StateMalformed;
     }
     let mut facts = [0u64; LIST_NUMBERS];
-    let ledger = walked(
-        request,
-        buffer,
-        proof,
-        state,
-        rows,
-        &mut facts,
-        Reading::Press(moment),
-    );
+    let asked = Asked {
+        request: request,
+        reading: Reading::Press(moment),
+    };
+    let ledger = walked(asked, buffer, proof, state, rows, ends, &mut facts);
     let stop = ledger.stop();
     match stop {
         Stop::Stopped(answer) => answer,
@@ -190,39 +201,43 @@ fn check_case(
     }
 }
 
-// Whether to go on: what is malformed stops, the records, of which there are so many, before the proof.
-fn malformed(stop: Stop, proof: &[u8], certificates: usize) -> Stop
-    ensures { λ r. ⌜ CaseStops stop proof certificates r ⌝ }
+// Whether to go on: what is malformed stops, the records, of which there are so many, before the proof. Where nothing does, the table has where the second part of each 26 ends.
+fn malformed(stop: Stop, proof: &[u8], certificates: usize, ends: &mut [u16]) -> Stop
+    ensures stops { λ r. ⌜ CaseStops stop proof certificates r ⌝ }
+    ensures told { λ r. ⌜ ToldUnlessStopped proof certificates ends r ⌝ }
 {
     match stop {
         Stop::Stopped(answer) => Stop::Stopped(answer),
-        Stop::Going => proof_malformed(proof, certificates),
+        Stop::Going => proof_malformed(proof, certificates, ends),
     }
 }
 
 // Whether to go on: a malformed proof stops.
-fn proof_malformed(proof: &[u8], certificates: usize) -> Stop
-    ensures { λ r. ⌜ Stops («or-else» Answer.ProofMalformed («proof-in» certificates (now (proof .entry)))) r ⌝ }
+fn proof_malformed(proof: &[u8], certificates: usize, ends: &mut [u16]) -> Stop
+    ensures stops { λ r. ⌜ Stops («or-else» Answer.ProofMalformed («proof-in» certificates (now (proof .entry)))) r ⌝ }
+    ensures told { λ _. ⌜ EndsTold proof certificates ends ⌝ }
 {
-    if steps::well_formed(proof, certificates) {
+    if well_formed(proof, certificates, ends) {
         Stop::Going
     } else {
         Stop::Stopped(Answer::ProofMalformed)
     }
 }
 
-// The ledger at the end of the walk for a request.
+// The ledger at the end of the walk for what is asked.
 fn walked(
-    request: Request,
+    asked: Asked,
     buffer: &[u8],
     proof: &[u8],
     state: &[u8],
     certificates: &[u64],
+    ends: &[u16],
     facts: &mut [u64],
-    reading: Reading,
 ) -> Ledger
-    ensures { λ r. ⌜ WalkedOver request buffer proof state certificates facts reading r ⌝ }
+    ensures { λ r. ⌜ WalkedOver asked buffer proof state certificates ends facts r ⌝ }
 {
+    let request = asked.request;
+    let reading = asked.reading;
     let bytes = goal_of(request);
     let goal = Judgement::front_on_ctime();
     let scope = Scope {
@@ -230,21 +245,24 @@ fn walked(
         shut: 0,
         view: View::NoView,
     };
+    let here = Here {
+        scope: scope,
+        at: 0,
+        ledger: Ledger::begin(reading),
+        left: MOST_PROOF_LEVELS,
+    };
     let mut assumptions = [0u64; ALL_NUMBERS];
-    let ledger = Ledger::begin(reading);
     let checked = check(
         buffer,
         proof,
         state,
         certificates,
+        ends,
         facts,
         &mut assumptions,
         &bytes,
-        scope,
         goal,
-        0,
-        ledger,
-        MOST_PROOF_LEVELS,
+        here,
     );
     checked.ledger
 }

@@ -39,7 +39,7 @@ use Rattle.formula.specs.Meaning.{from-of, to-of, Means, On}
 use Rattle.judging.specs.RowsOf.{RowIs, is-plain, is-claim, is-shut, most-rows, PutsRow}
 use Rattle.judging.specs.Judging.{view-in, scope-inside, and-then, sides, TwoSided, and-sides, inside, top-goal, fact-goal, order-goal, Passes}
 use Rattle.judging.specs.StepPromises.{TakesSides, TakesInside, TakesInsideInferred, StaysStopped, ChecksInferred}
-use Rattle.walk.specs.Walking.{Lent, Around, Keeps, InfersAt, InfersBy, ChecksAt, ChecksBy}
+use Rattle.walk.specs.Walking.{Sources, Around, Keeps, InfersAt, InfersBy, ChecksAt, ChecksBy}
 use Rattle.walk.specs.WalkCalls.{Puts, puts-at, puts-says, TakesOut, takes-at, takes-says}
 use Rattle.steps.proofs.StepsRead.{check-read, pair-read, trivial-read, state-read, compare-read, at-in-read, says-in-read, at-out-read, says-out-read, no-check-read, inferred-read, infer-read, begins-there}
 use Rattle.judging.proofs.StepWalks.{check-inside, pair-walk, trivial-walk, state-walk, compare-walk, at-in-walk, says-in-walk, at-out-walk, says-out-walk, inferred-walk}
@@ -157,180 +157,180 @@ take-read proof ends c n h q SaysOutTag SaysShell N e takes-says reads told =
 
 -- ── The steps ──
 
-module _ (L : Lent) (rows : List ℕ) (scope : Scope) (ledger : Ledger) (list goal-bytes : List ℕ) (goal : Judgement) where
+module _ (S : Sources) (rows : List ℕ) (scope : Scope) (ledger : Ledger) (list goal-bytes : List ℕ) (goal : Judgement) where
   -- The view of the steps here.
   abbrev view : View
   view = view-in (scope .view)
 
   -- The first test: is a level left?
-  pub check-none : (left at : ℕ) {r : Checked} {list′ : List ℕ} → left ≡ 0 → ChecksAt L rows scope ledger list left goal-bytes goal at r list′
-  check-none left at z cs Γ N e sound around reads told = absurd (no-check-step (L .proof) (length cs) left (scope .count) at N e z reads)
+  pub check-none : (left at : ℕ) {r : Checked} {list′ : List ℕ} → left ≡ 0 → ChecksAt S rows scope ledger list left goal-bytes goal at r list′
+  check-none left at z cs Γ N e sound around reads told = absurd (no-check-step (S .proof) (length cs) left (scope .count) at N e z reads)
 
   -- Then the step is read by its tag.
-  pub check-tagged : (left n at : ℕ) (tag : CheckTag) {r : Checked} {list′ : List ℕ} → left ≡ suc n → check-tag (getD (L .proof) at 0) ≡ tag → ChecksItself tag
-      → (at < length (L .proof) → ChecksBy L rows scope ledger list n tag goal-bytes goal at r list′)
-      → ChecksAt L rows scope ledger list left goal-bytes goal at r list′
+  pub check-tagged : (left n at : ℕ) (tag : CheckTag) {r : Checked} {list′ : List ℕ} → left ≡ suc n → check-tag (getD (S .proof) at 0) ≡ tag → ChecksItself tag
+      → (at < length (S .proof) → ChecksBy S rows scope ledger list n tag goal-bytes goal at r list′)
+      → ChecksAt S rows scope ledger list left goal-bytes goal at r list′
   check-tagged left n at tag more t own h cs Γ N e sound around reads =
-      let found = check-read (L .proof) (length cs) n (scope .count) at N e (rw more at reads) in
+      let found = check-read (S .proof) (length cs) n (scope .count) at N e (rw more at reads) in
       let reads′ = rw t at (found .1) in
-      let same = same-reader (L .proof) (length cs) (infer-step (L .proof) (length cs) n) (check-step (L .proof) (length cs) n) (scope .count) at (infer-tag (getD (L .proof) at 0)) tag own in
+      let same = same-reader (S .proof) (length cs) (infer-step (S .proof) (length cs) n) (check-step (S .proof) (length cs) n) (scope .count) at (infer-tag (getD (S .proof) at 0)) tag own in
       h (found .0) cs Γ N e sound (rw more at around) (rw same at reads′)
 
   -- An inferring step where one is checked.
-  pub check-inferred : (left n at : ℕ) → left ≡ suc n → check-tag (getD (L .proof) at 0) ≡ InferredTag
-      → {tag : InferTag} → tag ≡ infer-tag (getD (L .proof) at 0)
-      → {inferred : Inferred} {list′ : List ℕ} → InfersBy L rows scope ledger list n tag at inferred list′
-      → {r : Checked} → ChecksInferred (L .buffer) goal-bytes at inferred goal r
-      → ChecksAt L rows scope ledger list left goal-bytes goal at r list′
+  pub check-inferred : (left n at : ℕ) → left ≡ suc n → check-tag (getD (S .proof) at 0) ≡ InferredTag
+      → {tag : InferTag} → tag ≡ infer-tag (getD (S .proof) at 0)
+      → {inferred : Inferred} {list′ : List ℕ} → InfersBy S rows scope ledger list n tag at inferred list′
+      → {r : Checked} → ChecksInferred (S .buffer) goal-bytes at inferred goal r
+      → ChecksAt S rows scope ledger list left goal-bytes goal at r list′
   unfolding ToldChecking
   check-inferred left n at more t tagged {inferred} {list′} infers h cs Γ N e sound around reads told G means =
-      let found = inferred-read (L .proof) (length cs) n (scope .count) at N e (rw more at reads) t in
-      let there = begins-there (L .proof) (length cs) (suc n) (scope .count) at (found .part) e (found .reads) in
-      let by-tag = infer-read (L .proof) (length cs) n (scope .count) at (found .part) e (found .reads) .1 in
+      let found = inferred-read (S .proof) (length cs) n (scope .count) at N e (rw more at reads) t in
+      let there = begins-there (S .proof) (length cs) (suc n) (scope .count) at (found .part) e (found .reads) in
+      let by-tag = infer-read (S .proof) (length cs) n (scope .count) at (found .part) e (found .reads) .1 in
       rw (found .is, inferred-walk cs Γ view at G (from-of goal) (to-of goal) (found .part) there)
-      (h (L .state) (book ledger list) _ e list′ G (infers cs Γ (found .part) e sound (rw more at around) (rw tagged by-tag) (told-is (L .ends) (found .is) told)) means)
+      (h (S .state) (book ledger list) _ e list′ G (infers cs Γ (found .part) e sound (rw more at around) (rw tagged by-tag) (told-is (S .ends) (found .is) told)) means)
 
   module _ (left at : ℕ) where
     -- The step here, by its tag.
     abbrev By : CheckTag → Checked → List ℕ → Type 0
-    By tag r list′ = ChecksBy L rows scope ledger list left tag goal-bytes goal at r list′
+    By tag r list′ = ChecksBy S rows scope ledger list left tag goal-bytes goal at r list′
 
     -- No other tag checks.
     pub check-no-tag : {r : Checked} {list′ : List ℕ} → By NoCheckTag r list′
-    check-no-tag cs Γ N e sound around reads told = absurd (no-check-read (L .proof) (length cs) left (scope .count) at NoInferTag N e reads)
+    check-no-tag cs Γ N e sound around reads told = absurd (no-check-read (S .proof) (length cs) left (scope .count) at NoInferTag N e reads)
 
     -- What a step without parts makes of its goal.
     abbrev Goes : Ledger → List ℕ → (ℕ → Formula → Test) → Type 0
-    Goes l list′ part = (G : Formula) → Sound (book ledger list) → Means goal-bytes 0 (goal .formula) G → Gives (L .state) (book ledger list) (part at G) (book l list′) tt
+    Goes l list′ part = (G : Formula) → Sound (book ledger list) → Means goal-bytes 0 (goal .formula) G → Gives (S .state) (book ledger list) (part at G) (book l list′) tt
 
     -- 25, 2C and 2D, which end after their tag.
-    module _ (inside : at < length (L .proof)) {next : ℕ} (ends : at < length (L .proof) → next ≡ at + 1) {l : Ledger} {list′ : List ℕ} where
+    module _ (inside : at < length (S .proof)) {next : ℕ} (ends : at < length (S .proof) → next ≡ at + 1) {l : Ledger} {list′ : List ℕ} where
       pub check-trivial : Goes l list′ top-goal → By TopStepTag (record { ledger = l; next = next }) list′
       check-trivial h cs Γ N e sound around reads told G means =
-          let found = trivial-read (L .proof) (length cs) left (scope .count) at NoInferTag N e reads in
+          let found = trivial-read (S .proof) (length cs) left (scope .count) at NoInferTag N e reads in
           rw (found .0, trivial-walk cs Γ view at G (from-of goal) (to-of goal)) (record { gives = h G sound means; ends = λ _. ends inside ∙ found .1 })
 
       pub check-state : Goes l list′ fact-goal → By StateTag (record { ledger = l; next = next }) list′
       check-state h cs Γ N e sound around reads told G means =
-          let found = state-read (L .proof) (length cs) left (scope .count) at NoInferTag N e reads in
+          let found = state-read (S .proof) (length cs) left (scope .count) at NoInferTag N e reads in
           rw (found .0, state-walk cs Γ view at G (from-of goal) (to-of goal)) (record { gives = h G sound means; ends = λ _. ends inside ∙ found .1 })
 
       pub check-order : Goes l list′ order-goal → By OrderStepTag (record { ledger = l; next = next }) list′
       check-order h cs Γ N e sound around reads told G means =
-          let found = compare-read (L .proof) (length cs) left (scope .count) at NoInferTag N e reads in
+          let found = compare-read (S .proof) (length cs) left (scope .count) at NoInferTag N e reads in
           rw (found .0, compare-walk cs Γ view at G (from-of goal) (to-of goal)) (record { gives = h G sound means; ends = λ _. ends inside ∙ found .1 })
 
     -- 22: the sides of the goal, and then one after the other.
     module _ {parts : Sides} (splits : TakesSides goal-bytes at AndTag goal ledger parts) where
       sides-come : Sound (book ledger list) → (G : Formula) → Means goal-bytes 0 (goal .formula) G
-          → Comes (L .state) (book ledger list) (and-sides at G) (book (parts .ledger) list)
+          → Comes (S .state) (book ledger list) (and-sides at G) (book (parts .ledger) list)
           (λ x. On goal-bytes (parts .first) (x .0) (from-of goal) (to-of goal) × On goal-bytes (parts .second) (x .1) (from-of goal) (to-of goal))
       unfolding sides TwoSided
-      sides-come sound G means = comes-taken (L .state) list (and-sides at G) at ledger (parts .ledger) _ (G, G) sound (splits G tt means)
+      sides-come sound G means = comes-taken (S .state) list (and-sides at G) at ledger (parts .ledger) _ (G, G) sound (splits G tt means)
 
       pub check-pair-unfit : (stop-of (parts .ledger) ≡ Going → ⊥) → {next : ℕ} → By PairTag (record { ledger = parts .ledger; next = next }) list
       check-pair-unfit n {next} cs Γ N e sound around reads told G means =
-          let found = pair-read (L .proof) (length cs) left (scope .count) at NoInferTag N e reads in
+          let found = pair-read (S .proof) (length cs) left (scope .count) at NoInferTag N e reads in
           rw (found .is, pair-walk cs Γ view at G (from-of goal) (to-of goal) (found .one) (found .other))
-          (passes-halted (L .state) (book ledger list) (and-sides at G) (parts .ledger) list (sides-come sound G means) _ e n next)
+          (passes-halted (S .state) (book ledger list) (and-sides at G) (parts .ledger) list (sides-come sound G means) _ e n next)
 
-      module _ (going : stop-of (parts .ledger) ≡ Going) {begin : ℕ} (begins : at < length (L .proof) → begin ≡ at + 1) {one : Checked} {list₁ : List ℕ}
-          (checks : ChecksAt L rows scope (parts .ledger) list left goal-bytes (parts .first) begin one list₁) where
-        one-comes : (cs : List Statement) (Γ : List Assumption) (N : Check) (e : ℕ) → Sound (book (parts .ledger) list) → Around L rows scope (suc left) cs Γ
-            → check-step (L .proof) (length cs) left (scope .count) (at + 1) ≡ some (N, e) → ToldChecking (L .ends) N
+      module _ (going : stop-of (parts .ledger) ≡ Going) {begin : ℕ} (begins : at < length (S .proof) → begin ≡ at + 1) {one : Checked} {list₁ : List ℕ}
+          (checks : ChecksAt S rows scope (parts .ledger) list left goal-bytes (parts .first) begin one list₁) where
+        one-comes : (cs : List Statement) (Γ : List Assumption) (N : Check) (e : ℕ) → Sound (book (parts .ledger) list) → Around S rows scope (suc left) cs Γ
+            → check-step (S .proof) (length cs) left (scope .count) (at + 1) ≡ some (N, e) → ToldChecking (S .ends) N
             → (A : Formula) → On goal-bytes (parts .first) A (from-of goal) (to-of goal)
-            → Comes (L .state) (book (parts .ledger) list) (check cs Γ view N A (from-of goal) (to-of goal)) (book (one .ledger) list₁) (λ _. one .next ≡ e)
+            → Comes (S .state) (book (parts .ledger) list) (check cs Γ view N A (from-of goal) (to-of goal)) (book (one .ledger) list₁) (λ _. one .next ≡ e)
         one-comes cs Γ N e sound around reads told A on =
-            let inside = check-begins (L .proof) (length cs) left (scope .count) (at + 1) N e reads in
-            comes-checked (L .state) (book (parts .ledger) list) _ e one list₁
-            (passes-on (L .state) goal-bytes (parts .first) A (from-of goal) (to-of goal) on (check cs Γ view N A) (book (parts .ledger) list) e one list₁
-            (checks cs Γ N e sound (around-part L rows scope left cs Γ around) (rw (begins (omega arith)) reads) told A (on .means)))
+            let inside = check-begins (S .proof) (length cs) left (scope .count) (at + 1) N e reads in
+            comes-checked (S .state) (book (parts .ledger) list) _ e one list₁
+            (passes-on (S .state) goal-bytes (parts .first) A (from-of goal) (to-of goal) on (check cs Γ view N A) (book (parts .ledger) list) e one list₁
+            (checks cs Γ N e sound (around-part S rows scope left cs Γ around) (rw (begins (omega arith)) reads) told A (on .means)))
 
         pub check-pair-stopped : (stop-of (one .ledger) ≡ Going → ⊥) → By PairTag one list₁
         unfolding ToldChecking
         check-pair-stopped n cs Γ N e sound around reads told G means =
-            let found = pair-read (L .proof) (length cs) left (scope .count) at NoInferTag N e reads in
-            let both = told-is (L .ends) (found .is) told in
+            let found = pair-read (S .proof) (length cs) left (scope .count) at NoInferTag N e reads in
+            let both = told-is (S .ends) (found .is) told in
             rw (found .is, pair-walk cs Γ view at G (from-of goal) (to-of goal) (found .one) (found .other))
-            (passes-then (L .state) (book ledger list) (and-sides at G) (parts .ledger) list (sides-come sound G means) _ e going one list₁
-            (λ sound x on. passes-halted (L .state) (book (parts .ledger) list) _ (one .ledger) list₁
+            (passes-then (S .state) (book ledger list) (and-sides at G) (parts .ledger) list (sides-come sound G means) _ e going one list₁
+            (λ sound x on. passes-halted (S .state) (book (parts .ledger) list) _ (one .ledger) list₁
             (one-comes cs Γ (found .one) (found .middle) sound around (found .one-reads) (both .0) (x .0) (on .0)) _ e n (one .next)))
 
         pub check-pair : stop-of (one .ledger) ≡ Going → {other : Checked} {list₂ : List ℕ}
-            → ChecksAt L rows scope (one .ledger) list₁ left goal-bytes (parts .second) (one .next) other list₂
+            → ChecksAt S rows scope (one .ledger) list₁ left goal-bytes (parts .second) (one .next) other list₂
             → By PairTag other list₂
         unfolding ToldChecking
         check-pair goes {other} {list₂} checks-other cs Γ N e sound around reads told G means =
-            let found = pair-read (L .proof) (length cs) left (scope .count) at NoInferTag N e reads in
-            let both = told-is (L .ends) (found .is) told in
+            let found = pair-read (S .proof) (length cs) left (scope .count) at NoInferTag N e reads in
+            let both = told-is (S .ends) (found .is) told in
             rw (found .is, pair-walk cs Γ view at G (from-of goal) (to-of goal) (found .one) (found .other))
-            (passes-then (L .state) (book ledger list) (and-sides at G) (parts .ledger) list (sides-come sound G means) _ e going other list₂
-            (λ sound x on. passes-then (L .state) (book (parts .ledger) list) _ (one .ledger) list₁
+            (passes-then (S .state) (book ledger list) (and-sides at G) (parts .ledger) list (sides-come sound G means) _ e going other list₂
+            (λ sound x on. passes-then (S .state) (book (parts .ledger) list) _ (one .ledger) list₁
             (one-comes cs Γ (found .one) (found .middle) sound around (found .one-reads) (both .0) (x .0) (on .0)) _ e goes other list₂
-            (λ sound y ends. passes-on (L .state) goal-bytes (parts .second) (x .1) (from-of goal) (to-of goal) (on .1) (check cs Γ view (found .other) (x .1)) (book (one .ledger) list₁) e other list₂
-            (checks-other cs Γ (found .other) e sound (around-part L rows scope left cs Γ around) (rw ends (found .other-reads)) (both .1) (x .1) (on .1 .means)))))
+            (λ sound y ends. passes-on (S .state) goal-bytes (parts .second) (x .1) (from-of goal) (to-of goal) (on .1) (check cs Γ view (found .other) (x .1)) (book (one .ledger) list₁) e other list₂
+            (checks-other cs Γ (found .other) e sound (around-part S rows scope left cs Γ around) (rw ends (found .other-reads)) (both .1) (x .1) (on .1 .means)))))
 
     module _ (shell : Shell) where
       -- 28 and 2A: what stands inside of the goal is checked in the scope inside.
       module _ {held : Inside} (has : TakesInside goal-bytes at shell goal ledger held) where
         held-comes : Sound (book ledger list) → (G : Formula) → Means goal-bytes 0 (goal .formula) G
-            → Comes (L .state) (book ledger list) (inside shell at (G, from-of goal, to-of goal)) (book (held .ledger) list) (RowIs goal-bytes (held .row) 0 0)
-        held-comes sound G means = comes-taken (L .state) list _ at ledger (held .ledger) _ shut sound (has G means)
+            → Comes (S .state) (book ledger list) (inside shell at (G, from-of goal, to-of goal)) (book (held .ledger) list) (RowIs goal-bytes (held .row) 0 0)
+        held-comes sound G means = comes-taken (S .state) list _ at ledger (held .ledger) _ shut sound (has G means)
 
         pub check-put-unfit : (stop-of (held .ledger) ≡ Going → ⊥) → {next : ℕ} → (tag : CheckTag) → Puts tag shell → By tag (record { ledger = held .ledger; next = next }) list
         check-put-unfit n {next} tag is cs Γ N e sound around reads told G means =
-            let found = put-read (L .proof) (L .ends) (length cs) left (scope .count) at tag shell N e is reads told in
+            let found = put-read (S .proof) (S .ends) (length cs) left (scope .count) at tag shell N e is reads told in
             rw (found .walks cs Γ view (G, from-of goal, to-of goal))
-            (passes-halted (L .state) (book ledger list) _ (held .ledger) list (held-comes sound G means) _ e n next)
+            (passes-halted (S .state) (book ledger list) _ (held .ledger) list (held-comes sound G means) _ e n next)
 
         -- The part, for what it is that stands inside.
-        part-passes : (cs : List Statement) (Γ : List Assumption) (N : Check) (e : ℕ) → Sound (book (held .ledger) list) → Around L rows scope (suc left) cs Γ
-            → (begin : ℕ) → check-step (L .proof) (length cs) left (scope .count) begin ≡ some (N, e) → ToldChecking (L .ends) N
+        part-passes : (cs : List Statement) (Γ : List Assumption) (N : Check) (e : ℕ) → Sound (book (held .ledger) list) → Around S rows scope (suc left) cs Γ
+            → (begin : ℕ) → check-step (S .proof) (length cs) left (scope .count) begin ≡ some (N, e) → ToldChecking (S .ends) N
             → {r : Checked} {list′ : List ℕ}
-            → ChecksAt L rows (scope-inside scope (held .row .whose)) (held .ledger) list left goal-bytes (held .row .judgement) begin r list′
+            → ChecksAt S rows (scope-inside scope (held .row .whose)) (held .ledger) list left goal-bytes (held .row .judgement) begin r list′
             → (x : Assumption) → RowIs goal-bytes (held .row) 0 0 x
-            → Passes (L .state) (book (held .ledger) list) (check-inside cs Γ view N x) e r list′
+            → Passes (S .state) (book (held .ledger) list) (check-inside cs Γ view N x) e r list′
         unfolding check-inside view-in
         part-passes cs Γ N e sound around begin reads told {r} {list′} checks x (is-plain {A} {a} {b} plain-row usable on) =
-            passes-on (L .state) goal-bytes (held .row .judgement) A a b on (check cs Γ view N A) (book (held .ledger) list) e r list′
-            ((rw plain-row at checks) cs Γ N e sound (around-part L rows scope left cs Γ around) reads told A (on .means))
+            passes-on (S .state) goal-bytes (held .row .judgement) A a b on (check cs Γ view N A) (book (held .ledger) list) e r list′
+            ((rw plain-row at checks) cs Γ N e sound (around-part S rows scope left cs Γ around) reads told A (on .means))
         part-passes cs Γ N e sound around begin reads told {r} {list′} checks x (is-claim {k} {A} {a} {b} claimed on) =
-            passes-on (L .state) goal-bytes (held .row .judgement) A a b on (check cs (map shut-out Γ) (view-of k) N A) (book (held .ledger) list) e r list′
-            ((rw claimed at checks) cs (map shut-out Γ) N e sound (around-said L rows scope left cs Γ around (ViewOf k)) reads told A (on .means))
+            passes-on (S .state) goal-bytes (held .row .judgement) A a b on (check cs (map shut-out Γ) (view-of k) N A) (book (held .ledger) list) e r list′
+            ((rw claimed at checks) cs (map shut-out Γ) N e sound (around-said S rows scope left cs Γ around (ViewOf k)) reads told A (on .means))
         part-passes cs Γ N e sound around begin reads told checks x (is-shut plain-row lower) = absurd (omega arith)
 
-        pub check-put : stop-of (held .ledger) ≡ Going → {begin : ℕ} → (at < length (L .proof) → begin ≡ at + 1) → {r : Checked} {list′ : List ℕ}
-            → ChecksAt L rows (scope-inside scope (held .row .whose)) (held .ledger) list left goal-bytes (held .row .judgement) begin r list′
+        pub check-put : stop-of (held .ledger) ≡ Going → {begin : ℕ} → (at < length (S .proof) → begin ≡ at + 1) → {r : Checked} {list′ : List ℕ}
+            → ChecksAt S rows (scope-inside scope (held .row .whose)) (held .ledger) list left goal-bytes (held .row .judgement) begin r list′
             → (tag : CheckTag) → Puts tag shell → By tag r list′
         check-put going begins {r} {list′} checks tag is cs Γ N e sound around reads told G means =
-            let found = put-read (L .proof) (L .ends) (length cs) left (scope .count) at tag shell N e is reads told in
-            let inside = check-begins (L .proof) (length cs) left (scope .count) (at + 1) (found .part) e (found .reads) in
+            let found = put-read (S .proof) (S .ends) (length cs) left (scope .count) at tag shell N e is reads told in
+            let inside = check-begins (S .proof) (length cs) left (scope .count) (at + 1) (found .part) e (found .reads) in
             rw (found .walks cs Γ view (G, from-of goal, to-of goal))
-            (passes-then (L .state) (book ledger list) _ (held .ledger) list (held-comes sound G means) _ e going r list′
+            (passes-then (S .state) (book ledger list) _ (held .ledger) list (held-comes sound G means) _ e going r list′
             (λ sound x row. part-passes cs Γ (found .part) e sound around _ (rw (begins (omega arith)) (found .reads)) (found .told) checks x row))
 
       -- 29 and 2B: the step that infers, what stands inside of what it infers, and then the second step with that assumed.
-      module _ {begin : ℕ} (begins : at < length (L .proof) → begin ≡ at + 1) {inferred : Inferred} {list₁ : List ℕ}
-          (infers : InfersAt L rows scope ledger list left begin inferred list₁)
-          {held : Inside} (has : TakesInsideInferred (L .buffer) at shell inferred held) (stays : StaysStopped inferred (held .ledger)) where
-        taken-comes : (cs : List Statement) (Γ : List Assumption) (N : Check) (e : ℕ) → Sound (book ledger list) → Around L rows scope (suc left) cs Γ
-            → (found : TakeRead (L .proof) (L .ends) (length cs) left (scope .count) at shell N e)
-            → Comes (L .state) (book ledger list) (and-then (infer cs Γ view (found .part)) (inside shell at)) (book (held .ledger) list₁)
-            (λ x. RowIs (L .buffer) (held .row) 0 0 x × (inferred .next ≡ found .middle))
+      module _ {begin : ℕ} (begins : at < length (S .proof) → begin ≡ at + 1) {inferred : Inferred} {list₁ : List ℕ}
+          (infers : InfersAt S rows scope ledger list left begin inferred list₁)
+          {held : Inside} (has : TakesInsideInferred (S .buffer) at shell inferred held) (stays : StaysStopped inferred (held .ledger)) where
+        taken-comes : (cs : List Statement) (Γ : List Assumption) (N : Check) (e : ℕ) → Sound (book ledger list) → Around S rows scope (suc left) cs Γ
+            → (found : TakeRead (S .proof) (S .ends) (length cs) left (scope .count) at shell N e)
+            → Comes (S .state) (book ledger list) (and-then (infer cs Γ view (found .part)) (inside shell at)) (book (held .ledger) list₁)
+            (λ x. RowIs (S .buffer) (held .row) 0 0 x × (inferred .next ≡ found .middle))
         taken-comes cs Γ N e sound around found =
             let part =
-            comes-inferred (L .state) (L .buffer) (book ledger list) _ (found .middle) inferred list₁
-            (first-part L rows scope ledger list left at begins infers cs Γ (found .part) (found .middle) sound around (found .part-reads) (found .part-told)) in
-            comes-or-stays (L .state) (book ledger list) (book (inferred .ledger) list₁) _ _ part (book (held .ledger) list₁) shut
-            (λ going j so. comes-taken (L .state) list₁ (inside shell at j) at (inferred .ledger) (held .ledger) _ shut (part .gives .sound)
+            comes-inferred (S .state) (S .buffer) (book ledger list) _ (found .middle) inferred list₁
+            (first-part S rows scope ledger list left at begins infers cs Γ (found .part) (found .middle) sound around (found .part-reads) (found .part-told)) in
+            comes-or-stays (S .state) (book ledger list) (book (inferred .ledger) list₁) _ _ part (book (held .ledger) list₁) shut
+            (λ going j so. comes-taken (S .state) list₁ (inside shell at j) at (inferred .ledger) (held .ledger) _ shut (part .gives .sound)
             (takes-so (λ x row. (row, so .1)) (rw (so .0 .from, so .0 .to) at (has going (j .0) (so .0 .means)))))
             (λ n. ap (λ l. book l list₁) (stays n))
 
         pub check-take-stopped : (stop-of (held .ledger) ≡ Going → ⊥) → {next : ℕ} → (tag : CheckTag) → TakesOut tag shell → By tag (record { ledger = held .ledger; next = next }) list₁
         check-take-stopped n {next} tag is cs Γ N e sound around reads told G means =
-            let found = take-read (L .proof) (L .ends) (length cs) left (scope .count) at tag shell N e is reads told in
+            let found = take-read (S .proof) (S .ends) (length cs) left (scope .count) at tag shell N e is reads told in
             rw (found .walks cs Γ view (G, from-of goal, to-of goal))
-            (passes-halted (L .state) (book ledger list) _ (held .ledger) list₁ (taken-comes cs Γ N e sound around found) _ e n next)
+            (passes-halted (S .state) (book ledger list) _ (held .ledger) list₁ (taken-comes cs Γ N e sound around found) _ e n next)
 
         -- There is room for the row, and it is the assumption more.
         pub check-take-full : most-rows ≤ scope .count → {r : Checked} {list′ : List ℕ} → (tag : CheckTag) → TakesOut tag shell → By tag r list′
@@ -339,12 +339,12 @@ module _ (L : Lent) (rows : List ℕ) (scope : Scope) (ledger : Ledger) (list go
         pub check-take : stop-of (held .ledger) ≡ Going → {between more : List ℕ} → Keeps (scope .count) rows between
             → PutsRow between (scope .count) (held .row) more → Keeps (scope .count) between more
             → {r : Checked} {list₂ : List ℕ}
-            → ChecksAt L more (record { count = scope .count + 1; shut = scope .shut; view = scope .view }) (held .ledger) list₁ left goal-bytes goal (inferred .next) r list₂
+            → ChecksAt S more (record { count = scope .count + 1; shut = scope .shut; view = scope .view }) (held .ledger) list₁ left goal-bytes goal (inferred .next) r list₂
             → (tag : CheckTag) → TakesOut tag shell → By tag r list₂
         check-take going {between} {more} kept there keeps {r} {list₂} checks tag is cs Γ N e sound around reads told G means =
-            let found = take-read (L .proof) (L .ends) (length cs) left (scope .count) at tag shell N e is reads told in
-            let around′ = around-kept L rows between scope (suc left) cs Γ kept around in
+            let found = take-read (S .proof) (S .ends) (length cs) left (scope .count) at tag shell N e is reads told in
+            let around′ = around-kept S rows between scope (suc left) cs Γ kept around in
             rw (found .walks cs Γ view (G, from-of goal, to-of goal))
-            (passes-then (L .state) (book ledger list) _ (held .ledger) list₁ (taken-comes cs Γ N e sound around found) _ e going r list₂
-            (λ sound x so. checks cs (x ∷ Γ) (found .other) e sound (around-more L between scope left cs Γ around′ more (held .row) x (so .0) there keeps)
+            (passes-then (S .state) (book ledger list) _ (held .ledger) list₁ (taken-comes cs Γ N e sound around found) _ e going r list₂
+            (λ sound x so. checks cs (x ∷ Γ) (found .other) e sound (around-more S between scope left cs Γ around′ more (held .row) x (so .0) there keeps)
             (rw (add-one (scope .count), so .1) (found .other-reads)) (found .other-told) G means))

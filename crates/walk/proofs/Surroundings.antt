@@ -19,7 +19,7 @@ use Rattle.judging.specs.declared.rows.Whose.{Whose}
 use Rattle.judging.specs.declared.rows.Whose.the-variants.{Plain, Claim}
 use Rattle.judging.specs.Judging.{scope-inside}
 use Rattle.judging.specs.RowsOf.{row-in, RowIs, is-plain, is-claim, is-shut, Assumed, PutsRow, OthersStay}
-use Rattle.walk.specs.Walking.{Lent, Around, Keeps, ChecksAt}
+use Rattle.walk.specs.Walking.{Sources, Around, Keeps, ChecksAt}
 
 -- A row inside of a says-in: a plain one is shut out, a claim stays.
 row-shut : (buffer : List ℕ) (row : Row) (index before below : ℕ) (x : Assumption) → index < below → RowIs buffer row index before x → RowIs buffer row index below (shut-out x)
@@ -83,39 +83,39 @@ row-usable buffer row index below x h (is-plain plain-row usable on) = is-plain 
 row-usable buffer row index below x h (is-claim claimed on) = is-claim claimed on
 row-usable buffer row index below x h (is-shut plain-row lower) = absurd (omega arith)
 
-module _ (L : Lent) (rows : List ℕ) (scope : Scope) (left : ℕ) (cs : List Statement) (Γ : List Assumption) (around : Around L rows scope (suc left) cs Γ) where
+module _ (S : Sources) (rows : List ℕ) (scope : Scope) (left : ℕ) (cs : List Statement) (Γ : List Assumption) (around : Around S rows scope (suc left) cs Γ) where
   -- A level less.
-  pub around-part : Around L rows scope left cs Γ
+  pub around-part : Around S rows scope left cs Γ
   around-part =
       let room = around .room in
       record { certified = around .certified; assumed = around .assumed; shut-inside = around .shut-inside; room = omega arith; all-there = around .all-there }
 
   -- The part of a says-in.
-  pub around-said : (view : View) → Around L rows (record { count = scope .count; shut = scope .count; view = view }) left cs (map shut-out Γ)
+  pub around-said : (view : View) → Around S rows (record { count = scope .count; shut = scope .count; view = view }) left cs (map shut-out Γ)
   around-said view =
       let room = around .room in
       record {
         certified = around .certified;
-        assumed = assumed-shut (L .buffer) rows (scope .shut) (scope .count) (scope .count) Γ (omega arith) (around .assumed);
+        assumed = assumed-shut (S .buffer) rows (scope .shut) (scope .count) (scope .count) Γ (omega arith) (around .assumed);
         shut-inside = omega arith;
         room = omega arith;
         all-there = around .all-there;
       }
 
   -- The second part of an at-out or a says-out: the row is put past those that are there.
-  pub around-more : (more : List ℕ) (row : Row) (x : Assumption) → RowIs (L .buffer) row 0 0 x → PutsRow rows (scope .count) row more → Keeps (scope .count) rows more
-      → Around L more (record { count = scope .count + 1; shut = scope .shut; view = scope .view }) left cs (x ∷ Γ)
+  pub around-more : (more : List ℕ) (row : Row) (x : Assumption) → RowIs (S .buffer) row 0 0 x → PutsRow rows (scope .count) row more → Keeps (scope .count) rows more
+      → Around S more (record { count = scope .count + 1; shut = scope .shut; view = scope .view }) left cs (x ∷ Γ)
   unfolding Assumed
   around-more more row x usable there keeps =
       let room = around .room in
       let inside = around .shut-inside in
-      let is = row-usable (L .buffer) row (scope .count) (scope .shut) x inside usable in
+      let is = row-usable (S .buffer) row (scope .count) (scope .shut) x inside usable in
       record {
         certified = around .certified;
         assumed =
             rw (add-one (scope .count)) (
-              rw (there (around .all-there) (omega arith) (row-whole (L .buffer) row (scope .count) (scope .shut) x inside is)) is,
-              assumed-in (L .buffer) rows more (scope .shut) (scope .count) Γ (keeps .rows) (around .assumed),
+              rw (there (around .all-there) (omega arith) (row-whole (S .buffer) row (scope .count) (scope .shut) x inside is)) is,
+              assumed-in (S .buffer) rows more (scope .shut) (scope .count) Γ (keeps .rows) (around .assumed),
             );
         shut-inside = omega arith;
         room = omega arith;
@@ -123,21 +123,21 @@ module _ (L : Lent) (rows : List ℕ) (scope : Scope) (left : ℕ) (cs : List St
       }
 
 -- What stands around, in rows that are kept.
-pub around-kept : (L : Lent) (before after : List ℕ) (scope : Scope) (left : ℕ) (cs : List Statement) (Γ : List Assumption) → Keeps (scope .count) before after
-    → Around L before scope left cs Γ → Around L after scope left cs Γ
-around-kept L before after scope left cs Γ keeps around =
+pub around-kept : (S : Sources) (before after : List ℕ) (scope : Scope) (left : ℕ) (cs : List Statement) (Γ : List Assumption) → Keeps (scope .count) before after
+    → Around S before scope left cs Γ → Around S after scope left cs Γ
+around-kept S before after scope left cs Γ keeps around =
     record {
       certified = around .certified;
-      assumed = assumed-in (L .buffer) before after (scope .shut) (scope .count) Γ (keeps .rows) (around .assumed);
+      assumed = assumed-in (S .buffer) before after (scope .shut) (scope .count) Γ (keeps .rows) (around .assumed);
       shut-inside = around .shut-inside;
       room = around .room;
       all-there = keeps .all ∙ around .all-there;
     }
 
 -- So a call after another promises of the rows at the start what it promises of those that it finds.
-pub checks-kept : (L : Lent) (before after : List ℕ) (scope : Scope) (ledger : Ledger) (list : List ℕ) (left : ℕ) (goal-bytes : List ℕ) (goal : Judgement)
+pub checks-kept : (S : Sources) (before after : List ℕ) (scope : Scope) (ledger : Ledger) (list : List ℕ) (left : ℕ) (goal-bytes : List ℕ) (goal : Judgement)
     (at : ℕ) {r : Checked} {list′ : List ℕ} → Keeps (scope .count) before after
-    → ChecksAt L after scope ledger list left goal-bytes goal at r list′
-    → ChecksAt L before scope ledger list left goal-bytes goal at r list′
-checks-kept L before after scope ledger list left goal-bytes goal at keeps checks cs Γ N e sound around =
-    checks cs Γ N e sound (around-kept L before after scope left cs Γ keeps around)
+    → ChecksAt S after scope ledger list left goal-bytes goal at r list′
+    → ChecksAt S before scope ledger list left goal-bytes goal at r list′
+checks-kept S before after scope ledger list left goal-bytes goal at keeps checks cs Γ N e sound around =
+    checks cs Γ N e sound (around-kept S before after scope left cs Γ keeps around)

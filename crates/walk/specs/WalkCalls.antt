@@ -1,8 +1,5 @@
 -- The promise of each call of the walk, over what it is lent.
-use Prim.Native.Nat.{ℕ}
-use mathlib.Core.List.{List}
-use denote.Ref.{RefT}
-use denote.Triple.Both.{Both}
+use Rattle.procap.specs.Lent.{Lent}
 use Rattle.bl.specs.declared.InferTag.{InferTag}
 use Rattle.bl.specs.declared.CheckTag.{CheckTag}
 use Rattle.bl.specs.declared.CheckTag.the-variants.{AtInTag, AtOutTag, SaysInTag, SaysOutTag}
@@ -12,15 +9,11 @@ use Rattle.judging.specs.declared.judge.Checked.{Checked}
 use Rattle.judging.specs.declared.judge.Shell.{Shell}
 use Rattle.judging.specs.declared.judge.Shell.the-variants.{AtShell, SaysShell}
 use Rattle.walk.specs.declared.Here.{Here}
-use Rattle.walk.specs.Walking.{Lent, Keeps, InfersAt, InfersBy, ChecksAt, ChecksBy}
-
--- A slice as a contract names it: what it holds at the entry and at the exit.
-abbrev pub Slice : Type 0
-Slice = Both (RefT (List ℕ)) (RefT (List ℕ))
+use Rattle.walk.specs.Walking.{Sources, Keeps, InfersAt, InfersBy, ChecksAt, ChecksBy}
 
 -- The slices that are lent all through.
-abbrev pub lent : Slice → Slice → Slice → Slice → Slice → Lent
-lent buffer proof state certificates ends =
+abbrev pub sources : Lent → Lent → Lent → Lent → Lent → Sources
+sources buffer proof state certificates ends =
     record { buffer = buffer .entry .now; proof = proof .entry .now; state = state .entry .now; certificates = certificates .entry .now; ends = ends .entry .now }
 
 -- The steps that put a formula into a shell, and those that take one out of it.
@@ -32,27 +25,27 @@ pub data TakesOut : CheckTag → Shell → Type 0 where
   takes-at : TakesOut AtOutTag AtShell
   takes-says : TakesOut SaysOutTag SaysShell
 
-module _ (L : Lent) (facts assumptions : Slice) where
+module _ (S : Sources) (facts assumptions : Lent) where
   -- A step that infers, of at most so many levels.
   abbrev pub Infers : Here → Inferred → Type 0
   Infers here r =
-      InfersAt L (assumptions .entry .now) (here .scope) (here .ledger) (facts .entry .now) (here .left) (here .at) r (facts .exit .now)
+      InfersAt S (assumptions .entry .now) (here .scope) (here .ledger) (facts .entry .now) (here .left) (here .at) r (facts .exit .now)
 
   -- A step that infers, by its tag; its parts have at most so many levels.
   abbrev pub InfersTagged : InferTag → Here → Inferred → Type 0
   InfersTagged tag here r =
-      InfersBy L (assumptions .entry .now) (here .scope) (here .ledger) (facts .entry .now) (here .left) tag (here .at) r (facts .exit .now)
+      InfersBy S (assumptions .entry .now) (here .scope) (here .ledger) (facts .entry .now) (here .left) tag (here .at) r (facts .exit .now)
 
-  module _ (goal-bytes : Slice) (goal : Judgement) (here : Here) (r : Checked) where
+  module _ (goal-bytes : Lent) (goal : Judgement) (here : Here) (r : Checked) where
     -- A step that checks, of at most so many levels.
     abbrev pub Checks : Type 0
     Checks =
-        ChecksAt L (assumptions .entry .now) (here .scope) (here .ledger) (facts .entry .now) (here .left) (goal-bytes .entry .now) goal (here .at) r (facts .exit .now)
+        ChecksAt S (assumptions .entry .now) (here .scope) (here .ledger) (facts .entry .now) (here .left) (goal-bytes .entry .now) goal (here .at) r (facts .exit .now)
 
     -- A step that checks, by its tag; its parts have at most so many levels.
     abbrev pub ChecksTagged : CheckTag → Type 0
     ChecksTagged tag =
-        ChecksBy L (assumptions .entry .now) (here .scope) (here .ledger) (facts .entry .now) (here .left) tag (goal-bytes .entry .now) goal (here .at) r (facts .exit .now)
+        ChecksBy S (assumptions .entry .now) (here .scope) (here .ledger) (facts .entry .now) (here .left) tag (goal-bytes .entry .now) goal (here .at) r (facts .exit .now)
 
     -- The step that puts a formula into a shell, and the one that takes it out.
     abbrev pub ChecksPut : Shell → Type 0
@@ -62,5 +55,5 @@ module _ (L : Lent) (facts assumptions : Slice) where
     ChecksTaken shell = (tag : CheckTag) → TakesOut tag shell → ChecksTagged tag
 
 -- The rows of the assumptions that stand around are kept.
-abbrev pub KeepsRows : Here → Slice → Type 0
+abbrev pub KeepsRows : Here → Lent → Type 0
 KeepsRows here assumptions = Keeps (here .scope .count) (assumptions .entry .now) (assumptions .exit .now)

@@ -24,7 +24,7 @@ use Rattle.judging.specs.RowsOf.{Assumed, Certified, row-in, all-numbers}
 use Rattle.judging.specs.Judging.{view-in, Yields, Passes}
 
 -- What is lent all through a walk: the bytes of the formulas, of the proof and of the state, the rows of the certificates, and where second parts end.
-pub record Lent : Type 0 where
+pub record Sources : Type 0 where
   pub buffer : List ℕ
   pub proof : List ℕ
   pub state : List ℕ
@@ -32,9 +32,9 @@ pub record Lent : Type 0 where
   pub ends : List ℕ
 
 -- What stands around a step: rows that are the certificates cs and the assumptions Γ, none shut out that is yet to come, with room for one more at each level left, in as many numbers as all rows take.
-pub record Around (L : Lent) (rows : List ℕ) (scope : Scope) (left : ℕ) (cs : List Statement) (Γ : List Assumption) : Type 0 where
-  pub certified : Certified (L .buffer) (L .certificates) cs
-  pub assumed : Assumed (L .buffer) rows (scope .shut) (scope .count) Γ
+pub record Around (S : Sources) (rows : List ℕ) (scope : Scope) (left : ℕ) (cs : List Statement) (Γ : List Assumption) : Type 0 where
+  pub certified : Certified (S .buffer) (S .certificates) cs
+  pub assumed : Assumed (S .buffer) rows (scope .shut) (scope .count) Γ
   pub shut-inside : scope .shut ≤ scope .count
   pub room : scope .count + left ≤ most-proof-levels
   pub all-there : length rows ≡ all-numbers
@@ -44,49 +44,49 @@ pub record Keeps (count : ℕ) (before after : List ℕ) : Type 0 where
   pub rows : (i : ℕ) → i < count → row-in after i ≡ row-in before i
   pub all : length after ≡ length before
 
-module _ (L : Lent) (rows : List ℕ) (scope : Scope) (ledger : Ledger) (list : List ℕ) (left : ℕ) where
+module _ (S : Sources) (rows : List ℕ) (scope : Scope) (ledger : Ledger) (list : List ℕ) (left : ℕ) where
   -- From a sound book, in what stands around.
   module _ (cs : List Statement) (Γ : List Assumption) where
     -- The step that the reader finds, inferred.
     abbrev pub InfersStep : Infer → ℕ → Inferred → List ℕ → Type 0
-    InfersStep M e r list′ = Yields (L .state) (L .buffer) (book ledger list) (infer cs Γ (view-in (scope .view)) M) e r list′
+    InfersStep M e r list′ = Yields (S .state) (S .buffer) (book ledger list) (infer cs Γ (view-in (scope .view)) M) e r list′
 
     -- The step that the reader finds, checked against a goal.
     abbrev pub ChecksStep : List ℕ → Judgement → Check → ℕ → Checked → List ℕ → Type 0
     ChecksStep goal-bytes goal N e r list′ =
         (G : Formula) → Means goal-bytes 0 (goal .formula) G
-        → Passes (L .state) (book ledger list) (check cs Γ (view-in (scope .view)) N G (from-of goal) (to-of goal)) e r list′
+        → Passes (S .state) (book ledger list) (check cs Γ (view-in (scope .view)) N G (from-of goal) (to-of goal)) e r list′
 
   -- A step that infers, at a place.
   abbrev pub InfersAt : ℕ → Inferred → List ℕ → Type 0
   InfersAt at r list′ =
       (cs : List Statement) (Γ : List Assumption) (M : Infer) (e : ℕ)
-      → Sound (book ledger list) → Around L rows scope left cs Γ
-      → infer-step (L .proof) (length cs) left (scope .count) at ≡ some (M, e) → Told (L .ends) M
+      → Sound (book ledger list) → Around S rows scope left cs Γ
+      → infer-step (S .proof) (length cs) left (scope .count) at ≡ some (M, e) → Told (S .ends) M
       → InfersStep cs Γ M e r list′
 
   -- A step that infers, by its tag at a place, over parts of at most `left` levels.
   abbrev pub InfersBy : InferTag → ℕ → Inferred → List ℕ → Type 0
   InfersBy tag at r list′ =
       (cs : List Statement) (Γ : List Assumption) (M : Infer) (e : ℕ)
-      → Sound (book ledger list) → Around L rows scope (suc left) cs Γ
-      → infer-by (L .proof) (length cs) (infer-step (L .proof) (length cs) left) (check-step (L .proof) (length cs) left) (scope .count) at tag (at + 1) ≡ some (M, e)
-      → Told (L .ends) M
+      → Sound (book ledger list) → Around S rows scope (suc left) cs Γ
+      → infer-by (S .proof) (length cs) (infer-step (S .proof) (length cs) left) (check-step (S .proof) (length cs) left) (scope .count) at tag (at + 1) ≡ some (M, e)
+      → Told (S .ends) M
       → InfersStep cs Γ M e r list′
 
   -- A step that checks, at a place.
   abbrev pub ChecksAt : List ℕ → Judgement → ℕ → Checked → List ℕ → Type 0
   ChecksAt goal-bytes goal at r list′ =
       (cs : List Statement) (Γ : List Assumption) (N : Check) (e : ℕ)
-      → Sound (book ledger list) → Around L rows scope left cs Γ
-      → check-step (L .proof) (length cs) left (scope .count) at ≡ some (N, e) → ToldChecking (L .ends) N
+      → Sound (book ledger list) → Around S rows scope left cs Γ
+      → check-step (S .proof) (length cs) left (scope .count) at ≡ some (N, e) → ToldChecking (S .ends) N
       → ChecksStep cs Γ goal-bytes goal N e r list′
 
   -- A step that checks, by its tag at a place, over parts of at most `left` levels.
   abbrev pub ChecksBy : CheckTag → List ℕ → Judgement → ℕ → Checked → List ℕ → Type 0
   ChecksBy tag goal-bytes goal at r list′ =
       (cs : List Statement) (Γ : List Assumption) (N : Check) (e : ℕ)
-      → Sound (book ledger list) → Around L rows scope (suc left) cs Γ
-      → check-by (L .proof) (length cs) (infer-step (L .proof) (length cs) left) (check-step (L .proof) (length cs) left) (scope .count) at NoInferTag tag (at + 1) ≡ some (N, e)
-      → ToldChecking (L .ends) N
+      → Sound (book ledger list) → Around S rows scope (suc left) cs Γ
+      → check-by (S .proof) (length cs) (infer-step (S .proof) (length cs) left) (check-step (S .proof) (length cs) left) (scope .count) at NoInferTag tag (at + 1) ≡ some (N, e)
+      → ToldChecking (S .ends) N
       → ChecksStep cs Γ goal-bytes goal N e r list′

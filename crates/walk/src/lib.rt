@@ -32,7 +32,7 @@ use steps::infer_tag_at;
 use steps::term_at;
 ghost use mathlib.Core.Path.{_≡_};
 ghost use Prim.Native.Nat.{_-_, _<_};
-ghost use Rattle.walk.specs.WalkCalls.{lent, Infers, InfersTagged, Checks, ChecksTagged, ChecksPut, ChecksTaken, KeepsRows};
+ghost use Rattle.walk.specs.WalkCalls.{sources, Infers, InfersTagged, Checks, ChecksTagged, ChecksPut, ChecksTaken, KeepsRows};
 
 // Where the walk stands: in which scope, at which step, with what ledger, and how many levels are left there.
 pub struct Here {
@@ -78,7 +78,7 @@ fn infer(
     buffer: &[u8], proof: &[u8], state: &[u8], certificates: &[u64], ends: &[u16], facts: &mut [u64], assumptions: &mut [u64],
     here: Here,
 ) -> Inferred
-    ensures walks { λ r. ⌜ Infers (lent buffer proof state certificates ends) facts assumptions here r ⌝ }
+    ensures walks { λ r. ⌜ Infers (sources buffer proof state certificates ends) facts assumptions here r ⌝ }
     ensures keeps { λ _. ⌜ KeepsRows here assumptions ⌝ }
 {
     let at = here.at;
@@ -98,7 +98,7 @@ fn infer_by(
     buffer: &[u8], proof: &[u8], state: &[u8], certificates: &[u64], ends: &[u16], facts: &mut [u64], assumptions: &mut [u64],
     tag: InferTag, here: Here,
 ) -> Inferred
-    ensures walks { λ r. ⌜ InfersTagged (lent buffer proof state certificates ends) facts assumptions tag here r ⌝ }
+    ensures walks { λ r. ⌜ InfersTagged (sources buffer proof state certificates ends) facts assumptions tag here r ⌝ }
     ensures keeps { λ _. ⌜ KeepsRows here assumptions ⌝ }
 {
     let scope = here.scope;
@@ -145,7 +145,7 @@ pub fn check(
     buffer: &[u8], proof: &[u8], state: &[u8], certificates: &[u64], ends: &[u16], facts: &mut [u64], assumptions: &mut [u64],
     goal_bytes: &[u8], goal: Judgement, here: Here,
 ) -> Checked
-    ensures walks { λ r. ⌜ Checks (lent buffer proof state certificates ends) facts assumptions «goal_bytes» goal here r ⌝ }
+    ensures walks { λ r. ⌜ Checks (sources buffer proof state certificates ends) facts assumptions «goal_bytes» goal here r ⌝ }
     ensures keeps { λ _. ⌜ KeepsRows here assumptions ⌝ }
 {
     let at = here.at;
@@ -177,7 +177,7 @@ fn pair(
     buffer: &[u8], proof: &[u8], state: &[u8], certificates: &[u64], ends: &[u16], facts: &mut [u64], assumptions: &mut [u64],
     goal_bytes: &[u8], goal: Judgement, here: Here,
 ) -> Checked
-    ensures walks { λ r. ⌜ ChecksTagged (lent buffer proof state certificates ends) facts assumptions «goal_bytes» goal here r CheckTag.PairTag ⌝ }
+    ensures walks { λ r. ⌜ ChecksTagged (sources buffer proof state certificates ends) facts assumptions «goal_bytes» goal here r CheckTag.PairTag ⌝ }
     ensures keeps { λ _. ⌜ KeepsRows here assumptions ⌝ }
 {
     let at = here.at;
@@ -203,7 +203,7 @@ fn put_in(
     buffer: &[u8], proof: &[u8], state: &[u8], certificates: &[u64], ends: &[u16], facts: &mut [u64], assumptions: &mut [u64],
     shell: Shell, goal_bytes: &[u8], goal: Judgement, here: Here,
 ) -> Checked
-    ensures walks { λ r. ⌜ ChecksPut (lent buffer proof state certificates ends) facts assumptions «goal_bytes» goal here r shell ⌝ }
+    ensures walks { λ r. ⌜ ChecksPut (sources buffer proof state certificates ends) facts assumptions «goal_bytes» goal here r shell ⌝ }
     ensures keeps { λ _. ⌜ KeepsRows here assumptions ⌝ }
 {
     let scope = here.scope;
@@ -227,7 +227,7 @@ fn take_out(
     buffer: &[u8], proof: &[u8], state: &[u8], certificates: &[u64], ends: &[u16], facts: &mut [u64], assumptions: &mut [u64],
     shell: Shell, goal_bytes: &[u8], goal: Judgement, here: Here,
 ) -> Checked
-    ensures walks { λ r. ⌜ ChecksTaken (lent buffer proof state certificates ends) facts assumptions «goal_bytes» goal here r shell ⌝ }
+    ensures walks { λ r. ⌜ ChecksTaken (sources buffer proof state certificates ends) facts assumptions «goal_bytes» goal here r shell ⌝ }
     ensures keeps { λ _. ⌜ KeepsRows here assumptions ⌝ }
 {
     let scope = here.scope;

@@ -4,23 +4,19 @@ use Rattle.verifier.proofs.Answers.{stopped-with, went-with, certificat
 use Rattle.verifier.proofs.verify.malformed.Statement.{statement}
 use Rattle.verifier.proofs.verify.malformed.Tie as tie
 
-enum-known-stop : tie.Need-enum-known-stop
-enum-known-stop c = search needs
-
-enum-told : tie.Need-enum-told
-enum-told c = search needs
-
-proof-malformed-requires : tie.Need-proof-malformed-requires
-proof-malformed-requires c κs = search needs
-
 returns : tie.Need-returns
-returns c = λ records buffer many stops. certificate-stops records buffer _ _ (stopped-with _ _ _ (c .before .stop .given .1) stops)
+returns c = (
+  λ records buffer many stops. certificate-stops records buffer _ _ (stopped-with _ _ _ (c .before .stop .given .1) stops),
+  λ going. ?,
+)
 
 returns-2 : tie.Need-returns-2
-returns-2 c =
-    λ records buffer many stops.
-    let first = went-with _ _ (c .before .enum-told .given .1) stops in
-    proof-decides records buffer _ (first .0) _ (c .proof-malformed .result) (first .1) many (c .proof-malformed .ensures)
+returns-2 c = (
+  λ records buffer many stops.
+      let first = went-with _ _ (c .before .enum-told .given .1) stops in
+      proof-decides records buffer _ (first .0) _ (c .proof-malformed .result) (first .1) many (c .proof-malformed .ensures .0),
+  λ going. c .proof-malformed .ensures .1,
+)
 
 pub malformed-spec : {M : Type 1} → statement M
-malformed-spec = tie.close (tie.spec enum-known-stop enum-told proof-malformed-requires returns returns-2)
+malformed-spec = tie.close (tie.spec (λ c. search needs) (λ c. search needs) (λ c κs. search needs) ? ?)

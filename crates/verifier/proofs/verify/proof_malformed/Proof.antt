@@ -5,17 +5,13 @@ use Rattle.procap.proofs.Telling.{holds, fails}
 use Rattle.verifier.proofs.verify.proof_malformed.Statement.{statement}
 use Rattle.verifier.proofs.verify.proof_malformed.Tie as tie
 
-well-formed-requires : tie.Need-well-formed-requires
-well-formed-requires c κs = search needs
-
 returns : tie.Need-returns
 returns c =
-    let found = holds _ (c .if1 .taken) (c .before .well-formed .ensures) in
-    (found .0, a-proof _ _ (found .0) (found .1))
+    let found = holds _ (c .if1 .taken) (c .before .well-formed .ensures .0) in
+    ((found .0, a-proof _ _ (found .0) (found .1)), c .before .well-formed .ensures .1)
 
 returns-2 : tie.Need-returns-2
-returns-2 c =
-    no-proof _ _ (fails _ (c .if1 .left) (c .before .well-formed .ensures))
+returns-2 c = (no-proof _ _ (fails _ (c .if1 .left) (c .before .well-formed .ensures .0)), c .before .well-formed .ensures .1)
 
 pub proof-malformed-spec : {M : Type 1} → statement M
-proof-malformed-spec = tie.close (tie.spec well-formed-requires returns returns-2)
+proof-malformed-spec = tie.close (tie.spec ?)
