@@ -18,7 +18,7 @@ use Rattle.bl.specs.Trees.{Check, states}
 use Rattle.bl.specs.Steps.{most-proof-bytes, most-proof-levels, most-states, check-step, few-states, proof-in}
 use Rattle.bl.proofs.Called.{proof-step}
 use Rattle.steps.specs.Ends.{slot, most-ends, ToldChecking}
-use Rattle.steps.specs.Todo.{Parts, parts, noted, left, Small}
+use Rattle.steps.specs.Todo.{Parts, parts, noted, left, todo-in, Small}
 use Rattle.steps.specs.declared.todo.Todo.{Todo}
 use Rattle.steps.specs.declared.todo.Todo.the-variants.{Times, Inferring, Checking, Second}
 use Rattle.steps.specs.declared.todo.Opened.{Opened}
@@ -26,7 +26,7 @@ use Rattle.steps.specs.declared.todo.Opened.the-variants.{Nothing, Leaf,
 use Rattle.steps.proofs.Marks.{marked, each-so, all-there}
 use Rattle.steps.proofs.StepPlaces.{marks-checking, told-checking, checks-there}
 use Rattle.steps.proofs.TodoRead.{Found, after-checking, all-read, first-read, alone-read}
-use Rattle.steps.proofs.TodoStack.{todos-in, todos-length, newest, one-put, two-put, size, some-size, room, Fit, turns, Leaves, leaves}
+use Rattle.steps.proofs.TodoStack.{below, at-hand, below-length, in-hand, taken-up, puts-off, size, some-size, room, Fit, turns, Leaves, leaves}
 
 -- The table keeps its length.
 pub noted-length : (t : Todo) (at : ℕ) (ends : List ℕ) → length (noted t at ends) ≡ length ends
@@ -41,91 +41,100 @@ module _ (proof : List ℕ) (c : ℕ) (ends₀ : List ℕ) where
   abbrev pub Whole : Option (Found × ℕ) → Type 0
   Whole o = all-read proof c (Checking most-proof-levels 0 ∷ []) (0, ends₀) 0 ≡ o
 
-  -- What is so before a turn.
-  pub record SoFar (ends : List ℕ) (pending : List Todo) (count place states : ℕ) : Type 0 where
-    pub reads : Whole (all-read proof c (todos-in pending count) (states, ends) place)
-    pub fit : Fit (todos-in pending count)
+  -- What is so before a turn: one thing is at hand, and others wait.
+  pub record SoFar (ends waiting : List ℕ) (todo : Todo) (count place states : ℕ) : Type 0 where
+    pub reads : Whole (all-read proof c (at-hand todo waiting count) (states, ends) place)
+    pub fit : Fit (at-hand todo waiting count)
+    pub short : length proof ≤ most-proof-bytes
     pub inside : place ≤ length proof
     pub few : states ≤ place
 
   -- The whole proof is to be read at first.
-  pub begins : (rest : List Todo) → SoFar ends₀ (Checking most-proof-levels 0 ∷ rest) 1 0 0
-  unfolding todos-in Fit size Small
-  begins rest = record { reads = refl; fit = (omega arith, omega arith, tt); inside = omega arith; few = omega arith }
+  pub begins : (waiting : List ℕ) → length proof ≤ most-proof-bytes → SoFar ends₀ waiting (Checking most-proof-levels 0) 1 0 0
+  unfolding at-hand below Fit size Small
+  begins waiting short = record { reads = refl; fit = (omega arith, omega arith, tt); short = short; inside = omega arith; few = omega arith }
 
   -- ── A turn ──
 
-  module _ (ends : List ℕ) (pending : List Todo) (count place states : ℕ) (so : SoFar ends pending count place states) (more : 0 < count) where
-    abbrev pub todo : Todo
-    todo = getD pending (count - 1) (Times 0)
-
+  module _ (ends waiting : List ℕ) (todo : Todo) (count place states : ℕ) (so : SoFar ends waiting todo count place states) (more : 0 < count) where
     abbrev others : List Todo
-    others = todos-in pending (count - 1)
+    others = below waiting (count - 1)
 
     one-more : count ≡ suc (count - 1)
     one-more = omega arith
 
-    fits : Fit (todo ∷ others)
-    fits = rw (newest pending count (count - 1) one-more) at (so .fit)
+    in-order : at-hand todo waiting count ≡ todo ∷ others
+    in-order = in-hand todo waiting count (count - 1) one-more
 
-    -- There is room for it and one more, and it is small.
+    fits : Fit (todo ∷ others)
+    fits = rw in-order at (so .fit)
+
+    -- There is room for one more, and what is at hand is small.
     pub count-fits : count ≤ room
     unfolding Fit
-    count-fits = omega (arith, fits .0, some-size todo, todos-length pending (count - 1))
+    count-fits = omega (arith, fits .0, some-size todo, below-length waiting (count - 1))
 
     pub todo-small : Small todo
     unfolding Fit
     todo-small = fits .1
 
     opens : Whole (then (parts proof c todo place) (λ x. all-read proof c (x .1 ++ others) (states + x .0, noted todo place ends)))
-    opens = so .reads ∙ ap (λ ts. all-read proof c ts (states, ends) place) (newest pending count (count - 1) one-more) ∙ sym (first-read proof c todo others (states, ends) place)
+    opens = so .reads ∙ ap (λ ts. all-read proof c ts (states, ends) place) in-order ∙ sym (first-read proof c todo others (states, ends) place)
 
     -- What is so after it.
-    pub record Turned (stack : List Todo) (n e k : ℕ) : Type 0 where
-      pub next : SoFar (noted todo place ends) stack n e k
-      pub fewer : turns proof (todos-in stack n) e < turns proof (todos-in pending count) place
-      pub few : k ≤ e
-      pub inside : e ≤ length proof
-
-    turned : (x : Parts) (e : ℕ) (stack : List Todo) (n : ℕ) → parts proof c todo place ≡ some (x, e) → todos-in stack n ≡ x .1 ++ others
-        → Turned stack n e (states + x .0)
-    unfolding then
-    turned x e stack n p same =
-        let l = so-read _ p (leaves proof c todo others place fits (so .inside)) in
-        let few : states + x .0 ≤ e = omega (arith, so .few, l .counted) in
-        record {
-          next = record { reads = rw same (opens ∙ (rw p refl)); fit = rw same (l .fit); inside = l .inside; few = few };
-          fewer = rw (same, newest pending count (count - 1) one-more) (l .fewer);
-          few = few;
-          inside = l .inside;
-        }
+    pub record Turned (stack : List ℕ) (t : Todo) (n e k : ℕ) : Type 0 where
+      pub next : SoFar (noted todo place ends) stack t n e k
+      pub fewer : turns proof (at-hand t stack n) e < turns proof (at-hand todo waiting count) place
 
     module _ (r : Opened) (is : left r ≡ parts proof c todo place) where
+      opened-leaves : (x : Parts) (e : ℕ) → left r ≡ some (x, e) → Leaves proof todo others place x e
+      opened-leaves x e p = so-read _ (sym is ∙ p) (leaves proof c todo others place fits (so .inside) (so .short))
+
+      turned : (x : Parts) (e : ℕ) (stack : List ℕ) (t : Todo) (n : ℕ) → left r ≡ some (x, e) → at-hand t stack n ≡ x .1 ++ others
+          → Turned stack t n e (states + x .0)
+      unfolding then
+      turned x e stack t n p same =
+          let l = opened-leaves x e p in
+          record {
+            next = record {
+              reads = rw same (opens ∙ (rw (sym is ∙ p) refl));
+              fit = rw same (l .fit);
+              short = so .short;
+              inside = l .inside;
+              few = omega (arith, so .few, l .counted);
+            };
+            fewer = rw (same, in-order) (l .fewer);
+          }
+
       pub nothing-there : r ≡ Nothing → Whole none
       unfolding left then
       nothing-there e = opens ∙ (rw (← is, e) refl)
 
-      pub leaf-turned : (next k : ℕ) → r ≡ Leaf next k → Turned pending (count - 1) next (states + k)
+      -- The newest of what waits is taken up, a part is taken up, and one of two parts waits.
+      pub leaf-turned : (next k : ℕ) (t : Todo) → r ≡ Leaf next k → t ≡ todo-in (getD waiting (count - 1) 0) → Turned waiting t (count - 1) next (states + k)
       unfolding left
-      leaf-turned next k e = turned (k, []) next pending (count - 1) (sym is ∙ ap left e) refl
+      leaf-turned next k t e taken = turned (k, []) next waiting t (count - 1) (ap left e) (rw taken (taken-up waiting (count - 1)))
 
-      pub one-turned : (next : ℕ) (t : Todo) → count ≤ length pending → r ≡ One next t → Turned (set pending (count - 1) t) count next states
+      pub one-turned : (next : ℕ) (t : Todo) → r ≡ One next t → Turned waiting t count next states
       unfolding left
-      one-turned next t l e =
-          rw add-zero at (turned (0, t ∷ []) next (set pending (count - 1) t) count (sym is ∙ ap left e) (one-put pending count (count - 1) t one-more (omega arith)))
+      one-turned next t e = rw add-zero at (turned (0, t ∷ []) next waiting t count (ap left e) (in-hand t waiting count (count - 1) one-more))
 
-      pub two-turned : (next : ℕ) (t u : Todo) → count < length pending → r ≡ Two next t u
-          → Turned (set (set pending (count - 1) u) count t) (count + 1) next states
+      pub later-small : (next : ℕ) (t u : Todo) → r ≡ Two next t u → Small u
+      unfolding left Fit
+      later-small next t u e = opened-leaves (0, t ∷ u ∷ []) next (ap left e) .fit .2 .1
+
+      pub two-turned : (next : ℕ) (t u : Todo) (x : ℕ) → count < length waiting → r ≡ Two next t u → todo-in x ≡ u
+          → Turned (set waiting count x) t (count + 1) next states
       unfolding left
-      two-turned next t u l e =
-          rw add-zero at (turned (0, t ∷ u ∷ []) next _ (count + 1) (sym is ∙ ap left e) (two-put pending count (count - 1) t u one-more l))
+      two-turned next t u x l e put =
+          rw add-zero at (turned (0, t ∷ u ∷ []) next (set waiting count x) t (count + 1) (ap left e) (puts-off t u waiting count (count - 1) x one-more l put))
 
   -- ── What is said of the proof in the end ──
 
   -- Nothing is left to be read.
-  pub ended : (ends : List ℕ) (pending : List Todo) (count place states : ℕ) → SoFar ends pending count place states → count ≡ 0 → Whole (some ((states, ends), place))
-  unfolding todos-in all-read
-  ended ends pending count place states so z = subst (λ n. Whole (all-read proof c (todos-in pending n) (states, ends) place)) z (so .reads)
+  pub ended : (ends waiting : List ℕ) (todo : Todo) (count place states : ℕ) → SoFar ends waiting todo count place states → count ≡ 0 → Whole (some ((states, ends), place))
+  unfolding at-hand all-read
+  ended ends waiting todo count place states so z = subst (λ n. Whole (all-read proof c (at-hand todo waiting n) (states, ends) place)) z (so .reads)
 
   -- The step that was read, with its steps 2C and its marks.
   pub record IsRead (place found : ℕ) (ends : List ℕ) : Type 0 where

@@ -1,9 +1,9 @@
--- What is to be read on a stack, the newest last: it has room, since each level needs one place and the second part of a 26 one more; and opening goes forth.
+-- What is to be read, one thing at hand and the others on a stack, the newest last: it has room, since each level needs one place and the second part of a 26 one more; and opening goes forth.
 use Prim.Native.Nat.{ℕ, zero, suc, _+_, _-_, _*_, _≤_, _<_}
 use mathlib.Core.Path.{_≡_, refl, sym, ap, _∙_}
 use mathlib.Core.List.{List, [], _∷_, _++_}
 use native.Mathlib.Omega.{arith}
-use lib.ListN.{length, getD, set, length-set}
+use lib.ListN.{length, getD, set}
 use lib.Seq.{getD-set-same, getD-set-other}
 use Rattle.procap.proofs.Readers.{IfRead, read, unread, then-read, ensure-read}
 use Rattle.procap.proofs.ReadApart.{byte-then}
@@ -12,43 +12,53 @@ use Rattle.bl.specs.declared.InferTag.the-variants.{LocalTag, CertificateTag, F
 use Rattle.bl.specs.declared.CheckTag.{CheckTag}
 use Rattle.bl.specs.declared.CheckTag.the-variants.{PairTag, TopStepTag, AtInTag, AtOutTag, SaysInTag, SaysOutTag, StateTag, OrderStepTag, InferredTag, NoCheckTag}
 use Rattle.bl.specs.Tags.{infer-tag, check-tag}
-use Rattle.bl.specs.Steps.{most-proof-levels}
-use Rattle.steps.specs.Todo.{Parts, index-parts, time-parts, times-parts, inferring-parts, checking-parts, parts, Small}
+use Rattle.bl.specs.Steps.{most-proof-bytes, most-proof-levels}
+use Rattle.steps.specs.Todo.{Parts, index-parts, time-parts, times-parts, inferring-parts, checking-parts, parts, todo-in, Small}
 use Rattle.steps.specs.declared.todo.Todo.{Todo}
 use Rattle.steps.specs.declared.todo.Todo.the-variants.{Times, Inferring, Checking, Second}
 use Rattle.steps.proofs.StepPlaces.{number-takes, term-takes, time-takes, some-bytes}
 
 -- ── The stack ──
 
--- The first n things, the last of them first.
-unfoldable pub todos-in : List Todo → ℕ → List Todo
-todos-in stack zero = []
-todos-in stack (suc n) = getD stack n (Times 0) ∷ todos-in stack n
+-- What waits at the places n to 1.
+unfoldable pub below : List ℕ → ℕ → List Todo
+below st zero = []
+below st (suc n) = todo-in (getD st (suc n) 0) ∷ below st n
 
-pub todos-length : (st : List Todo) (n : ℕ) → length (todos-in st n) ≡ n
-unfolding todos-in
-todos-length st zero = refl
-todos-length st (suc n) = ap suc (todos-length st n)
+-- And before it what is at hand: so many things in all.
+unfoldable pub at-hand : Todo → List ℕ → ℕ → List Todo
+at-hand t st zero = []
+at-hand t st (suc n) = t ∷ below st n
 
--- The newest, and the others.
-pub newest : (st : List Todo) (m n : ℕ) → m ≡ suc n → todos-in st m ≡ getD st n (Times 0) ∷ todos-in st n
-unfolding todos-in
-newest st m n e = rw e refl
+pub below-length : (st : List ℕ) (n : ℕ) → length (below st n) ≡ n
+unfolding below
+below-length st zero = refl
+below-length st (suc n) = ap suc (below-length st n)
 
--- Of what is put past the count the count takes no notice.
-unnoticed : (st : List Todo) (i : ℕ) (t : Todo) (n : ℕ) → n ≤ i → todos-in (set st i t) n ≡ todos-in st n
-unfolding todos-in
-unnoticed st i t zero l = refl
-unnoticed st i t (suc n) l = rw (getD-set-other st i n t (Times 0) (λ e. omega arith), unnoticed st i t n (omega arith)) refl
+pub in-hand : (t : Todo) (st : List ℕ) (m n : ℕ) → m ≡ suc n → at-hand t st m ≡ t ∷ below st n
+unfolding at-hand
+in-hand t st m n e = rw e refl
 
--- One put there, and one more.
-pub one-put : (st : List Todo) (m n : ℕ) (t : Todo) → m ≡ suc n → n < length st → todos-in (set st n t) m ≡ t ∷ todos-in st n
-one-put st m n t e l = rw (newest (set st n t) m n e, getD-set-same st n t (Times 0) l, unnoticed st n t n (omega arith)) refl
+-- The newest of what waits, taken up.
+pub taken-up : (st : List ℕ) (n : ℕ) → at-hand (todo-in (getD st n 0)) st n ≡ below st n
+unfolding at-hand below
+taken-up st zero = refl
+taken-up st (suc n) = refl
 
-pub two-put : (st : List Todo) (m n : ℕ) (t u : Todo) → m ≡ suc n → m < length st → todos-in (set (set st n u) m t) (m + 1) ≡ t ∷ u ∷ todos-in st n
-two-put st m n t u e l =
-    one-put (set st n u) (m + 1) m t (omega arith) (rw (length-set st n u) l)
-    ∙ ap (λ ts. t ∷ ts) (one-put st m n u e (omega arith))
+-- Of what is put past the count the count takes no notice; and one put there waits.
+unnoticed : (st : List ℕ) (i x n : ℕ) → n < i → below (set st i x) n ≡ below st n
+unfolding below
+unnoticed st i x zero l = refl
+unnoticed st i x (suc n) l = rw (getD-set-other st i (suc n) x 0 (λ e. omega arith), unnoticed st i x n (omega arith)) refl
+
+put-off : (st : List ℕ) (n x : ℕ) → suc n < length st → below (set st (suc n) x) (suc n) ≡ todo-in x ∷ below st n
+unfolding below
+put-off st n x l = rw (getD-set-same st (suc n) x 0 l, unnoticed st (suc n) x n (omega arith)) refl
+
+pub puts-off : (t u : Todo) (st : List ℕ) (m n x : ℕ) → m ≡ suc n → m < length st → todo-in x ≡ u
+    → at-hand t (set st m x) (m + 1) ≡ t ∷ u ∷ below st n
+puts-off t u st m n x e l is =
+    in-hand t (set st m x) (m + 1) m (omega arith) ∙ ap (λ ts. t ∷ ts) (rw (e, ← is) (put-off st n x (rw e at l)))
 
 -- ── Room ──
 
@@ -166,23 +176,23 @@ module _ (proof : List ℕ) (c : ℕ) (t : Todo) (ts : List Todo) (at : ℕ) (re
       checking-leaves i NoCheckTag = unread
 
 -- A second part, without a byte: itself, and its times.
-second-leaves : (proof : List ℕ) (n h : ℕ) (ts : List Todo) (at : ℕ) → Fit (Second n h ∷ ts) → at ≤ length proof
+second-leaves : (proof : List ℕ) (n h : ℕ) (ts : List Todo) (at : ℕ) → Fit (Second n h ∷ ts) → at ≤ length proof → length proof ≤ most-proof-bytes
     → Leaves proof (Second n h) ts at (0, Checking n h ∷ Times at ∷ []) at
 unfolding Fit size Small eager turns
-second-leaves proof n h ts at fit l = record { counted = omega arith; inside = l; fewer = omega arith; fit = (omega arith, fit .1, (omega arith, tt, fit .2)) }
+second-leaves proof n h ts at fit l short = record { counted = omega arith; inside = l; fewer = omega arith; fit = (omega arith, fit .1, (omega arith, omega arith, fit .2)) }
 
 -- What is opened leaves that.
-pub leaves : (proof : List ℕ) (c : ℕ) (t : Todo) (ts : List Todo) (at : ℕ) → Fit (t ∷ ts) → at ≤ length proof → IfRead (Leaves proof t ts at) (parts proof c t at)
+pub leaves : (proof : List ℕ) (c : ℕ) (t : Todo) (ts : List Todo) (at : ℕ) → Fit (t ∷ ts) → at ≤ length proof → length proof ≤ most-proof-bytes → IfRead (Leaves proof t ts at) (parts proof c t at)
 unfolding parts times-parts time-parts Fit size Small eager turns
-leaves proof c (Times begin) ts at fit l =
+leaves proof c (Times begin) ts at fit l short =
     then-read (time-takes proof c at) λ u b d.
     then-read (time-takes proof c b) λ v e f.
     let one = some-bytes u in
     read (forth proof c (Times begin) ts at (fit .2) refl (0, []) e (omega arith) (f .1) (omega arith) (fit .2))
-leaves proof c (Inferring zero h) ts at fit l = unread
-leaves proof c (Inferring (suc n) h) ts at fit l =
+leaves proof c (Inferring zero h) ts at fit l short = unread
+leaves proof c (Inferring (suc n) h) ts at fit l short =
     byte-then proof at _ λ k. inferring-leaves proof c (Inferring (suc n) h) ts at (fit .2) refl n h (omega arith) (fit .1) (omega arith) (infer-tag (getD proof at 0))
-leaves proof c (Checking zero h) ts at fit l = unread
-leaves proof c (Checking (suc n) h) ts at fit l =
+leaves proof c (Checking zero h) ts at fit l short = unread
+leaves proof c (Checking (suc n) h) ts at fit l short =
     byte-then proof at _ λ k. checking-leaves proof c (Checking (suc n) h) ts at (fit .2) refl n h (omega arith) (fit .1) (omega arith) (infer-tag (getD proof at 0)) (check-tag (getD proof at 0))
-leaves proof c (Second n h) ts at fit l = read (second-leaves proof n h ts at fit l)
+leaves proof c (Second n h) ts at fit l short = read (second-leaves proof n h ts at fit l short)

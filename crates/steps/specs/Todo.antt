@@ -1,17 +1,18 @@
 -- A proof's bytes tested without a call inside of a call: a list of what is still to be read. The first of the list is opened at its place, and its parts take its place in the list.
-use Prim.Native.Nat.{ℕ, zero, suc, _+_, _≤_}
+use Prim.Native.Nat.{ℕ, zero, suc, _+_, _/_, _%_, _≤_}
 use mathlib.Core.Path.{_≡_}
 use mathlib.Core.List.{List, [], _∷_}
 use mathlib.Core.Option.{Option, some, none}
 use lib.ListN.{set}
-use lib.Dec.{ltb}
+use lib.Dec.{ltb, eqb}
+use Rattle.procap.specs.Tells.{pick}
 use Rattle.procap.specs.Bytes.{Reader, _>>=_, give, fail, ensure, byte, term}
 use Rattle.bl.specs.declared.InferTag.{InferTag}
 use Rattle.bl.specs.declared.InferTag.the-variants.{LocalTag, CertificateTag, FirstTag, SecondTag, ApplyTag, InstanceTag, NoInferTag}
 use Rattle.bl.specs.declared.CheckTag.{CheckTag}
 use Rattle.bl.specs.declared.CheckTag.the-variants.{PairTag, TopStepTag, AtInTag, AtOutTag, SaysInTag, SaysOutTag, StateTag, OrderStepTag, InferredTag, NoCheckTag}
 use Rattle.bl.specs.Tags.{infer-tag, check-tag}
-use Rattle.bl.specs.Steps.{most-proof-levels, time}
+use Rattle.bl.specs.Steps.{most-proof-bytes, most-proof-levels, time}
 use Rattle.procap.specs.Lent.{Lent}
 use Rattle.steps.specs.Ends.{slot}
 use Rattle.steps.specs.declared.todo.Todo.{Todo}
@@ -98,9 +99,16 @@ left (Leaf next states) = some ((states, []), next)
 left (One next t) = some ((0, t ∷ []), next)
 left (Two next t u) = some ((0, t ∷ u ∷ []), next)
 
--- Levels and assumptions together are within the levels of a proof.
+-- What waits as a number: the kind in two bits, then a place, or levels and assumptions in six bits each.
+unfoldable pub todo-in : ℕ → Todo
+todo-in x =
+    pick (eqb (x % 4) 0) (Times (x / 4))
+    (pick (eqb (x % 4) 1) (Inferring (x / 4 % 64) (x / 256 % 64))
+    (pick (eqb (x % 4) 2) (Checking (x / 4 % 64) (x / 256 % 64)) (Second (x / 4 % 64) (x / 256 % 64))))
+
+-- A place of a proof; levels and assumptions that are together within its levels.
 unfoldable pub Small : Todo → Type 0
-Small (Times begin) = Unit {0}
+Small (Times begin) = begin ≤ most-proof-bytes
 Small (Inferring n h) = n + h ≤ most-proof-levels
 Small (Checking n h) = n + h ≤ most-proof-levels
 Small (Second n h) = n + h ≤ most-proof-levels

@@ -8,9 +8,10 @@ use bl::InferTag;
 use procap::bytes::TermRead;
 use procap::bytes::past;
 use procap::fact::Term;
-ghost use Prim.Native.Nat.{_+_, _<_};
+ghost use mathlib.Core.Path.{_≡_};
+ghost use Prim.Native.Nat.{_+_, _*_, _<_};
 ghost use Rattle.bl.specs.Steps.{«most-proof-levels»};
-ghost use Rattle.steps.specs.Todo.{Small, OpensIndex, OpensInferring, OpensChecking, OpensTime, OpensTimes, Opens};
+ghost use Rattle.steps.specs.Todo.{Small, «todo-in», OpensIndex, OpensInferring, OpensChecking, OpensTime, OpensTimes, Opens};
 
 // The two times of the 26 whose second part began at a place; a step that must infer, or one that checks, of at most so many levels and with so many assumptions around it; the second part of a 26, which checks, and its times.
 pub(crate) enum Todo {
@@ -26,6 +27,41 @@ pub(crate) enum Opened {
     Leaf(usize, usize),
     One(usize, Todo),
     Two(usize, Todo, Todo),
+}
+
+// A step that waits, as a number: its kind in two bits, then levels and assumptions, in six bits each.
+fn step_number(kind: u64, levels: u8, assumptions: u8) -> u64
+    requires { ⌜ kind < 4 ⌝ }
+    ensures { λ r. ⌜ r ≡ kind + 4 * levels + 256 * assumptions ⌝ }
+{
+    kind + 4 * (levels as u64) + 256 * (assumptions as u64)
+}
+
+// What waits, as a number.
+pub(crate) fn number_of(todo: Todo) -> u64
+    requires { ⌜ Small todo ⌝ }
+    ensures { λ r. ⌜ «todo-in» r ≡ todo ⌝ }
+{
+    match todo {
+        Todo::Times(begin) => 4 * (begin as u64),
+        Todo::Inferring(levels, assumptions) => step_number(1, levels, assumptions),
+        Todo::Checking(levels, assumptions) => step_number(2, levels, assumptions),
+        Todo::Second(levels, assumptions) => step_number(3, levels, assumptions),
+    }
+}
+
+// What waits, from its number.
+pub(crate) fn todo_of(number: u64) -> Todo
+    ensures { λ r. ⌜ r ≡ «todo-in» number ⌝ }
+{
+    let levels = (number / 4 % 64) as u8;
+    let assumptions = (number / 256 % 64) as u8;
+    match number % 4 {
+        0 => Todo::Times((number / 4) as usize),
+        1 => Todo::Inferring(levels, assumptions),
+        2 => Todo::Checking(levels, assumptions),
+        _ => Todo::Second(levels, assumptions),
+    }
 }
 
 // An index below a limit.
