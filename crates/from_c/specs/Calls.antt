@@ -2,8 +2,7 @@
 use Prim.Native.Nat.{ℕ}
 use mathlib.Core.List.{List}
 use lib.ListN.{length}
-use denote.Ref.{RefT}
-use denote.Triple.Both.{Both}
+use Rattle.procap.specs.Lent.{Lent}
 use Rattle.procap.specs.Procaps.{request-of}
 use Rattle.procap.specs.Outcome.{Outcome, granted, refused, go-on}
 use Rattle.procap.specs.declared.procap.Request.{Request}
@@ -13,20 +12,16 @@ use Rattle.door.specs.Door.{opening}
 use Rattle.from_c.specs.Records.{records-in}
 use Rattle.from_c.specs.Values.{value-in}
 
--- Lent bytes, as a contract names them: on entry and at the exit.
-abbrev pub Bytes : Type 0
-Bytes = Both (RefT (List ℕ)) (RefT (List ℕ))
-
 -- Verify, and then the text of the procap into a buffer with so much room.
 unfoldable pub verifying : Request → List ℕ → List ℕ → List ℕ → ℕ → Outcome (List ℕ)
 verifying r records buffer proof room = go-on (verified r (records-in records) buffer proof) λ p. writing p room
 
 -- The same for the request of three numbers, over what is lent; and the direct check.
-abbrev pub verifying-over : ℕ → ℕ → ℕ → Bytes → Bytes → Bytes → Bytes → Outcome (List ℕ)
+abbrev pub verifying-over : ℕ → ℕ → ℕ → Lent → Lent → Lent → Lent → Outcome (List ℕ)
 verifying-over who what right records buffer proof out =
     verifying (request-of who what right) (records .entry .now) (buffer .entry .now) (proof .entry .now) (length (out .entry .now))
 
-abbrev pub checking-over : ℕ → ℕ → ℕ → Bytes → Bytes → Bytes → ℕ → Bytes → Outcome (Unit {0})
+abbrev pub checking-over : ℕ → ℕ → ℕ → Lent → Lent → Lent → ℕ → Lent → Outcome (Unit {0})
 checking-over who what right records buffer proof moment state =
     directly (request-of who what right) (records-in (records .entry .now)) (buffer .entry .now) (proof .entry .now) moment (state .entry .now)
 
@@ -39,7 +34,7 @@ unfoldable pub value-writing : List ℕ → ℕ → Outcome (List ℕ)
 value-writing value room = go-on (value-in value) λ p. writing p room
 
 -- The same over what is lent.
-abbrev pub value-writing-over : Bytes → Bytes → Outcome (List ℕ)
+abbrev pub value-writing-over : Lent → Lent → Outcome (List ℕ)
 value-writing-over value out = value-writing (value .entry .now) (length (out .entry .now))
 
 -- The door on a value.
@@ -47,7 +42,7 @@ unfoldable pub value-opening : List ℕ → Request → ℕ → List ℕ → Out
 value-opening value r m state = go-on (value-in value) λ p. opening p r m state
 
 -- The same for the request of three numbers, over what is lent.
-abbrev pub value-opening-over : Bytes → ℕ → ℕ → ℕ → ℕ → Bytes → Outcome (Unit {0})
+abbrev pub value-opening-over : Lent → ℕ → ℕ → ℕ → ℕ → Lent → Outcome (Unit {0})
 value-opening-over value who what right moment state = value-opening (value .entry .now) (request-of who what right) moment (state .entry .now)
 
 -- How many of so many presses go through, if one such press comes to this.

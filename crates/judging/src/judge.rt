@@ -589,13 +589,7 @@ pub fn order(bytes: &[u8], offset: usize, goal: Judgement, ledger: Ledger) -> Le
 }
 
 // An inferring step where one is checked: the same formula, on an interval around the goal's.
-pub fn within(
-    buffer: &[u8],
-    bytes: &[u8],
-    offset: usize,
-    inferred: Inferred,
-    goal: Judgement,
-) -> Ledger
+fn within(buffer: &[u8], bytes: &[u8], offset: usize, inferred: Inferred, goal: Judgement) -> Ledger
     ensures { λ r. ⌜ FitsGoal (now (buffer .entry)) (now (bytes .entry)) offset inferred goal r ⌝ }
 {
     let ledger = inferred.ledger;

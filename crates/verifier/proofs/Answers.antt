@@ -63,6 +63,9 @@ stopped-with o s answer e h = rw e at h
 pub went-with : {A : Type 0} (o : Outcome A) (s : Stop) → s ≡ Going → Stops o s → (a : A) × (o ≡ granted a)
 went-with o s e h = rw e at h
 
+pub stopped-not-going : {answer : Answer} → Stopped answer ≡ Going → ⊥
+stopped-not-going e = let z : _≡_ {A = ℕ} 0 1 = cc in omega arith
+
 -- ── The end ──
 
 module _ (r : Request) (l : Ledger) (list : List ℕ) (v : Verified) where

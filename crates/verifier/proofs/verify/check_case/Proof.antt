@@ -12,31 +12,13 @@ use Rattle.verifier.proofs.verify.check_case.Tie as tie
 returns : tie.Need-returns
 returns c = λ cs N reads. moment-above _ cs N _ _ (c .if1 .taken)
 
-well-formed-requires : tie.Need-well-formed-requires
-well-formed-requires c κs = search needs
-
 returns-2 : tie.Need-returns-2
 returns-2 c =
     let told = c .before .well-formed in
     let moment = c .before .before in
-    let state = moment .before .before .before .before .before .args .state .now in
+    let state = moment .before .before .before .before .before .before .args .state .now in
     λ cs N reads.
     state-says-nothing _ cs N _ _ (moment .if1 .left) (fails-where (told .result) {P = WellFormed state} (c .if2 .taken) (told .ensures))
-
-slice-aggregate-walked : tie.Need-slice-aggregate-walked
-slice-aggregate-walked c = search needs
-
-walked-requires : tie.Need-walked-requires
-walked-requires c κs = search needs
-
-stop-requires : tie.Need-stop-requires
-stop-requires c κs = search needs
-
-enum-known-stop : tie.Need-enum-known-stop
-enum-known-stop c = search needs
-
-enum-told : tie.Need-enum-told
-enum-told c = search needs
 
 returns-3 : tie.Need-returns-3
 unfolding OnClock
@@ -45,10 +27,10 @@ returns-3 c =
     let formed = walk .before .before in
     let told = formed .before .well-formed in
     let moment = formed .before .before in
-    let state = moment .before .before .before .before .before .args .state .now in
+    let state = moment .before .before .before .before .before .before .args .state .now in
     let says : WellFormed state = holds-else (told .result) (formed .if2 .left) (told .ensures) in
     λ cs N reads.
-    check-stopped _ _ _ _ _ _ (replicate 160 0) _ _ (moment .if1 .left) refl (walk .walked .ensures) cs N reads _ refl (moment .if1 .left)
+    check-stopped _ _ _ _ _ _ _ (replicate 160 0) _ _ (moment .if1 .left) refl (walk .walked .ensures) cs N reads _ refl (moment .if1 .left)
     (says .0) (says .1) _ (sym (c .before .before .before .stop .ensures) ∙ c .before .stop2 .given .1)
 
 returns-4 : tie.Need-returns-4
@@ -58,23 +40,13 @@ returns-4 c =
     let formed = walk .before .before in
     let told = formed .before .well-formed in
     let moment = formed .before .before in
-    let state = moment .before .before .before .before .before .args .state .now in
+    let state = moment .before .before .before .before .before .before .args .state .now in
     let says : WellFormed state = holds-else (told .result) (formed .if2 .left) (told .ensures) in
     λ cs N reads.
-    check-accepted _ _ _ _ _ _ (replicate 160 0) _ _ (moment .if1 .left) refl (walk .walked .ensures) cs N reads _ refl (moment .if1 .left)
+    check-accepted _ _ _ _ _ _ _ (replicate 160 0) _ _ (moment .if1 .left) refl (walk .walked .ensures) cs N reads _ refl (moment .if1 .left)
     (says .0) (says .1) (sym (c .before .before .stop .ensures) ∙ c .enum-told .given .1)
 
 pub check-case-spec : {M : Type 1} → statement M
 check-case-spec =
     tie.close
-    (tie.spec
-    returns
-    well-formed-requires
-    returns-2
-    slice-aggregate-walked
-    walked-requires
-    stop-requires
-    enum-known-stop
-    enum-told
-    returns-3
-    returns-4)
+    (tie.spec returns (λ c κs. search needs) returns-2 (λ c. search needs) (λ c κs. search needs) (λ c κs. search needs) (λ c. search needs) (λ c. search needs) returns-3 returns-4)

@@ -1,33 +1,25 @@
--- What is malformed stops the direct check with its answer; a case that reads is checked.
+-- What is malformed stops the direct check with its answer; a case that reads is checked, with the table of ends.
 use borrow.Author.Needs.{needs}
+use native.Mathlib.Omega.{arith}
 use Rattle.verifier.proofs.Answers.{stopped-with, went-with, direct-stops, direct-goes-on}
 use Rattle.verifier.proofs.verify.direct_taken.Statement.{statement}
 use Rattle.verifier.proofs.verify.direct_taken.Tie as tie
 
-malformed-requires : tie.Need-malformed-requires
-malformed-requires c κs = search needs
-
-enum-known-answer : tie.Need-enum-known-answer
-enum-known-answer c = search needs
-
-enum-told : tie.Need-enum-told
-enum-told c = search needs
-
-check-case-requires : tie.Need-check-case-requires
-check-case-requires c κs = search needs
-
 returns : tie.Need-returns
 returns c =
+    let tested = c .before .before .before .before .malformed .ensures in
     λ records many taken.
-    direct-stops _ records _ _ taken _ _ _ (stopped-with _ _ _ (c .before .answer .given .1) (c .before .before .before .malformed .ensures records _ many (taken .stops)))
+    direct-stops _ records _ _ taken _ _ _ (stopped-with _ _ _ (c .before .answer .given .1) (tested .0 records _ many (taken .stops)))
 
 returns-2 : tie.Need-returns-2
 returns-2 c =
+    let going = c .before .before .enum-told .given .1 in
+    let tested = c .before .before .before .before .before .malformed .ensures in
     λ records many taken.
-    let case = went-with _ _ (c .before .enum-told .given .1) (c .before .before .before .malformed .ensures records _ many (taken .stops)) in
-    direct-goes-on _ records _ _ taken _ _ _ (case .0) (case .1) (c .check-case .ensures)
+    let case = went-with _ _ going (tested .0 records _ many (taken .stops)) in
+    direct-goes-on _ records _ _ taken _ _ _ (λ N reads. tested .1 going N (omega arith) (rw many at reads)) (case .0) (case .1) (c .check-case .ensures)
 
 pub direct-taken-spec : {M : Type 1} → statement M
 direct-taken-spec =
     tie.close
-    (tie.spec malformed-requires enum-known-answer enum-told check-case-requires returns returns-2)
+    (tie.spec (λ c. search needs) (λ c κs. search needs) (λ c. search needs) (λ c. search needs) (λ c. search needs) (λ c κs. search needs) returns returns-2)

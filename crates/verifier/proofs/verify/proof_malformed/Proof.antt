@@ -7,11 +7,14 @@ use Rattle.verifier.proofs.verify.proof_malformed.Tie as tie
 
 returns : tie.Need-returns
 returns c =
-    let found = holds _ (c .if1 .taken) (c .before .well-formed .ensures .0) in
-    ((found .0, a-proof _ _ (found .0) (found .1)), c .before .well-formed .ensures .1)
+    let tested = c .before .before .before .well-formed .ensures in
+    let found = holds _ (c .if1 .taken) (tested .0) in
+    ((found .0, a-proof _ _ (found .0) (found .1)), tested .1)
 
 returns-2 : tie.Need-returns-2
-returns-2 c = (no-proof _ _ (fails _ (c .if1 .left) (c .before .well-formed .ensures .0)), c .before .well-formed .ensures .1)
+returns-2 c =
+    let tested = c .before .before .before .well-formed .ensures in
+    (no-proof _ _ (fails _ (c .if1 .left) (tested .0)), tested .1)
 
 pub proof-malformed-spec : {M : Type 1} → statement M
-proof-malformed-spec = tie.close (tie.spec ?)
+proof-malformed-spec = tie.close (tie.spec (λ c κs. search needs) (λ c. search needs) returns (λ c. search needs) returns-2)
