@@ -60,7 +60,7 @@ check-begins proof c zero h q N e r = absurd (no-check-step proof c zero h q N e
 check-begins proof c (suc n) h q N e r = check-read proof c n h q N e r .0
 
 -- The tags of steps that check by themselves; at the one that is left out an inferring step stands.
-abbrev ChecksItself : CheckTag → Type 0
+abbrev pub ChecksItself : CheckTag → Type 0
 ChecksItself PairTag = Unit {0}
 ChecksItself TopStepTag = Unit {0}
 ChecksItself AtInTag = Unit {0}

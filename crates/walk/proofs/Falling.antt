@@ -8,6 +8,7 @@ use lib.ListN.{length, getD, List·getD-eq-default}
 use Rattle.bl.specs.declared.CheckTag.{CheckTag}
 use Rattle.bl.specs.declared.CheckTag.the-variants.{PairTag, TopStepTag, AtInTag, AtOutTag, SaysInTag, SaysOutTag, StateTag, OrderStepTag, InferredTag, NoCheckTag}
 use Rattle.bl.specs.Tags.{check-tag}
+use Rattle.ledger.specs.declared.Ledger.{Ledger}
 use Rattle.walk.specs.declared.Here.{Here}
 
 -- What is left at a place of a proof of so many bytes, with so many levels.
@@ -18,6 +19,10 @@ left-over levels all at = levels * suc all + (all - at)
 pub part-falls : (all : ℕ) (here : Here) (left at t : ℕ) → left ≡ here .left → left-over (suc (here .left)) all (here .at + 1) ≡ t → left-over left all at < t
 part-falls all here left at t same is = let product = ap (λ n. n * suc all) same in omega (arith, product, is)
 
+pub step-falls : (all : ℕ) (here : Here) (part : Here) (at : ℕ) (ledger : Ledger) (t : ℕ) → part ≡ record { scope = here .scope; at = at; ledger = ledger; left = here .left }
+    → left-over (suc (here .left)) all (here .at + 1) ≡ t → left-over (part .left) all (part .at) < t
+step-falls all here part at ledger t is = part-falls all here (part .left) (part .at) t (ap (λ h. h .left) is)
+
 -- Where the tag is handed on with the place after it, a byte less is left.
 pub tag-falls : (all : ℕ) (here parts : Here) (t : ℕ) → (here .left ≡ 0 → ⊥) → parts ≡ record { scope = here .scope; at = here .at; ledger = here .ledger; left = here .left - 1 }
     → here .at < all → left-over (here .left) all (here .at) ≡ t → left-over (suc (parts .left)) all (parts .at + 1) < t
@@ -26,7 +31,7 @@ tag-falls all here parts t more below inside is =
     rw below (rw level (omega (arith, inside, is)))
 
 -- A tag that is one stands inside of the proof.
-abbrev IsTag : CheckTag → Type 0
+abbrev pub IsTag : CheckTag → Type 0
 IsTag PairTag = Unit {0}
 IsTag TopStepTag = Unit {0}
 IsTag AtInTag = Unit {0}

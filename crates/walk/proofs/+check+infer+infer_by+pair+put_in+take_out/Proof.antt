@@ -51,18 +51,22 @@ use Rattle.walk.proofs.Here.step.Reads as step-reads
 use Rattle.walk.proofs.+check+infer+infer_by+pair+put_in+take_out.{statement}
 use Rattle.walk.proofs.+check+infer+infer_by+pair+put_in+take_out.Tie.{close}
 use Prim.Native.Nat.{suc, _+_, _-_}
-use mathlib.Core.Path.{refl, sym, ap, _∙_}
+use mathlib.Core.Path.{_≡_, refl, sym, _∙_}
 use native.Mathlib.Omega.{arith}
 use borrow.Author.Needs.{needs}
-use lib.ListN.{length}
+use mathlib.Core.List.{List}
+use lib.ListN.{length, getD}
 use Rattle.procap.proofs.Telling.{holds-else, fails-where}
 use Rattle.bl.specs.declared.CheckTag.the-variants.{AtInTag, AtOutTag, SaysInTag, SaysOutTag}
-use Rattle.walk.specs.Walking.{Keeps}
+use Rattle.bl.specs.declared.CheckTag.{CheckTag}
+use Rattle.bl.specs.Tags.{check-tag}
+use Rattle.judging.specs.declared.judge.Checked.{Checked}
+use Rattle.walk.specs.Walking.{Sources, ChecksAt, ChecksBy}
 use Rattle.walk.specs.WalkCalls.{puts-at, puts-says, takes-at, takes-says}
-use Rattle.walk.proofs.Falling.{left-over, part-falls, tag-falls, tag-inside}
+use Rattle.walk.proofs.Falling.{left-over, part-falls, step-falls, tag-falls, IsTag, tag-inside}
 use Rattle.walk.proofs.Surroundings.{keeps-same, keeps-then, keeps-put, keeps-inside, keeps-others, checks-kept}
 use Rattle.walk.proofs.Inferring.{infer-none, infer-past, infer-tagged, infer-local, infer-certificate, infer-no-tag, infer-first, infer-second, infer-instance, infer-apply-stopped, infer-apply}
-use Rattle.walk.proofs.Checking.{check-none, check-tagged, check-inferred, check-no-tag, check-trivial, check-state, check-order, check-pair-unfit, check-pair-stopped, check-pair, check-put-unfit, check-put, check-take-stopped, check-take-full, check-take}
+use Rattle.walk.proofs.Checking.{ChecksItself, check-none, check-tagged, check-inferred, check-no-tag, check-trivial, check-state, check-order, check-pair-unfit, check-pair-stopped, check-pair, check-put-unfit, check-put, check-take-stopped, check-take-full, check-take}
 
 abbrev μ-check : Measures 8 check-kinds.ps ℕ
 μ-check κs a = left-over (a .1 .1 .1 .1 .1 .1 .1 .1 .1 .0 .left) (length (a .1 .0 .now)) (a .1 .1 .1 .1 .1 .1 .1 .1 .1 .0 .at)
@@ -138,6 +142,31 @@ take-out-calls t = (past-reads.Asked, past-reads.Learnt, step-reads.Asked, step-
 
 -- ── check ──
 
+-- What is known of check where it has read the tag: a level is left, and which tag it is.
+module _ (t : ℕ) (b : check-lts.After-check-tag-at (check-calls t) (check-at t) check.Post) where
+  check-level : let here = b .before .before .before .before .before .before .before .before .before .before .before .before .before .args .here in here .left ≡ suc (here .left - 1)
+  check-level = omega (arith, b .before .before .if1 .left)
+
+  check-tag-is : {tag : CheckTag} → b .check-tag-at .result ≡ tag
+      → let a = b .before .before .before .before .before .before .before .before .before .before .before .before .before .args in check-tag (getD (a .proof .now) (a .here .at) 0) ≡ tag
+  check-tag-is is = sym (b .check-tag-at .ensures) ∙ is
+
+  -- Where it is handed on, a byte less is left.
+  check-falls : {tag : CheckTag} → b .check-tag-at .result ≡ tag → IsTag tag
+      → let a = b .before .before .before .before .before .before .before .before .before .before .before .before .before .args in
+      left-over (suc (b .before .below .result .left)) (length (a .proof .now)) (b .before .below .result .at + 1) < t
+  check-falls is tag =
+      let start = b .before .before .before .before .before .before .before .before .before .before .before .before .before in
+      tag-falls _ _ _ _ (b .before .before .if1 .left) (b .before .below .ensures) (tag-inside (start .args .proof .now) _ _ (check-tag-is is) tag) (start .pre .0)
+
+  -- The step is checked by its tag.
+  check-by-tag : {tag : CheckTag} {r : Checked} {list′ : List ℕ} → b .check-tag-at .result ≡ tag → ChecksItself tag
+      → let a = b .before .before .before .before .before .before .before .before .before .before .before .before .before .args in
+      let S : Sources = record { buffer = a .buffer .now; proof = a .proof .now; state = a .state .now; certificates = a .certificates .now; ends = a .ends .now } in
+      (a .here .at < length (a .proof .now) → ChecksBy S (a .assumptions .now) (a .here .scope) (a .here .ledger) (a .facts .now) (a .here .left - 1) tag (a .goal-bytes .now) (a .goal) (a .here .at) r list′)
+      → ChecksAt S (a .assumptions .now) (a .here .scope) (a .here .ledger) (a .facts .now) (a .here .left) (a .goal-bytes .now) (a .goal) (a .here .at) r list′
+  check-by-tag is own h = check-tagged _ _ _ _ _ _ _ _ _ _ _ check-level (check-tag-is is) own h
+
 check-returns : (t : ℕ) → check-lts.Need-returns (check-calls t) (check-at t) check.Post
 check-returns t c =
     let after-if1 = c .before in
@@ -147,65 +176,45 @@ check-pair-requires : (t : ℕ) → check-lts.Need-pair-requires (check-calls t)
 check-pair-requires t c κs =
     let after-enum-told = c .before .before in
     let after-check-tag-at = after-enum-told .before .before in
-    let after-below = after-check-tag-at .before in
-    let after-if1 = after-below .before in
-    let start = after-if1 .before .before .before .before .before .before .before .before .before .before .before in
-    (tag-falls _ _ _ _ (after-if1 .if1 .left) (after-below .below .ensures) (tag-inside (start .args .proof .now) _ _ (sym (after-check-tag-at .check-tag-at .ensures) ∙ after-enum-told .enum-told .given .1) tt) (start .pre .0), tt)
+    (check-falls t after-check-tag-at (after-enum-told .enum-told .given .1) tt, tt)
 
 check-put-in-requires : (t : ℕ) → check-lts.Need-put-in-requires (check-calls t) (check-at t) check.Post
 check-put-in-requires t c κs =
     let after-enum-told3 = c .before .before in
     let after-check-tag-at = after-enum-told3 .before .before in
-    let after-below = after-check-tag-at .before in
-    let after-if1 = after-below .before in
-    let start = after-if1 .before .before .before .before .before .before .before .before .before .before .before in
-    (tag-falls _ _ _ _ (after-if1 .if1 .left) (after-below .below .ensures) (tag-inside (start .args .proof .now) _ _ (sym (after-check-tag-at .check-tag-at .ensures) ∙ after-enum-told3 .enum-told3 .given .1) tt) (start .pre .0), tt)
+    (check-falls t after-check-tag-at (after-enum-told3 .enum-told3 .given .1) tt, tt)
 
 check-take-out-requires : (t : ℕ) → check-lts.Need-take-out-requires (check-calls t) (check-at t) check.Post
 check-take-out-requires t c κs =
     let after-enum-told4 = c .before .before in
     let after-check-tag-at = after-enum-told4 .before .before in
-    let after-below = after-check-tag-at .before in
-    let after-if1 = after-below .before in
-    let start = after-if1 .before .before .before .before .before .before .before .before .before .before .before in
-    (tag-falls _ _ _ _ (after-if1 .if1 .left) (after-below .below .ensures) (tag-inside (start .args .proof .now) _ _ (sym (after-check-tag-at .check-tag-at .ensures) ∙ after-enum-told4 .enum-told4 .given .1) tt) (start .pre .0), tt)
+    (check-falls t after-check-tag-at (after-enum-told4 .enum-told4 .given .1) tt, tt)
 
 check-put-in-requires-2 : (t : ℕ) → check-lts.Need-put-in-requires-2 (check-calls t) (check-at t) check.Post
 check-put-in-requires-2 t c κs =
     let after-enum-told5 = c .before .before in
     let after-check-tag-at = after-enum-told5 .before .before in
-    let after-below = after-check-tag-at .before in
-    let after-if1 = after-below .before in
-    let start = after-if1 .before .before .before .before .before .before .before .before .before .before .before in
-    (tag-falls _ _ _ _ (after-if1 .if1 .left) (after-below .below .ensures) (tag-inside (start .args .proof .now) _ _ (sym (after-check-tag-at .check-tag-at .ensures) ∙ after-enum-told5 .enum-told5 .given .1) tt) (start .pre .0), tt)
+    (check-falls t after-check-tag-at (after-enum-told5 .enum-told5 .given .1) tt, tt)
 
 check-take-out-requires-2 : (t : ℕ) → check-lts.Need-take-out-requires-2 (check-calls t) (check-at t) check.Post
 check-take-out-requires-2 t c κs =
     let after-enum-told6 = c .before .before in
     let after-check-tag-at = after-enum-told6 .before .before in
-    let after-below = after-check-tag-at .before in
-    let after-if1 = after-below .before in
-    let start = after-if1 .before .before .before .before .before .before .before .before .before .before .before in
-    (tag-falls _ _ _ _ (after-if1 .if1 .left) (after-below .below .ensures) (tag-inside (start .args .proof .now) _ _ (sym (after-check-tag-at .check-tag-at .ensures) ∙ after-enum-told6 .enum-told6 .given .1) tt) (start .pre .0), tt)
+    (check-falls t after-check-tag-at (after-enum-told6 .enum-told6 .given .1) tt, tt)
 
 check-infer-by-requires : (t : ℕ) → check-lts.Need-infer-by-requires (check-calls t) (check-at t) check.Post
 check-infer-by-requires t c κs =
     let after-enum-told9 = c .before .before .before in
     let after-check-tag-at = after-enum-told9 .before .before in
-    let after-below = after-check-tag-at .before in
-    let after-if1 = after-below .before in
-    let start = after-if1 .before .before .before .before .before .before .before .before .before .before .before in
-    (tag-falls _ _ _ _ (after-if1 .if1 .left) (after-below .below .ensures) (tag-inside (start .args .proof .now) _ _ (sym (after-check-tag-at .check-tag-at .ensures) ∙ after-enum-told9 .enum-told9 .given .1) tt) (start .pre .0), tt)
+    (check-falls t after-check-tag-at (after-enum-told9 .enum-told9 .given .1) tt, tt)
 
 check-returns-2 : (t : ℕ) → check-lts.Need-returns-2 (check-calls t) (check-at t) check.Post
 check-returns-2 t c =
     let after-pair = c .before .before .before .before in
     let after-enum-told = after-pair .before .before .before in
     let after-check-tag-at = after-enum-told .before .before in
-    let after-below = after-check-tag-at .before in
-    let after-if1 = after-below .before in
-    let start = after-if1 .before .before .before .before .before .before .before .before .before .before .before in (
-      check-tagged _ _ _ _ _ _ _ _ (start .args .here .left - 1) _ _ (omega (arith, after-if1 .if1 .left)) (sym (after-check-tag-at .check-tag-at .ensures) ∙ after-enum-told .enum-told .given .1) tt (λ inside. (rw (after-below .below .ensures) at (after-pair .pair .ensures .0))),
+    let after-below = after-check-tag-at .before in (
+      check-by-tag t after-check-tag-at (after-enum-told .enum-told .given .1) tt (λ inside. (rw (after-below .below .ensures) at (after-pair .pair .ensures .0))),
       (rw (after-below .below .ensures) at (after-pair .pair .ensures .1)),
     )
 
@@ -213,10 +222,8 @@ check-returns-3 : (t : ℕ) → check-lts.Need-returns-3 (check-calls t) (check-
 check-returns-3 t c =
     let after-top = c .before in
     let after-enum-told2 = after-top .before in
-    let after-check-tag-at = after-enum-told2 .before .before in
-    let after-if1 = after-check-tag-at .before .before in
-    let start = after-if1 .before .before .before .before .before .before .before .before .before .before .before in (
-      check-tagged _ _ _ _ _ _ _ _ (start .args .here .left - 1) _ _ (omega (arith, after-if1 .if1 .left)) (sym (after-check-tag-at .check-tag-at .ensures) ∙ after-enum-told2 .enum-told2 .given .1) tt (λ inside. check-trivial _ _ _ _ _ _ _ _ _ inside (c .past .ensures .0) (after-top .top .ensures _ _)),
+    let after-check-tag-at = after-enum-told2 .before .before in (
+      check-by-tag t after-check-tag-at (after-enum-told2 .enum-told2 .given .1) tt (λ inside. check-trivial _ _ _ _ _ _ _ _ _ inside (c .past .ensures .0) (after-top .top .ensures _ _)),
       keeps-same _ _,
     )
 
@@ -225,10 +232,8 @@ check-returns-4 t c =
     let after-put-in = c .before .before .before .before in
     let after-enum-told3 = after-put-in .before .before .before in
     let after-check-tag-at = after-enum-told3 .before .before in
-    let after-below = after-check-tag-at .before in
-    let after-if1 = after-below .before in
-    let start = after-if1 .before .before .before .before .before .before .before .before .before .before .before in (
-      check-tagged _ _ _ _ _ _ _ _ (start .args .here .left - 1) _ _ (omega (arith, after-if1 .if1 .left)) (sym (after-check-tag-at .check-tag-at .ensures) ∙ after-enum-told3 .enum-told3 .given .1) tt (λ inside. (rw (after-below .below .ensures) at (after-put-in .put-in .ensures .0)) AtInTag puts-at),
+    let after-below = after-check-tag-at .before in (
+      check-by-tag t after-check-tag-at (after-enum-told3 .enum-told3 .given .1) tt (λ inside. (rw (after-below .below .ensures) at (after-put-in .put-in .ensures .0)) AtInTag puts-at),
       (rw (after-below .below .ensures) at (after-put-in .put-in .ensures .1)),
     )
 
@@ -237,10 +242,8 @@ check-returns-5 t c =
     let after-take-out = c .before .before .before .before in
     let after-enum-told4 = after-take-out .before .before .before in
     let after-check-tag-at = after-enum-told4 .before .before in
-    let after-below = after-check-tag-at .before in
-    let after-if1 = after-below .before in
-    let start = after-if1 .before .before .before .before .before .before .before .before .before .before .before in (
-      check-tagged _ _ _ _ _ _ _ _ (start .args .here .left - 1) _ _ (omega (arith, after-if1 .if1 .left)) (sym (after-check-tag-at .check-tag-at .ensures) ∙ after-enum-told4 .enum-told4 .given .1) tt (λ inside. (rw (after-below .below .ensures) at (after-take-out .take-out .ensures .0)) AtOutTag takes-at),
+    let after-below = after-check-tag-at .before in (
+      check-by-tag t after-check-tag-at (after-enum-told4 .enum-told4 .given .1) tt (λ inside. (rw (after-below .below .ensures) at (after-take-out .take-out .ensures .0)) AtOutTag takes-at),
       (rw (after-below .below .ensures) at (after-take-out .take-out .ensures .1)),
     )
 
@@ -249,10 +252,8 @@ check-returns-6 t c =
     let after-put-in2 = c .before .before .before .before in
     let after-enum-told5 = after-put-in2 .before .before .before in
     let after-check-tag-at = after-enum-told5 .before .before in
-    let after-below = after-check-tag-at .before in
-    let after-if1 = after-below .before in
-    let start = after-if1 .before .before .before .before .before .before .before .before .before .before .before in (
-      check-tagged _ _ _ _ _ _ _ _ (start .args .here .left - 1) _ _ (omega (arith, after-if1 .if1 .left)) (sym (after-check-tag-at .check-tag-at .ensures) ∙ after-enum-told5 .enum-told5 .given .1) tt (λ inside. (rw (after-below .below .ensures) at (after-put-in2 .put-in2 .ensures .0)) SaysInTag puts-says),
+    let after-below = after-check-tag-at .before in (
+      check-by-tag t after-check-tag-at (after-enum-told5 .enum-told5 .given .1) tt (λ inside. (rw (after-below .below .ensures) at (after-put-in2 .put-in2 .ensures .0)) SaysInTag puts-says),
       (rw (after-below .below .ensures) at (after-put-in2 .put-in2 .ensures .1)),
     )
 
@@ -261,10 +262,8 @@ check-returns-7 t c =
     let after-take-out2 = c .before .before .before .before in
     let after-enum-told6 = after-take-out2 .before .before .before in
     let after-check-tag-at = after-enum-told6 .before .before in
-    let after-below = after-check-tag-at .before in
-    let after-if1 = after-below .before in
-    let start = after-if1 .before .before .before .before .before .before .before .before .before .before .before in (
-      check-tagged _ _ _ _ _ _ _ _ (start .args .here .left - 1) _ _ (omega (arith, after-if1 .if1 .left)) (sym (after-check-tag-at .check-tag-at .ensures) ∙ after-enum-told6 .enum-told6 .given .1) tt (λ inside. (rw (after-below .below .ensures) at (after-take-out2 .take-out2 .ensures .0)) SaysOutTag takes-says),
+    let after-below = after-check-tag-at .before in (
+      check-by-tag t after-check-tag-at (after-enum-told6 .enum-told6 .given .1) tt (λ inside. (rw (after-below .below .ensures) at (after-take-out2 .take-out2 .ensures .0)) SaysOutTag takes-says),
       (rw (after-below .below .ensures) at (after-take-out2 .take-out2 .ensures .1)),
     )
 
@@ -272,10 +271,8 @@ check-returns-8 : (t : ℕ) → check-lts.Need-returns-8 (check-calls t) (check-
 check-returns-8 t c =
     let after-state-fact = c .before .before .before in
     let after-enum-told7 = after-state-fact .before .before in
-    let after-check-tag-at = after-enum-told7 .before .before in
-    let after-if1 = after-check-tag-at .before .before in
-    let start = after-if1 .before .before .before .before .before .before .before .before .before .before .before in (
-      check-tagged _ _ _ _ _ _ _ _ (start .args .here .left - 1) _ _ (omega (arith, after-if1 .if1 .left)) (sym (after-check-tag-at .check-tag-at .ensures) ∙ after-enum-told7 .enum-told7 .given .1) tt (λ inside. check-state _ _ _ _ _ _ _ _ _ inside (c .past2 .ensures .0) (after-state-fact .state-fact .ensures)),
+    let after-check-tag-at = after-enum-told7 .before .before in (
+      check-by-tag t after-check-tag-at (after-enum-told7 .enum-told7 .given .1) tt (λ inside. check-state _ _ _ _ _ _ _ _ _ inside (c .past2 .ensures .0) (after-state-fact .state-fact .ensures)),
       keeps-same _ _,
     )
 
@@ -283,10 +280,8 @@ check-returns-9 : (t : ℕ) → check-lts.Need-returns-9 (check-calls t) (check-
 check-returns-9 t c =
     let after-order = c .before in
     let after-enum-told8 = after-order .before in
-    let after-check-tag-at = after-enum-told8 .before .before in
-    let after-if1 = after-check-tag-at .before .before in
-    let start = after-if1 .before .before .before .before .before .before .before .before .before .before .before in (
-      check-tagged _ _ _ _ _ _ _ _ (start .args .here .left - 1) _ _ (omega (arith, after-if1 .if1 .left)) (sym (after-check-tag-at .check-tag-at .ensures) ∙ after-enum-told8 .enum-told8 .given .1) tt (λ inside. check-order _ _ _ _ _ _ _ _ _ inside (c .past3 .ensures .0) (after-order .order .ensures _ _)),
+    let after-check-tag-at = after-enum-told8 .before .before in (
+      check-by-tag t after-check-tag-at (after-enum-told8 .enum-told8 .given .1) tt (λ inside. check-order _ _ _ _ _ _ _ _ _ inside (c .past3 .ensures .0) (after-order .order .ensures _ _)),
       keeps-same _ _,
     )
 
@@ -296,20 +291,16 @@ check-returns-10 t c =
     let after-infer-tag-at = after-infer-by .before in
     let after-enum-told9 = after-infer-tag-at .before .before .before in
     let after-check-tag-at = after-enum-told9 .before .before in
-    let after-below = after-check-tag-at .before in
-    let after-if1 = after-below .before in
-    let start = after-if1 .before .before .before .before .before .before .before .before .before .before .before in (
-      check-inferred _ _ _ _ _ _ _ _ (start .args .here .left - 1) _ (omega (arith, after-if1 .if1 .left)) (sym (after-check-tag-at .check-tag-at .ensures) ∙ after-enum-told9 .enum-told9 .given .1) (after-infer-tag-at .infer-tag-at .ensures) (rw (after-below .below .ensures) at (after-infer-by .infer-by .ensures .0)) (c .checked-by .ensures),
+    let after-below = after-check-tag-at .before in (
+      check-inferred _ _ _ _ _ _ _ _ _ _ (check-level t after-check-tag-at) (check-tag-is t after-check-tag-at (after-enum-told9 .enum-told9 .given .1)) (after-infer-tag-at .infer-tag-at .ensures) (rw (after-below .below .ensures) at (after-infer-by .infer-by .ensures .0)) (c .checked-by .ensures),
       (rw (after-below .below .ensures) at (after-infer-by .infer-by .ensures .1)),
     )
 
 check-returns-11 : (t : ℕ) → check-lts.Need-returns-11 (check-calls t) (check-at t) check.Post
 check-returns-11 t c =
     let after-enum-told10 = c .before in
-    let after-check-tag-at = after-enum-told10 .before .before in
-    let after-if1 = after-check-tag-at .before .before in
-    let start = after-if1 .before .before .before .before .before .before .before .before .before .before .before in (
-      check-tagged _ _ _ _ _ _ _ _ (start .args .here .left - 1) _ _ (omega (arith, after-if1 .if1 .left)) (sym (after-check-tag-at .check-tag-at .ensures) ∙ after-enum-told10 .enum-told10 .given .1) tt (λ inside. check-no-tag _ _ _ _ _ _ _ _ _),
+    let after-check-tag-at = after-enum-told10 .before .before in (
+      check-by-tag t after-check-tag-at (after-enum-told10 .enum-told10 .given .1) tt (λ inside. check-no-tag _ _ _ _ _ _ _ _ _),
       keeps-same _ _,
     )
 
@@ -348,17 +339,17 @@ infer-returns-3 t c =
 infer-by-infer-requires : (t : ℕ) → infer-by-lts.Need-infer-requires (infer-by-calls t) (infer-by-at t) infer-by.Post
 infer-by-infer-requires t c κs =
     let start = c .before .before .before .before .before .before .before .before .before .before .before .before .before .before .before in
-    (part-falls _ (start .args .here) (c .step .result .left) (c .step .result .at) _ (ap (λ h. h .left) (c .step .ensures)) (start .pre .0), tt)
+    (step-falls _ (start .args .here) _ _ _ _ (c .step .ensures) (start .pre .0), tt)
 
 infer-by-infer-requires-2 : (t : ℕ) → infer-by-lts.Need-infer-requires-2 (infer-by-calls t) (infer-by-at t) infer-by.Post
 infer-by-infer-requires-2 t c κs =
     let start = c .before .before .before .before .before .before .before .before .before .before .before .before .before .before .before in
-    (part-falls _ (start .args .here) (c .step2 .result .left) (c .step2 .result .at) _ (ap (λ h. h .left) (c .step2 .ensures)) (start .pre .0), tt)
+    (step-falls _ (start .args .here) _ _ _ _ (c .step2 .ensures) (start .pre .0), tt)
 
 infer-by-infer-requires-3 : (t : ℕ) → infer-by-lts.Need-infer-requires-3 (infer-by-calls t) (infer-by-at t) infer-by.Post
 infer-by-infer-requires-3 t c κs =
     let start = c .before .before .before .before .before .before .before .before .before .before .before .before .before .before .before in
-    (part-falls _ (start .args .here) (c .step3 .result .left) (c .step3 .result .at) _ (ap (λ h. h .left) (c .step3 .ensures)) (start .pre .0), tt)
+    (step-falls _ (start .args .here) _ _ _ _ (c .step3 .ensures) (start .pre .0), tt)
 
 infer-by-returns : (t : ℕ) → infer-by-lts.Need-returns (infer-by-calls t) (infer-by-at t) infer-by.Post
 infer-by-returns t c =
@@ -377,12 +368,12 @@ infer-by-returns t c =
 infer-by-check-requires : (t : ℕ) → infer-by-lts.Need-check-requires (infer-by-calls t) (infer-by-at t) infer-by.Post
 infer-by-check-requires t c κs =
     let start = c .before .before .before .before .before .before .before .before .before .before .before .before .before .before .before .before .before .before .before .before .before .before .before .before .before .before .before .before .before .before in
-    (part-falls _ (start .args .here) (c .step4 .result .left) (c .step4 .result .at) _ (ap (λ h. h .left) (c .step4 .ensures)) (start .pre .0), tt)
+    (step-falls _ (start .args .here) _ _ _ _ (c .step4 .ensures) (start .pre .0), tt)
 
 infer-by-infer-requires-4 : (t : ℕ) → infer-by-lts.Need-infer-requires-4 (infer-by-calls t) (infer-by-at t) infer-by.Post
 infer-by-infer-requires-4 t c κs =
     let start = c .before .before .before .before .before .before .before .before .before .before .before .before .before .before .before .before in
-    (part-falls _ (start .args .here) (c .step5 .result .left) (c .step5 .result .at) _ (ap (λ h. h .left) (c .step5 .ensures)) (start .pre .0), tt)
+    (step-falls _ (start .args .here) _ _ _ _ (c .step5 .ensures) (start .pre .0), tt)
 
 infer-by-returns-2 : (t : ℕ) → infer-by-lts.Need-returns-2 (infer-by-calls t) (infer-by-at t) infer-by.Post
 infer-by-returns-2 t c =
@@ -477,7 +468,7 @@ pair-returns t c =
 pair-check-requires : (t : ℕ) → pair-lts.Need-check-requires (pair-calls t) (pair-at t) pair.Post
 pair-check-requires t c κs =
     let start = c .before .before .before .before .before .before .before .before .before .before .before .before .before .before .before .before .before .before .before in
-    (part-falls _ (start .args .here) (c .step .result .left) (c .step .result .at) _ (ap (λ h. h .left) (c .step .ensures)) (start .pre .0), tt)
+    (step-falls _ (start .args .here) _ _ _ _ (c .step .ensures) (start .pre .0), tt)
 
 pair-returns-2 : (t : ℕ) → pair-lts.Need-returns-2 (pair-calls t) (pair-at t) pair.Post
 pair-returns-2 t c =
@@ -495,7 +486,7 @@ pair-returns-2 t c =
 pair-check-requires-2 : (t : ℕ) → pair-lts.Need-check-requires-2 (pair-calls t) (pair-at t) pair.Post
 pair-check-requires-2 t c κs =
     let start = c .before .before .before .before .before .before .before .before .before .before .before .before .before .before .before .before .before .before .before .before .before .before .before .before .before .before .before .before .before .before in
-    (part-falls _ (start .args .here) (c .step2 .result .left) (c .step2 .result .at) _ (ap (λ h. h .left) (c .step2 .ensures)) (start .pre .0), tt)
+    (step-falls _ (start .args .here) _ _ _ _ (c .step2 .ensures) (start .pre .0), tt)
 
 pair-same-length-3 : (t : ℕ) → pair-lts.Need-same-length-3 (pair-calls t) (pair-at t) pair.Post
 pair-same-length-3 t c =
@@ -558,7 +549,7 @@ put-in-returns-2 t c =
 take-out-infer-requires : (t : ℕ) → take-out-lts.Need-infer-requires (take-out-calls t) (take-out-at t) take-out.Post
 take-out-infer-requires t c κs =
     let start = c .before .before .before .before .before .before .before .before .before .before .before .before .before .before in
-    (part-falls _ (start .args .here) (c .step .result .left) (c .step .result .at) _ (ap (λ h. h .left) (c .step .ensures)) (start .pre .0), tt)
+    (step-falls _ (start .args .here) _ _ _ _ (c .step .ensures) (start .pre .0), tt)
 
 take-out-returns : (t : ℕ) → take-out-lts.Need-returns (take-out-calls t) (take-out-at t) take-out.Post
 take-out-returns t c =
