@@ -38,26 +38,35 @@ module _ (todo : Todo) (small : Small todo) (x : ℕ) where
       rw (is, times-in x (omega arith), place) refl
 
   module _ (n h : ℕ) where
-    pub inferring-back : todo ≡ Inferring n h → x ≡ 1 + 4 * n + 256 * h → todo-in x ≡ todo
+    pub inferring-small : todo ≡ Inferring n h → n + h ≤ most-proof-levels
     unfolding Small
+    inferring-small is = rw is at small
+
+    pub checking-small : todo ≡ Checking n h → n + h ≤ most-proof-levels
+    unfolding Small
+    checking-small is = rw is at small
+
+    pub second-small : todo ≡ Second n h → n + h ≤ most-proof-levels
+    unfolding Small
+    second-small is = rw is at small
+
+    pub inferring-back : todo ≡ Inferring n h → x ≡ 1 + 4 * n + 256 * h → todo-in x ≡ todo
     inferring-back is e =
-        let few : n + h ≤ most-proof-levels = rw is at small in
+        let few = inferring-small is in
         let levels : x / 4 % 64 ≡ n = omega arith in
         let assumptions : x / 256 % 64 ≡ h = omega arith in
         rw (is, inferring-in x (omega arith), levels, assumptions) refl
 
     pub checking-back : todo ≡ Checking n h → x ≡ 2 + 4 * n + 256 * h → todo-in x ≡ todo
-    unfolding Small
     checking-back is e =
-        let few : n + h ≤ most-proof-levels = rw is at small in
+        let few = checking-small is in
         let levels : x / 4 % 64 ≡ n = omega arith in
         let assumptions : x / 256 % 64 ≡ h = omega arith in
         rw (is, checking-in x (omega arith), levels, assumptions) refl
 
     pub second-back : todo ≡ Second n h → x ≡ 3 + 4 * n + 256 * h → todo-in x ≡ todo
-    unfolding Small
     second-back is e =
-        let few : n + h ≤ most-proof-levels = rw is at small in
+        let few = second-small is in
         let levels : x / 4 % 64 ≡ n = omega arith in
         let assumptions : x / 256 % 64 ≡ h = omega arith in
         rw (is, second-in x (λ k. omega arith) (λ k. omega arith) (λ k. omega arith), levels, assumptions) refl

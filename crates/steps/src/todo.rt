@@ -9,16 +9,16 @@ use procap::bytes::TermRead;
 use procap::bytes::past;
 use procap::fact::Term;
 ghost use mathlib.Core.Path.{_≡_};
-ghost use Prim.Native.Nat.{_+_, _*_, _<_};
+ghost use Prim.Native.Nat.{_+_, _*_, _≤_, _<_};
 ghost use Rattle.bl.specs.Steps.{«most-proof-levels»};
 ghost use Rattle.steps.specs.Todo.{Small, «todo-in», OpensIndex, OpensInferring, OpensChecking, OpensTime, OpensTimes, Opens};
 
 // The two times of the 26 whose second part began at a place; a step that must infer, or one that checks, of at most so many levels and with so many assumptions around it; the second part of a 26, which checks, and its times.
 pub(crate) enum Todo {
     Times(usize),
-    Inferring(u8, u8),
-    Checking(u8, u8),
-    Second(u8, u8),
+    Inferring(u64, u64),
+    Checking(u64, u64),
+    Second(u64, u64),
 }
 
 // What is there at a place: nothing of that kind; or something that goes on at a next place and leaves nothing to be read (with so many steps 2C), one part, or two parts.
@@ -30,11 +30,11 @@ pub(crate) enum Opened {
 }
 
 // A step that waits, as a number: its kind in two bits, then levels and assumptions, in six bits each.
-fn step_number(kind: u64, levels: u8, assumptions: u8) -> u64
-    requires { ⌜ kind < 4 ⌝ }
+fn step_number(kind: u64, levels: u64, assumptions: u64) -> u64
+    requires { ⌜ (kind < 4) × (levels + assumptions ≤ «most-proof-levels») ⌝ }
     ensures { λ r. ⌜ r ≡ kind + 4 * levels + 256 * assumptions ⌝ }
 {
-    kind + 4 * (levels as u64) + 256 * (assumptions as u64)
+    kind + 4 * levels + 256 * assumptions
 }
 
 // What waits, as a number.
@@ -54,8 +54,8 @@ pub(crate) fn number_of(todo: Todo) -> u64
 pub(crate) fn todo_of(number: u64) -> Todo
     ensures { λ r. ⌜ r ≡ «todo-in» number ⌝ }
 {
-    let levels = (number / 4 % 64) as u8;
-    let assumptions = (number / 256 % 64) as u8;
+    let levels = number / 4 % 64;
+    let assumptions = number / 256 % 64;
     match number % 4 {
         0 => Todo::Times((number / 4) as usize),
         1 => Todo::Inferring(levels, assumptions),
@@ -82,8 +82,8 @@ fn open_index(proof: &[u8], limit: usize, at: usize) -> Opened
 fn open_inferring(
     proof: &[u8],
     certificates: usize,
-    levels: u8,
-    assumptions: u8,
+    levels: u64,
+    assumptions: u64,
     tag: InferTag,
     at: usize,
 ) -> Opened
@@ -111,8 +111,8 @@ fn open_inferring(
 fn open_checking(
     proof: &[u8],
     certificates: usize,
-    levels: u8,
-    assumptions: u8,
+    levels: u64,
+    assumptions: u64,
     at: usize,
 ) -> Opened
     requires { ⌜ levels + assumptions < «most-proof-levels» ⌝ }

@@ -2,12 +2,21 @@
 use native.Mathlib.Omega.{arith}
 use mathlib.Core.Path.{refl}
 use borrow.Author.Needs.{needs}
-use Rattle.steps.proofs.TodoNumbers.{times-small, times-back, inferring-back, checking-back, second-back}
+use Rattle.steps.proofs.TodoNumbers.{times-small, times-back, inferring-small, checking-small, second-small, inferring-back, checking-back, second-back}
 use Rattle.steps.proofs.todo.number_of.Statement.{statement}
 use Rattle.steps.proofs.todo.number_of.Tie as tie
 
 mul-result : tie.Need-mul-result
 mul-result c = omega (arith, times-small _ (c .before .before .before .pre) 0 _ (c .before .todo .given .1))
+
+step-number-requires : tie.Need-step-number-requires
+step-number-requires c κs = (omega arith, inferring-small _ (c .before .before .before .pre) 0 _ _ (c .before .todo2 .given .1))
+
+step-number-requires-2 : tie.Need-step-number-requires-2
+step-number-requires-2 c κs = (omega arith, checking-small _ (c .before .before .before .pre) 0 _ _ (c .before .todo3 .given .1))
+
+step-number-requires-3 : tie.Need-step-number-requires-3
+step-number-requires-3 c κs = (omega arith, second-small _ (c .before .before .before .pre) 0 _ _ (c .before .todo4 .given .1))
 
 returns : tie.Need-returns
 returns c = times-back _ (c .before .before .before .pre) _ _ (c .before .todo .given .1) refl
@@ -28,11 +37,11 @@ number-of-spec =
     (λ c. search needs)
     mul-result
     (λ c. search needs)
-    (λ c κs. search needs)
+    step-number-requires
     (λ c. search needs)
-    (λ c κs. search needs)
+    step-number-requires-2
     (λ c. search needs)
-    (λ c κs. search needs)
+    step-number-requires-3
     returns
     returns-2
     returns-3

@@ -19,4 +19,4 @@ returns-4 : tie.Need-returns-4
 returns-4 c = sym (second-in _ (λ k. omega arith) (λ k. omega arith) (λ k. omega arith))
 
 pub todo-of-spec : {M : Type 1} → statement M
-todo-of-spec = tie.close (tie.spec (λ c. search needs) (λ c. search needs) returns returns-2 returns-3 returns-4)
+todo-of-spec = tie.close (tie.spec returns returns-2 returns-3 returns-4)
