@@ -186,10 +186,10 @@ pub(crate) fn open_todo(proof: &[u8], certificates: usize, todo: Todo, at: usize
             }
             open_checking(proof, certificates, levels - 1, assumptions, at)
         }
-        Todo::Second(levels, assumptions) => Opened::Two(
-            at,
-            Todo::Checking(levels, assumptions),
-            Todo::Times(at),
-        ),
+        Todo::Second(levels, assumptions) => {
+            let part = Todo::Checking(levels, assumptions);
+            let times = Todo::Times(at);
+            Opened::Two(at, part, times)
+        }
     }
 }
