@@ -1,13 +1,12 @@
 -- A turn opens what is at hand, and its parts take its place; what the whole reads as is what is left to be read, from what was found so far.
 -- The stack has room by the levels; a turn reads a byte, or opens a second part of which the next turn reads one.
-use Prim.Native.Nat.{_+_, _-_, _≤_}
-use mathlib.Core.Path.{_≡_, refl, sym, _∙_}
+use Prim.Native.Nat.{_+_, _-_}
+use mathlib.Core.Path.{_≡_, refl, _∙_}
 use mathlib.Core.List.{[]}
 use native.Mathlib.Omega.{arith}
 use borrow.Author.Needs.{needs}
 use borrow.Author.Tests.{ne-eqb}
 use lib.ListN.{length, length-set}
-use Rattle.bl.specs.Steps.{most-proof-bytes}
 use Rattle.steps.proofs.TodoStack.{at-hand, turns, room}
 use Rattle.steps.proofs.FormLoop.{noted-length, SoFar, begins, count-fits, todo-small, nothing-there, leaf-turned, one-turned, later-small, two-turned, ended, too-long, unread-proof, not-to-the-end, to-the-end-tells, table-told}
 use Rattle.steps.proofs.form.well_formed.Statement.{statement}
