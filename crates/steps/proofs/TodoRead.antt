@@ -1,6 +1,6 @@
 -- All that is still to be read, read: the first of it opened, and its parts put before the rest, reads the same.
 use Prim.Native.Nat.{ℕ, zero, suc, _+_}
-use mathlib.Core.Path.{_≡_, refl, sym, ap, _∙_}
+use mathlib.Core.Path.{_≡_, refl, ap}
 use mathlib.Core.List.{List, [], _∷_, _++_}
 use mathlib.Core.Option.{Option, some, none}
 use native.Mathlib.Nat.{add-zero, add-assoc}

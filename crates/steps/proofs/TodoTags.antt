@@ -1,5 +1,5 @@
 -- What is opened by its tag: the byte at its place, which is 0, and no tag, past the end.
-use Prim.Native.Nat.{ℕ, zero, suc, _+_, _-_, _≤_, _<_}
+use Prim.Native.Nat.{ℕ, suc, _+_, _-_, _≤_, _<_}
 use mathlib.Core.Path.{_≡_, refl, sym, _∙_}
 use mathlib.Core.List.{List}
 use mathlib.Core.Option.{none}
@@ -14,7 +14,7 @@ use Rattle.bl.specs.Tags.{infer-tag, check-tag}
 use Rattle.bl.specs.Steps.{most-proof-levels}
 use Rattle.steps.specs.Todo.{Parts, inferring-parts, checking-parts, parts, Small}
 use Rattle.steps.specs.declared.todo.Todo.{Todo}
-use Rattle.steps.specs.declared.todo.Todo.the-variants.{Inferring, Checking, Second}
+use Rattle.steps.specs.declared.todo.Todo.the-variants.{Inferring, Checking}
 
 module _ (proof : List ℕ) (at begin : ℕ) (next : at < length proof → begin ≡ at + 1) where
   -- From the byte on, if nothing goes on from the byte 0.

@@ -13,7 +13,8 @@ ghost use Prim.Native.Nat.{_+_, _*_, _≤_, _<_};
 ghost use Rattle.bl.specs.Steps.{«most-proof-levels»};
 ghost use Rattle.steps.specs.Todo.{Small, «todo-in», OpensIndex, OpensInferring, OpensChecking, OpensTime, OpensTimes, Opens};
 
-// The two times of the 26 whose second part began at a place; a step that must infer, or one that checks, of at most so many levels and with so many assumptions around it; the second part of a 26, which checks, and its times.
+// The two times of the 26 whose second part began at a place; a step that must infer, or one that checks; the second part of a 26, which checks, and its times.
+// A step has at most so many levels, and so many assumptions around it.
 pub(crate) enum Todo {
     Times(usize),
     Inferring(u64, u64),
@@ -21,7 +22,7 @@ pub(crate) enum Todo {
     Second(u64, u64),
 }
 
-// What is there at a place: nothing of that kind; or something that goes on at a next place and leaves nothing to be read (with so many steps 2C), one part, or two parts.
+// What is there at a place: nothing of that kind; or something that goes on at a next place, and leaves nothing to be read (with so many steps 2C), one part, or two.
 pub(crate) enum Opened {
     Nothing,
     Leaf(usize, usize),
@@ -186,10 +187,10 @@ pub(crate) fn open_todo(proof: &[u8], certificates: usize, todo: Todo, at: usize
             }
             open_checking(proof, certificates, levels - 1, assumptions, at)
         }
-        Todo::Second(levels, assumptions) => Opened::Two(
-            at,
-            Todo::Checking(levels, assumptions),
-            Todo::Times(at),
-        ),
+        Todo::Second(levels, assumptions) => {
+            let part = Todo::Checking(levels, assumptions);
+            let times = Todo::Times(at);
+            Opened::Two(at, part, times)
+        }
     }
 }

@@ -1,5 +1,5 @@
 -- Only times that are to be read change the table, and only where it has room.
-use mathlib.Core.Path.{_≡_, refl, sym}
+use mathlib.Core.Path.{refl, sym}
 use borrow.Author.Needs.{needs}
 use lib.Seq.{set-out}
 use Rattle.steps.specs.Todo.{noted}

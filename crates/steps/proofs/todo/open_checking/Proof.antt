@@ -1,5 +1,5 @@
 -- By the tag that stands there: what is left is what the page says of it.
-use mathlib.Core.Path.{_≡_, refl, sym, _∙_}
+use mathlib.Core.Path.{_∙_}
 use native.Mathlib.Numerals.{add-one}
 use borrow.Author.Needs.{needs}
 use Rattle.bl.specs.declared.CheckTag.{CheckTag}

@@ -1,5 +1,5 @@
 -- By what is to be read: the second part of a 26 leaves itself and its times; a step goes by its tag.
-use mathlib.Core.Path.{_≡_, refl, _∙_}
+use mathlib.Core.Path.{refl, _∙_}
 use native.Mathlib.Omega.{arith}
 use borrow.Author.Needs.{needs}
 use Rattle.steps.specs.Todo.{parts, left}

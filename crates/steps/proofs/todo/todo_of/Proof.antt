@@ -1,7 +1,6 @@
 -- By the kind in two bits.
 use mathlib.Core.Path.{sym}
 use native.Mathlib.Omega.{arith}
-use borrow.Author.Needs.{needs}
 use Rattle.steps.proofs.TodoNumbers.{times-in, inferring-in, checking-in, second-in}
 use Rattle.steps.proofs.todo.todo_of.Statement.{statement}
 use Rattle.steps.proofs.todo.todo_of.Tie as tie
