@@ -12,9 +12,6 @@ use Rattle.verifier.proofs.verify.check_case.Tie as tie
 returns : tie.Need-returns
 returns c = λ cs N reads. moment-above _ cs N _ _ (c .if1 .taken)
 
-well-formed-requires : tie.Need-well-formed-requires
-well-formed-requires c κs = search needs
-
 returns-2 : tie.Need-returns-2
 returns-2 c =
     let told = c .before .well-formed in
@@ -22,21 +19,6 @@ returns-2 c =
     let state = moment .before .before .before .before .before .args .state .now in
     λ cs N reads.
     state-says-nothing _ cs N _ _ (moment .if1 .left) (fails-where (told .result) {P = WellFormed state} (c .if2 .taken) (told .ensures))
-
-slice-aggregate-walked : tie.Need-slice-aggregate-walked
-slice-aggregate-walked c = search needs
-
-walked-requires : tie.Need-walked-requires
-walked-requires c κs = search needs
-
-stop-requires : tie.Need-stop-requires
-stop-requires c κs = search needs
-
-enum-known-stop : tie.Need-enum-known-stop
-enum-known-stop c = search needs
-
-enum-told : tie.Need-enum-told
-enum-told c = search needs
 
 returns-3 : tie.Need-returns-3
 unfolding OnClock
@@ -69,12 +51,12 @@ check-case-spec =
     tie.close
     (tie.spec
     returns
-    well-formed-requires
+    (λ c κs. search needs)
     returns-2
-    slice-aggregate-walked
-    walked-requires
-    stop-requires
-    enum-known-stop
-    enum-told
+    (λ c. search needs)
+    (λ c κs. search needs)
+    (λ c κs. search needs)
+    (λ c. search needs)
+    (λ c. search needs)
     returns-3
     returns-4)

@@ -4,18 +4,6 @@ use Rattle.verifier.proofs.Answers.{stopped-with, went-with, direct-sto
 use Rattle.verifier.proofs.verify.direct_taken.Statement.{statement}
 use Rattle.verifier.proofs.verify.direct_taken.Tie as tie
 
-malformed-requires : tie.Need-malformed-requires
-malformed-requires c κs = search needs
-
-enum-known-answer : tie.Need-enum-known-answer
-enum-known-answer c = search needs
-
-enum-told : tie.Need-enum-told
-enum-told c = search needs
-
-check-case-requires : tie.Need-check-case-requires
-check-case-requires c κs = search needs
-
 returns : tie.Need-returns
 returns c =
     λ records many taken.
@@ -30,4 +18,4 @@ returns-2 c =
 pub direct-taken-spec : {M : Type 1} → statement M
 direct-taken-spec =
     tie.close
-    (tie.spec malformed-requires enum-known-answer enum-told check-case-requires returns returns-2)
+    (tie.spec (λ c κs. search needs) (λ c. search needs) (λ c. search needs) (λ c κs. search needs) returns returns-2)

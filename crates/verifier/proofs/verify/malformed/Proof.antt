@@ -4,15 +4,6 @@ use Rattle.verifier.proofs.Answers.{stopped-with, went-with, certificat
 use Rattle.verifier.proofs.verify.malformed.Statement.{statement}
 use Rattle.verifier.proofs.verify.malformed.Tie as tie
 
-enum-known-stop : tie.Need-enum-known-stop
-enum-known-stop c = search needs
-
-enum-told : tie.Need-enum-told
-enum-told c = search needs
-
-proof-malformed-requires : tie.Need-proof-malformed-requires
-proof-malformed-requires c κs = search needs
-
 returns : tie.Need-returns
 returns c = λ records buffer many stops. certificate-stops records buffer _ _ (stopped-with _ _ _ (c .before .stop .given .1) stops)
 
@@ -23,4 +14,4 @@ returns-2 c =
     proof-decides records buffer _ (first .0) _ (c .proof-malformed .result) (first .1) many (c .proof-malformed .ensures)
 
 pub malformed-spec : {M : Type 1} → statement M
-malformed-spec = tie.close (tie.spec enum-known-stop enum-told proof-malformed-requires returns returns-2)
+malformed-spec = tie.close (tie.spec (λ c. search needs) (λ c. search needs) (λ c κs. search needs) returns returns-2)

@@ -7,33 +7,6 @@ use Rattle.ledger.specs.Books.{OnClock}
 use Rattle.verifier.proofs.verify.verify_case.Statement.{statement}
 use Rattle.verifier.proofs.verify.verify_case.Tie as tie
 
-slice-aggregate-walked : tie.Need-slice-aggregate-walked
-slice-aggregate-walked c = search needs
-
-slice-aggregate-walked-2 : tie.Need-slice-aggregate-walked-2
-slice-aggregate-walked-2 c = search needs
-
-walked-requires : tie.Need-walked-requires
-walked-requires c κs = search needs
-
-stop-requires : tie.Need-stop-requires
-stop-requires c κs = search needs
-
-enum-known-stop : tie.Need-enum-known-stop
-enum-known-stop c = search needs
-
-refused-requires : tie.Need-refused-requires
-refused-requires c κs = search needs
-
-enum-told : tie.Need-enum-told
-enum-told c = search needs
-
-slice-aggregate-issued : tie.Need-slice-aggregate-issued
-slice-aggregate-issued c = search needs
-
-issued-requires : tie.Need-issued-requires
-issued-requires c κs = search needs
-
 returns : tie.Need-returns
 unfolding OnClock
 returns c =
@@ -56,14 +29,14 @@ pub verify-case-spec : {M : Type 1} → statement M
 verify-case-spec =
     tie.close
     (tie.spec
-    slice-aggregate-walked
-    slice-aggregate-walked-2
-    walked-requires
-    stop-requires
-    enum-known-stop
-    refused-requires
-    enum-told
-    slice-aggregate-issued
-    issued-requires
+    (λ c. search needs)
+    (λ c. search needs)
+    (λ c κs. search needs)
+    (λ c κs. search needs)
+    (λ c. search needs)
+    (λ c κs. search needs)
+    (λ c. search needs)
+    (λ c. search needs)
+    (λ c κs. search needs)
     returns
     returns-2)

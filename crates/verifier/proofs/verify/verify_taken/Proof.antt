@@ -4,21 +4,6 @@ use Rattle.verifier.proofs.Answers.{stopped-with, went-with, verify-sto
 use Rattle.verifier.proofs.verify.verify_taken.Statement.{statement}
 use Rattle.verifier.proofs.verify.verify_taken.Tie as tie
 
-malformed-requires : tie.Need-malformed-requires
-malformed-requires c κs = search needs
-
-enum-known-answer : tie.Need-enum-known-answer
-enum-known-answer c = search needs
-
-refused-requires : tie.Need-refused-requires
-refused-requires c κs = search needs
-
-enum-told : tie.Need-enum-told
-enum-told c = search needs
-
-verify-case-requires : tie.Need-verify-case-requires
-verify-case-requires c κs = search needs
-
 returns : tie.Need-returns
 returns c =
     λ records many taken.
@@ -35,10 +20,10 @@ pub verify-taken-spec : {M : Type 1} → statement M
 verify-taken-spec =
     tie.close
     (tie.spec
-    malformed-requires
-    enum-known-answer
-    refused-requires
-    enum-told
-    verify-case-requires
+    (λ c κs. search needs)
+    (λ c. search needs)
+    (λ c κs. search needs)
+    (λ c. search needs)
+    (λ c κs. search needs)
     returns
     returns-2)
