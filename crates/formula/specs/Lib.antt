@@ -4,3 +4,4 @@ pub mod TagBytes
 pub mod Ends
 pub mod Meaning
 pub mod Comparing
+pub mod PartPromises

@@ -12,15 +12,14 @@ use ledger::ask_order;
 use procap::bytes::past;
 use procap::fact::Term;
 ghost use mathlib.Core.Path.{_≡_};
-ghost use Prim.Native.Nat.{ℕ, _+_, _<_};
-ghost use lib.ListN.{length};
+ghost use Prim.Native.Nat.{ℕ};
 ghost use Rattle.bl.specs.Trees.{fixed};
 ghost use Rattle.bl.specs.Questions.{misfit, «need-equal»};
 ghost use Rattle.bl.specs.Walk.{«same-place»};
 ghost use Rattle.formula.specs.PutIn.{«place-of»};
-ghost use Rattle.formula.specs.Meaning.{Compares};
 ghost use Rattle.ledger.specs.Books.{Leads};
 ghost use Rattle.formula.specs.Comparing.{LeadsTo, move, ComparesPlaces, ComparesHeads, ComparesPair, ComparesBody, ComparesAfter, ComparesTagged};
+ghost use Rattle.formula.specs.PartPromises.{ComparesOver, PastTags};
 
 // What a comparison comes to: the ledger, and where both formulas end.
 pub struct Compared {
@@ -70,7 +69,7 @@ pub fn same(
     ledger: Ledger,
     levels: u64,
 ) -> Compared
-    ensures { λ r. ⌜ Compares (now («left_bytes» .entry)) left (now («right_bytes» .entry)) right under offset ledger levels (r .ledger) (r .«left_next») (r .«right_next») ⌝ }
+    ensures { λ r. ⌜ ComparesOver «left_bytes» left «right_bytes» right under offset ledger levels r ⌝ }
 {
     let pair = Pair {
         left: left,
@@ -142,7 +141,7 @@ fn same_tagged(
 
 // The pair at the places after its tags.
 fn after_tags(left_bytes: &[u8], right_bytes: &[u8], pair: Pair) -> Pair
-    ensures { λ r. ⌜ (pair .left .at < length (now («left_bytes» .entry)) → pair .right .at < length (now («right_bytes» .entry)) → r ≡ move pair (pair .left .at + 1) (pair .right .at + 1)) ⌝ }
+    ensures { λ r. ⌜ PastTags «left_bytes» «right_bytes» pair r ⌝ }
 {
     pair.at(
         past(left_bytes, pair.left.at),

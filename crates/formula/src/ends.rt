@@ -18,8 +18,9 @@ ghost use Prim.Native.Nat.{_<_};
 ghost use Rattle.procap.specs.Tells.{Tells};
 ghost use Rattle.procap.specs.Bytes.{many, «predicate-and»};
 ghost use Rattle.bl.specs.Trees.{Formula, Sort};
-ghost use Rattle.bl.specs.Formulas.{«most-binders», «fixed-by», «place-by», argument, place, «for-all», formula, «formula-in»};
+ghost use Rattle.bl.specs.Formulas.{«most-binders», «fixed-by», «place-by», argument, place, formula, «formula-in»};
 ghost use Rattle.formula.specs.Ends.{Ends, EndsAfter, PlaceEnds, «two-times», «sort-of», «sorts-of», FewBinders};
+ghost use Rattle.formula.specs.PartPromises.{BodyEnds};
 
 // Where something ends, or that it is not there.
 pub enum End {
@@ -128,7 +129,7 @@ fn next_formula_end(part: &[u8], binders: Binders, before: End, left: u64) -> En
 // Where the formula under one binder more ends, over times or else over names, if that is no ninth.
 fn body_end(part: &[u8], binders: Binders, over_times: bool, at: usize, left: u64) -> End
     requires { ⌜ FewBinders binders ⌝ }
-    ensures { λ r. ⌜ Ends («for-all» (now (part .entry)) (formula (now (part .entry)) left) («sorts-of» binders) («sort-of» «over_times») at) r ⌝ }
+    ensures { λ r. ⌜ BodyEnds part binders «over_times» at left r ⌝ }
 {
     if MOST_BINDERS <= binders.count {
         return End::Nowhere;

@@ -17,20 +17,15 @@ use procap::tag::TermTag;
 use procap::time::Time;
 use procap::time::TimeNumbers;
 ghost use mathlib.Core.Path.{_≡_};
-ghost use mathlib.Core.List.{List, map};
 ghost use mathlib.Core.Option.{some};
 ghost use Prim.Native.Nat.{ℕ, _≤_};
 ghost use Rattle.procap.specs.Tells.{Tells};
 ghost use Rattle.procap.specs.Facts.{«most-terms»};
-ghost use Rattle.procap.specs.Numbered.{«time-numbers»};
-ghost use Rattle.procap.specs.Bytes.{byte, many, «term-by», «predicate-and»};
-ghost use Rattle.bl.specs.Trees.{Sort, fact};
-ghost use Rattle.bl.specs.Trees as tree;
+ghost use Rattle.procap.specs.Bytes.{byte};
 ghost use Rattle.bl.specs.Tags.{«formula-tag»};
-ghost use Rattle.bl.specs.Formulas.{argument, formula};
 ghost use Rattle.formula.specs.TagBytes.{«tag-byte»};
-ghost use Rattle.formula.specs.PutIn.{«no-terms», «terms-of», FewTerms, «place-of», «fill-place»};
-ghost use Rattle.formula.specs.Meaning.{«tag-of», Means, SpellsPlaces, PlaceReads, PlaceEnds, HeadReads, FormulaEnds};
+ghost use Rattle.formula.specs.Meaning.{«tag-of», PlaceReads, PlaceEnds, HeadReads, FormulaEnds};
+ghost use Rattle.formula.specs.PartPromises.{«front-on-ctime», FixedReads, VariableReads, FactSpelled, HeadSpelled, PlacesEnd, HeadEnds};
 
 // A formula as it stands in bytes: where it begins, and the terms put in for the binders passed.
 pub struct FormulaAt {
@@ -48,7 +43,7 @@ pub struct Judgement {
 impl Judgement {
     // The formula at the front of its bytes with no terms put in, on [ctime,ctime].
     pub fn front_on_ctime() -> Judgement
-        ensures { λ r. ⌜ r ≡ record { formula = record { at = 0; terms = «no-terms» }; from = «time-numbers» Time.Ctime; to = «time-numbers» Time.Ctime } ⌝ }
+        ensures { λ r. ⌜ r ≡ «front-on-ctime» ⌝ }
     {
         let terms = Terms::none();
         let formula = FormulaAt {
@@ -162,7 +157,7 @@ fn no_place(at: usize) -> PlaceRead {
 
 // The term that a tag announces, after the tag.
 fn fixed_by(bytes: &[u8], tag: TermTag, at: usize) -> PlaceRead
-    ensures { λ r. ⌜ ((t : Term) (e : ℕ) → «term-by» (now (bytes .entry)) tag at ≡ some (t, e) → («place-of» (r .place) ≡ tree.fixed t) × (r .next ≡ e)) ⌝ }
+    ensures { λ r. ⌜ FixedReads bytes tag at r ⌝ }
 {
     match term_by(bytes, tag, at) {
         TermRead::Found(term, next) => PlaceRead {
@@ -175,7 +170,7 @@ fn fixed_by(bytes: &[u8], tag: TermTag, at: usize) -> PlaceRead
 
 // The variable at a place, or what was put in for it.
 fn variable_at(bytes: &[u8], at: usize, terms: Terms, under: usize) -> PlaceRead
-    ensures place { λ r. ⌜ ((i e : ℕ) → FewTerms terms → byte (now (bytes .entry)) at ≡ some (i, e) → «place-of» (r .place) ≡ «fill-place» under («terms-of» terms) (tree.bound i)) ⌝ }
+    ensures place { λ r. ⌜ VariableReads bytes at terms under r ⌝ }
     ensures next { λ r. ⌜ ((i e : ℕ) → byte (now (bytes .entry)) at ≡ some (i, e) → r .next ≡ e) ⌝ }
 {
     if bytes.len() <= at {
@@ -223,7 +218,7 @@ fn no_head(at: usize) -> Head {
 
 // The fact that a formula is, if no variable is left in it.
 pub fn fact_at(bytes: &[u8], formula: FormulaAt) -> FactRead
-    ensures spells { λ r. ⌜ ((p : ℕ) (xs : List tree.Place) → Means (now (bytes .entry)) 0 formula (fact p xs) → SpellsPlaces p xs (r .found) (r .fact)) ⌝ }
+    ensures spells { λ r. ⌜ FactSpelled bytes formula r ⌝ }
     ensures few { λ r. ⌜ r .fact .count ≤ «most-terms» ⌝ }
 {
     let terms = formula.terms;
@@ -237,7 +232,7 @@ pub fn fact_at(bytes: &[u8], formula: FormulaAt) -> FactRead
 // The fact of a predicate and the places behind it, if no variable is left in them.
 fn fact_with(bytes: &[u8], head: Head, terms: Terms) -> FactRead
     requires { ⌜ head .count ≤ «most-terms» ⌝ }
-    ensures spells { λ r. ⌜ ((sorts : List Sort) (xs : List tree.Place) (e : ℕ) → FewTerms terms → many (argument (now (bytes .entry)) sorts) (head .count) (head .next) ≡ some (xs, e) → SpellsPlaces (head .predicate) (map («fill-place» 0 («terms-of» terms)) xs) (r .found) (r .fact)) ⌝ }
+    ensures spells { λ r. ⌜ HeadSpelled bytes head terms r ⌝ }
     ensures few { λ r. ⌜ r .fact .count ≤ «most-terms» ⌝ }
 {
     let zero = Argument {
@@ -278,7 +273,7 @@ pub(crate) fn past_place(bytes: &[u8], at: usize) -> usize
 
 // Where so many of them end.
 fn past_places(bytes: &[u8], at: usize, count: usize) -> usize
-    ensures { λ r. ⌜ ((sorts : List Sort) (xs : List tree.Place) (e : ℕ) → many (argument (now (bytes .entry)) sorts) count at ≡ some (xs, e) → r ≡ e) ⌝ }
+    ensures { λ r. ⌜ PlacesEnd bytes at count r ⌝ }
 {
     let mut next = at;
     let mut i: usize = 0;
@@ -291,7 +286,7 @@ fn past_places(bytes: &[u8], at: usize, count: usize) -> usize
 
 // Where an atom or a fact ends, from the place after its tag.
 fn past_head(bytes: &[u8], at: usize) -> usize
-    ensures { λ r. ⌜ ((sorts : List Sort) (p : ℕ) (xs : List tree.Place) (e : ℕ) → «predicate-and» (now (bytes .entry)) (argument (now (bytes .entry)) sorts) at ≡ some ((p, xs), e) → r ≡ e) ⌝ }
+    ensures { λ r. ⌜ HeadEnds bytes at r ⌝ }
 {
     let head = head_at(bytes, at);
     past_places(bytes, head.next, head.count)

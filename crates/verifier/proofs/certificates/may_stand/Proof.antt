@@ -4,18 +4,6 @@ use Rattle.bl.specs.Certificates.{fixed-time}
 use Rattle.verifier.proofs.certificates.may_stand.Statement.{statement}
 use Rattle.verifier.proofs.certificates.may_stand.Tie as tie
 
-enum-known-time : tie.Need-enum-known-time
-enum-known-time c = search needs
-
-enum-told : tie.Need-enum-told
-enum-told c = search needs
-
-enum-told-2 : tie.Need-enum-told-2
-enum-told-2 c = search needs
-
-enum-told-3 : tie.Need-enum-told-3
-enum-told-3 c = search needs
-
 returns : tie.Need-returns
 unfolding fixed-time
 returns c = rw (c .before .time .given .1)
@@ -36,10 +24,10 @@ pub may-stand-spec : {M : Type 1} → statement M
 may-stand-spec =
     tie.close
     (tie.spec
-    enum-known-time
-    enum-told
-    enum-told-2
-    enum-told-3
+    (λ c. search needs)
+    (λ c. search needs)
+    (λ c. search needs)
+    (λ c. search needs)
     returns
     returns-2
     returns-3

@@ -9,17 +9,8 @@ use Rattle.verifier.proofs.CertificateLaws.{stays-refused, taken-going,
 use Rattle.verifier.proofs.certificates.take_record.Statement.{statement}
 use Rattle.verifier.proofs.certificates.take_record.Tie as tie
 
-enum-known-stop : tie.Need-enum-known-stop
-enum-known-stop c = search needs
-
 returns : tie.Need-returns
 returns c = λ records l here room so-far. stays-refused records _ _ _ l _ _ (c .before .stop .given .1) so-far
-
-enum-told : tie.Need-enum-told
-enum-told c = search needs
-
-well-formed-requires : tie.Need-well-formed-requires
-well-formed-requires c κs = search needs
 
 returns-2 : tie.Need-returns-2
 returns-2 c =
@@ -27,15 +18,6 @@ returns-2 c =
     λ records l here room so-far.
     taken-malformed records _ _ _ l (taken-going records _ _ _ l _ (c .before .before .enum-told .given .1) so-far)
     (rw here (fails-where (told .result) (c .if1 .taken) (told .ensures)))
-
-row-of-requires : tie.Need-row-of-requires
-row-of-requires c κs = search needs
-
-put-row-requires : tie.Need-put-row-requires
-put-row-requires c κs = search needs
-
-same-length : tie.Need-same-length
-same-length c = search needs
 
 returns-3 : tie.Need-returns-3
 returns-3 c =
@@ -53,12 +35,12 @@ pub take-record-spec : {M : Type 1} → statement M
 take-record-spec =
     tie.close
     (tie.spec
-    enum-known-stop
+    (λ c. search needs)
     returns
-    enum-told
-    well-formed-requires
+    (λ c. search needs)
+    (λ c κs. search needs)
     returns-2
-    row-of-requires
-    put-row-requires
-    same-length
+    (λ c κs. search needs)
+    (λ c κs. search needs)
+    (λ c. search needs)
     returns-3)

@@ -5,14 +5,8 @@ use Rattle.verifier.proofs.CertificateLaws.{refuted, agreed, stands, we
 use Rattle.verifier.proofs.certificates.well_formed.Statement.{statement}
 use Rattle.verifier.proofs.certificates.well_formed.Tie as tie
 
-may-stand-requires : tie.Need-may-stand-requires
-may-stand-requires c κs = search needs
-
 returns : tie.Need-returns
 returns c = λ w. refuted (c .before .may-stand .ensures) (c .if1 .taken) (stands _ _ w .1 .from)
-
-may-stand-requires-2 : tie.Need-may-stand-requires-2
-may-stand-requires-2 c κs = search needs
 
 returns-2 : tie.Need-returns-2
 returns-2 c = λ w. refuted (c .before .may-stand2 .ensures) (c .if2 .taken) (stands _ _ w .1 .to)
@@ -23,26 +17,8 @@ returns-3 c = λ w. let h = stands _ _ w in omega (arith, h .1)
 returns-4 : tie.Need-returns-4
 returns-4 c = λ w. let h = stands _ _ w in omega (arith, h .1)
 
-sub-if5 : tie.Need-sub-if5
-sub-if5 c = search needs
-
 returns-5 : tie.Need-returns-5
 returns-5 c = λ w. let h = stands _ _ w in omega (arith, h .1)
-
-add-holds-formula : tie.Need-add-holds-formula
-add-holds-formula c = search needs
-
-sub-holds-formula : tie.Need-sub-holds-formula
-sub-holds-formula c = search needs
-
-part-holds-formula-start : tie.Need-part-holds-formula-start
-part-holds-formula-start c = search needs
-
-part-holds-formula-end : tie.Need-part-holds-formula-end
-part-holds-formula-end c = search needs
-
-holds-formula-requires : tie.Need-holds-formula-requires
-holds-formula-requires c κs = search needs
 
 returns-6 : tie.Need-returns-6
 returns-6 c =
@@ -59,17 +35,17 @@ pub well-formed-spec : {M : Type 1} → statement M
 well-formed-spec =
     tie.close
     (tie.spec
-    may-stand-requires
+    (λ c κs. search needs)
     returns
-    may-stand-requires-2
+    (λ c κs. search needs)
     returns-2
     returns-3
     returns-4
-    sub-if5
+    (λ c. search needs)
     returns-5
-    add-holds-formula
-    sub-holds-formula
-    part-holds-formula-start
-    part-holds-formula-end
-    holds-formula-requires
+    (λ c. search needs)
+    (λ c. search needs)
+    (λ c. search needs)
+    (λ c. search needs)
+    (λ c κs. search needs)
     returns-6)

@@ -5,19 +5,13 @@ use mathlib.Core.Path.{refl}
 use Rattle.verifier.proofs.verify.issued.Statement.{statement}
 use Rattle.verifier.proofs.verify.issued.Tie as tie
 
-refused-requires : tie.Need-refused-requires
-refused-requires c κs = search needs
-
 returns : tie.Need-returns
 returns c =
     λ sound. none-left _ _ _ _ (c .before .if1 .taken) (c .refused .ensures)
-
-procap-of-requires : tie.Need-procap-of-requires
-procap-of-requires c κs = search needs
 
 returns-2 : tie.Need-returns-2
 returns-2 c =
     λ sound. some-left _ _ _ _ (c .before .if1 .left) refl (c .procap-of .ensures sound)
 
 pub issued-spec : {M : Type 1} → statement M
-issued-spec = tie.close (tie.spec refused-requires returns procap-of-requires returns-2)
+issued-spec = tie.close (tie.spec (λ c κs. search needs) returns (λ c κs. search needs) returns-2)

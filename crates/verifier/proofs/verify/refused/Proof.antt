@@ -3,11 +3,8 @@ use borrow.Author.Needs.{needs}
 use Rattle.verifier.proofs.verify.refused.Statement.{statement}
 use Rattle.verifier.proofs.verify.refused.Tie as tie
 
-empty-requires : tie.Need-empty-requires
-empty-requires c κs = search needs
-
 returns : tie.Need-returns
 returns c = λ i. record { answer = c .before .args .answer; procap = c .empty .ensures i }
 
 pub refused-spec : {M : Type 1} → statement M
-refused-spec = tie.close (tie.spec empty-requires returns)
+refused-spec = tie.close (tie.spec (λ c κs. search needs) returns)
