@@ -20,7 +20,7 @@ use Rattle.judging.specs.declared.judge.Application.{Application}
 use Rattle.judging.specs.declared.judge.Checked.{Checked}
 use Rattle.ledger.specs.Books.{stop-of, Book, book, Sound, Gives, misfitted, kept-of, resume, unless-stopped}
 use Rattle.formula.specs.Meaning.{from-of, to-of, On}
-use Rattle.judging.specs.Judging.{and-then, two-orders, Takes, takes, unfit, Yields, Passes, Used, used, unused}
+use Rattle.judging.specs.Judging.{and-then, part-of, two-orders, Takes, takes, unfit, Yields, Passes, Used, used, unused}
 use Rattle.ledger.proofs.Giving.{then, idle, misfits, misfits-any, halted, not-going, misfitted-stopped, stop-going}
 use Rattle.judging.proofs.StepWalks.{use-implication}
 
@@ -141,7 +141,7 @@ misfit-stops state b r q a s h e =
 pub comes-used : (state buffer : List ℕ) (q : ℕ) (list : List ℕ) (l : Ledger) (F : Formula) (a b t1 t2 : Time) (middle next : ℕ) (r : Application)
     → Sound (book l list) → Used state buffer q list l F a b t1 t2 middle next r
     → Comes state (book l list) (use-implication q t1 t2 (F, a, b)) (book (r .ledger) list)
-    (λ x. On buffer (r .premise) (x .0) t1 t2 × On buffer (r .conclusion) (x .1) t1 t2 × (r .middle ≡ middle) × (r .next ≡ next))
+    (λ x. On buffer (r .premise) (x .0) t1 t2 × On buffer (part-of (r .premise) (r .conclusion)) (x .1) t1 t2 × (r .middle ≡ middle) × (r .next ≡ next))
 unfolding use-implication _>>=_
 comes-used state buffer q list l F a b t1 t2 middle next r s (used A B e g premise conclusion m n) =
     record {

@@ -18,8 +18,8 @@ use Rattle.formula.specs.declared.parts.Judgement.{Judgement}
 use Rattle.judging.specs.declared.judge.Inferred.{Inferred}
 use Rattle.judging.specs.declared.judge.Application.{Application}
 use Rattle.ledger.specs.Books.{stop-of, Book, book, Sound, Gives, misfitted}
-use Rattle.formula.specs.Meaning.{from-of, to-of, Means, On}
-use Rattle.judging.specs.Judging.{and-then, and-sides, implies-sides, two-orders, fits-goal, Takes, takes, unfit, Yields, Used, used, unused}
+use Rattle.formula.specs.Meaning.{begin, from-of, to-of, Means, On}
+use Rattle.judging.specs.Judging.{and-then, part-of, and-sides, implies-sides, two-orders, fits-goal, Takes, takes, unfit, Yields, Used, used, unused}
 use Rattle.ledger.proofs.Giving.{then, goes-or-stopped}
 use Rattle.judging.proofs.Coming.{stops, comes-on, comes-halted, comes-taken, comes-inferred, comes-yields}
 
@@ -113,29 +113,26 @@ one-side {state} {buffer} {b} {w} {e} {inferred} {list} q side r y going stopped
         halts y after r ends (stopped ends)
 
 -- 26, before its second step, by what was taken of the implication and by its two orders.
-pub put-to-use : {state buffer list : List ℕ} {l m : Ledger} {F : Formula} {from to begin end a b t1 t2 : Time} {q middle next : ℕ}
-    (first second : Judgement) (r : Application) → from ≡ a → to ≡ b → begin ≡ t1 → end ≡ t2 → Sound (book l list)
-    → Takes (implies-sides q F) q l m (λ x. On buffer first (x .0) from to × On buffer second (x .1) from to)
-    → (Sound (book m list) → Gives state (book m list) (two-orders q from begin end to) (book (r .ledger) list) tt)
-    → r .premise ≡ record { formula = first .formula; from = time-numbers begin; to = time-numbers end }
-    → r .conclusion ≡ record { formula = second .formula; from = time-numbers begin; to = time-numbers end }
-    → r .middle ≡ middle → r .next ≡ next
+pub put-to-use : {state buffer list : List ℕ} {l m : Ledger} {F : Formula} {from to start end a b t1 t2 : Time} {q middle next : ℕ}
+    (j : Judgement) (first second : ℕ) (r : Application) → from ≡ a → to ≡ b → start ≡ t1 → end ≡ t2 → Sound (book l list)
+    → Takes (implies-sides q F) q l m (λ x. On buffer (part-of j first) (x .0) from to × On buffer (part-of j second) (x .1) from to)
+    → (Sound (book m list) → Gives state (book m list) (two-orders q from start end to) (book (r .ledger) list) tt)
+    → r .premise ≡ record { formula = begin (j .formula) first; from = time-numbers start; to = time-numbers end }
+    → r .conclusion ≡ second → r .middle ≡ middle → r .next ≡ next
     → Used state buffer q list l F a b t1 t2 middle next r
 unfolding _>>=_
-put-to-use {state} {buffer} {list} {l} {m} {F} {from} {to} {begin} {end} {q = q} {middle} {next} first second r f g h k s t orders p c i n =
+put-to-use {state} {buffer} {list} {l} {m} {F} {from} {to} {start} {end} {q = q} {middle} {next} j first second r f g h k s t orders p c i n =
     rw (← f, ← g, ← h, ← k) (by t)
   where
-    -- A side, on the times that it is put to use on.
-    put : {part side : Judgement} {A : Formula} → part ≡ record { formula = side .formula; from = time-numbers begin; to = time-numbers end } → On buffer side A from to
-        → On buffer part A begin end
-    put e o = rw e (record { means = o .means; from = time-back begin; to = time-back end })
-
-    by : Takes (implies-sides q F) q l m (λ x. On buffer first (x .0) from to × On buffer second (x .1) from to)
-        → Used state buffer q list l F from to begin end middle next r
-    by (takes x d e o) = used (x .0) (x .1) d (rw e at (orders (rw e s))) (put p (o .0)) (put c (o .1)) i n
+    by : Takes (implies-sides q F) q l m (λ x. On buffer (part-of j first) (x .0) from to × On buffer (part-of j second) (x .1) from to)
+        → Used state buffer q list l F from to start end middle next r
+    by (takes x d e o) =
+        used (x .0) (x .1) d (rw e at (orders (rw e s)))
+        (rw p (record { means = o .0 .means; from = time-back start; to = time-back end }))
+        (rw (p, c) (record { means = o .1 .means; from = time-back start; to = time-back end })) i n
     by (unfit d e) =
         let stopped : Gives state (book l list) (misfit q) (book m list) (tt {0}) = stops s refl e in
-        let rest : Unit {0} → Test = λ _. two-orders q from begin end to in
+        let rest : Unit {0} → Test = λ _. two-orders q from start end to in
         unused d (then state (book l list) (book m list) (book (r .ledger) list) (misfit q) tt rest tt stopped (orders (stopped .sound)))
 
 -- The formulas compared, then the two orders.

@@ -14,7 +14,7 @@ use Rattle.formula.specs.declared.parts.FormulaAt.{FormulaAt}
 use Rattle.formula.specs.declared.parts.Judgement.{Judgement}
 use Rattle.ledger.specs.Books.{misfitted}
 use Rattle.formula.specs.Meaning.{from-of, to-of, tag-of, begin, Means, On}
-use Rattle.judging.specs.Judging.{sides, TwoSided, Takes, takes, unfit}
+use Rattle.judging.specs.Judging.{part-of, sides, TwoSided, Takes, takes, unfit}
 use Rattle.formula.proofs.Shapes.{inside, TwoParts, and-shape, implies-shape, not-and, not-implies}
 use Rattle.judging.proofs.WalkParts.{and-parts, no-and, implies-parts, no-implies}
 
@@ -29,7 +29,7 @@ EndsAt bytes place end =
 
 -- A part that begins at a place, on the same interval.
 pub part-on : {bytes : List ℕ} (j : Judgement) {A : Formula} {part : Judgement} {at place : ℕ}
-    → part ≡ record { formula = begin (j .formula) at; from = j .from; to = j .to } → at ≡ place
+    → part ≡ part-of j at → at ≡ place
     → Means bytes 0 (begin (j .formula) place) A → On bytes part A (from-of j) (to-of j)
 part-on j e f m = rw (e, f) (record { means = m; from = refl; to = refl })
 
@@ -69,14 +69,12 @@ module _ {bytes : List ℕ} {f : FormulaAt} {F : Formula} (m : Means bytes 0 f F
 
 -- The tag wanted: the first side after it, the second where the first ends.
 pub sides-there : {bytes : List ℕ} (j : Judgement) {F : Formula} (m : Means bytes 0 (j .formula) F) (q : ℕ) (wanted : FormulaTag)
-    {l : Ledger} {one other : Judgement} {at end : ℕ} → TwoSided wanted → tag-of bytes (j .formula .at) ≡ wanted
+    {l : Ledger} {at end : ℕ} → TwoSided wanted → tag-of bytes (j .formula .at) ≡ wanted
     → After bytes (j .formula .at) at → EndsAt bytes at end
-    → one ≡ record { formula = begin (j .formula) at; from = j .from; to = j .to }
-    → other ≡ record { formula = begin (j .formula) end; from = j .from; to = j .to }
-    → Takes (sides wanted q F) q l l (λ x. On bytes one (x .0) (from-of j) (to-of j) × On bytes other (x .1) (from-of j) (to-of j))
-sides-there {bytes} j m q wanted {l} {one} {other} {at} {end} two tag next ends e f =
+    → Takes (sides wanted q F) q l l (λ x. On bytes (part-of j at) (x .0) (from-of j) (to-of j) × On bytes (part-of j end) (x .1) (from-of j) (to-of j))
+sides-there {bytes} j m q wanted {l} {at} {end} two tag next ends =
     let (A, B, d, parts) = sided m q wanted two .there tag in
     let first = parts .first .means in
     let n : at ≡ j .formula .at + 1 = next (inside bytes 0 (j .formula) m) in
     let k : end ≡ first .end = ends (first .level) (first .sorts) (first .tree) (first .end) (first .low) (rw n (first .reads)) in
-    takes (A, B) d refl (part-on j e n first, part-on j f k (parts .second .means))
+    takes (A, B) d refl (part-on j refl n first, part-on j refl k (parts .second .means))

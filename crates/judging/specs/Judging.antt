@@ -29,7 +29,7 @@ use Rattle.judging.specs.declared.judge.Inferred.{Inferred}
 use Rattle.judging.specs.declared.judge.Checked.{Checked}
 use Rattle.judging.specs.declared.judge.Application.{Application}
 use Rattle.ledger.specs.Books.{stop-of, Book, book, Gives, misfitted}
-use Rattle.formula.specs.Meaning.{On}
+use Rattle.formula.specs.Meaning.{begin, On}
 
 -- One walk, and then another.
 abbrev pub and-then : {A B : Type 0} → Walk A → (A → Walk B) → Walk B
@@ -56,6 +56,10 @@ use-certificate q v cs i = do
   c ← need q (nth cs i)
   walk.need-view q v (c .by)
   done (c .says, c .from, c .to)
+
+-- The part of a judgement that begins at another place, on the same interval.
+abbrev pub part-of : Judgement → ℕ → Judgement
+part-of j at = record { formula = begin (j .formula) at; from = j .from; to = j .to }
 
 -- Both sides of a conjunction, of an implication.
 unfoldable pub and-sides : ℕ → Formula → Walk (Formula × Formula)
@@ -190,6 +194,6 @@ pub record Passes (state : List ℕ) (b : Book) (w : Test) (e : ℕ) (r : Checke
 pub data Used (state buffer : List ℕ) (q : ℕ) (list : List ℕ) (l : Ledger) (F : Formula) (a b t1 t2 : Time) (middle next : ℕ) (r : Application) : Type 0 where
   used : (A B : Formula) → implies-sides q F ≡ done (A, B)
       → Gives state (book l list) (two-orders q a t1 t2 b) (book (r .ledger) list) tt
-      → On buffer (r .premise) A t1 t2 → On buffer (r .conclusion) B t1 t2 → r .middle ≡ middle → r .next ≡ next
+      → On buffer (r .premise) A t1 t2 → On buffer (part-of (r .premise) (r .conclusion)) B t1 t2 → r .middle ≡ middle → r .next ≡ next
       → Used state buffer q list l F a b t1 t2 middle next r
   unused : implies-sides q F ≡ misfit q → Gives state (book l list) (misfit q) (book (r .ledger) list) (tt {0}) → Used state buffer q list l F a b t1 t2 middle next r

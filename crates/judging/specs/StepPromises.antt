@@ -32,7 +32,7 @@ use Rattle.judging.specs.declared.rows.Whose.the-variants.{Plain, Claim}
 use Rattle.judging.specs.declared.judge.Inside.{Inside}
 use Rattle.judging.specs.declared.judge.Application.{Application}
 use Rattle.judging.specs.RowsOf.{RowIs, Assumed, Certified, most-rows, row-in}
-use Rattle.judging.specs.Judging.{view-in, use-local, use-certificate, sides, TwoSided, and-sides, at-parts, says-parts, inside, fact-goal, fits-goal, and-then, Takes, Yields, Passes, Used}
+use Rattle.judging.specs.Judging.{view-in, use-local, use-certificate, part-of, sides, TwoSided, and-sides, at-parts, says-parts, inside, fact-goal, fits-goal, and-then, Takes, Yields, Passes, Used}
 use Rattle.judging.specs.Pieces.{two-times}
 
 -- A row that is an assumption is used as it stands.
@@ -59,14 +59,14 @@ UsesCertificate proof rows scope q l r =
 abbrev pub TakesSides : List ℕ → ℕ → FormulaTag → Judgement → Ledger → Sides → Type 0
 TakesSides bytes q wanted j l r =
     (F : Formula) → TwoSided wanted → Means bytes 0 (j .formula) F
-    → Takes (sides wanted q F) q l (r .ledger) (λ x. On bytes (r .first) (x .0) (from-of j) (to-of j) × On bytes (r .second) (x .1) (from-of j) (to-of j))
+    → Takes (sides wanted q F) q l (r .ledger) (λ x. On bytes (part-of j (r .first)) (x .0) (from-of j) (to-of j) × On bytes (part-of j (r .second)) (x .1) (from-of j) (to-of j))
 
 -- Where what was inferred goes on, the conjunction that it is is taken apart.
 abbrev pub TakesConjuncts : List ℕ → ℕ → Inferred → Sides → Type 0
 TakesConjuncts buffer q inferred r =
     let j = inferred .judgement in
     (F : Formula) → stop-of (inferred .ledger) ≡ Going → Means buffer 0 (j .formula) F
-    → Takes (and-sides q F) q (inferred .ledger) (r .ledger) (λ x. On buffer (r .first) (x .0) (from-of j) (to-of j) × On buffer (r .second) (x .1) (from-of j) (to-of j))
+    → Takes (and-sides q F) q (inferred .ledger) (r .ledger) (λ x. On buffer (part-of j (r .first)) (x .0) (from-of j) (to-of j) × On buffer (part-of j (r .second)) (x .1) (from-of j) (to-of j))
 
 -- Where it has stopped, the ledger stays.
 abbrev pub StaysStopped : Inferred → Ledger → Type 0

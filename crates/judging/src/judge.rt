@@ -28,8 +28,7 @@ ghost use mathlib.Core.Path.{_≡_};
 ghost use Rattle.procap.specs.Writable.{TermInForm};
 ghost use Rattle.bl.specs.Walk as walk;
 ghost use Rattle.ledger.specs.Books.{misfitted, Leads};
-ghost use Rattle.formula.specs.Meaning.{begin};
-ghost use Rattle.judging.specs.Judging.{«view-in», «scope-inside», «top-goal», «order-goal», «first-side», «second-side», «put-in»};
+ghost use Rattle.judging.specs.Judging.{«view-in», «scope-inside», «part-of», «top-goal», «order-goal», «first-side», «second-side», «put-in»};
 ghost use Rattle.judging.specs.StepPromises.{UsesRow, UsesLocal, UsesCertificate, TakesSides, TakesConjuncts, StaysStopped, TakesTimes, TakesAt, TakesSays, TakesInside, TakesInsideInferred, Continues, PutsToUse, MeetsGoal, MeetsFact, FitsGoal, ChecksInferred};
 ghost use Rattle.judging.specs.Pieces.{«binder-of»};
 
@@ -59,11 +58,11 @@ pub struct Checked {
     pub next: usize,
 }
 
-// Two judgements that one is made of.
+// Where the two sides of a formula begin, each on the interval of the whole. Where the ledger has stopped, the rest says nothing.
 pub struct Sides {
     pub ledger: Ledger,
-    pub first: Judgement,
-    pub second: Judgement,
+    pub first: usize,
+    pub second: usize,
 }
 
 // What stands around a formula that a step takes out, or puts in: an "at" or a "says".
@@ -86,11 +85,11 @@ struct Span {
     pub next: usize,
 }
 
-// What a 26 has to check, what it then infers, and where its second step begins and it ends.
+// What a 26 has to check, where on the same interval begins what it then infers, and where its second step begins and it ends.
 pub struct Application {
     pub ledger: Ledger,
     pub premise: Judgement,
-    pub conclusion: Judgement,
+    pub conclusion: usize,
     pub middle: usize,
     pub next: usize,
 }
@@ -107,8 +106,8 @@ fn on_interval(formula: FormulaAt, from: TimeNumbers, to: TimeNumbers) -> Judgem
 }
 
 // The part of a judgement that begins at another place, on the same interval.
-fn part_at(judgement: Judgement, at: usize) -> Judgement
-    ensures { λ r. ⌜ r ≡ record { formula = begin (judgement .formula) at; from = judgement .from; to = judgement .to } ⌝ }
+pub fn part_at(judgement: Judgement, at: usize) -> Judgement
+    ensures { λ r. ⌜ r ≡ «part-of» judgement at ⌝ }
 {
     let formula = judgement.formula;
     let terms = formula.terms;
@@ -236,7 +235,7 @@ pub fn certificate(
     row_used(certificates, index, scope, offset, ledger, next)
 }
 
-// The two sides of a conjunction or of an implication, by the tag wanted, each on the same interval.
+// Where the two sides of a conjunction or of an implication begin, by the tag wanted.
 pub fn sides_of(
     bytes: &[u8],
     offset: usize,
@@ -250,16 +249,16 @@ pub fn sides_of(
     if !is_a(bytes, formula.at, wanted) {
         return Sides {
             ledger: ledger.misfit(offset),
-            first: judgement,
-            second: judgement,
+            first: 0,
+            second: 0,
         };
     }
     let at = past(bytes, formula.at);
     let end = past_formula(bytes, at, MOST_FORMULA_LEVELS);
     Sides {
         ledger: ledger,
-        first: part_at(judgement, at),
-        second: part_at(judgement, end),
+        first: at,
+        second: end,
     }
 }
 
@@ -273,8 +272,8 @@ fn conjuncts(buffer: &[u8], offset: usize, inferred: Inferred) -> Sides
     if !ledger.goes_on() {
         return Sides {
             ledger: ledger,
-            first: judgement,
-            second: judgement,
+            first: 0,
+            second: 0,
         };
     }
     sides_of(buffer, offset, FormulaTag::AndTag, judgement, ledger)
@@ -286,10 +285,10 @@ pub fn first(buffer: &[u8], offset: usize, inferred: Inferred) -> Inferred
 {
     let parts = conjuncts(buffer, offset, inferred);
     let after_parts = parts.ledger;
-    let side = parts.first;
+    let judgement = inferred.judgement;
     Inferred {
         ledger: after_parts,
-        judgement: side,
+        judgement: part_at(judgement, parts.first),
         next: inferred.next,
     }
 }
@@ -300,10 +299,10 @@ pub fn second(buffer: &[u8], offset: usize, inferred: Inferred) -> Inferred
 {
     let parts = conjuncts(buffer, offset, inferred);
     let after_parts = parts.ledger;
-    let side = parts.second;
+    let judgement = inferred.judgement;
     Inferred {
         ledger: after_parts,
-        judgement: side,
+        judgement: part_at(judgement, parts.second),
         next: inferred.next,
     }
 }
@@ -325,7 +324,7 @@ pub fn put_to_use(
         return Application {
             ledger: ledger,
             premise: judgement,
-            conclusion: judgement,
+            conclusion: 0,
             middle: 0,
             next: 0,
         };
@@ -334,10 +333,8 @@ pub fn put_to_use(
     let to = judgement.to;
     let parts = sides_of(buffer, offset, FormulaTag::ImpliesTag, judgement, ledger);
     let after_parts = parts.ledger;
-    let first = parts.first;
-    let second = parts.second;
-    let one = first.formula;
-    let other = second.formula;
+    let formula = judgement.formula;
+    let terms = formula.terms;
     let t1 = time_at(proof, second_end);
     let t2 = time_at(proof, t1.next);
     let begin = t1.time;
@@ -346,10 +343,14 @@ pub fn put_to_use(
     let after_asked = ask_order(asked, offset, end, to.time());
     let starts = begin.numbers();
     let ends = end.numbers();
+    let one = FormulaAt {
+        at: parts.first,
+        terms: terms,
+    };
     Application {
         ledger: after_asked,
         premise: on_interval(one, starts, ends),
-        conclusion: on_interval(other, starts, ends),
+        conclusion: parts.second,
         middle: inferred.next,
         next: t2.next,
     }

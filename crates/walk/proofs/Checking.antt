@@ -37,7 +37,7 @@ use Rattle.judging.specs.declared.judge.Inside.{Inside}
 use Rattle.ledger.specs.Books.{stop-of, Book, book, Sound, Gives}
 use Rattle.formula.specs.Meaning.{from-of, to-of, Means, On}
 use Rattle.judging.specs.RowsOf.{RowIs, is-plain, is-claim, is-shut, most-rows, PutsRow}
-use Rattle.judging.specs.Judging.{view-in, scope-inside, and-then, sides, TwoSided, and-sides, inside, top-goal, fact-goal, order-goal, Passes}
+use Rattle.judging.specs.Judging.{view-in, scope-inside, part-of, and-then, sides, TwoSided, and-sides, inside, top-goal, fact-goal, order-goal, Passes}
 use Rattle.judging.specs.StepPromises.{TakesSides, TakesInside, TakesInsideInferred, StaysStopped, ChecksInferred}
 use Rattle.walk.specs.Walking.{Sources, Around, Keeps, InfersAt, InfersBy, ChecksAt, ChecksBy}
 use Rattle.walk.specs.WalkCalls.{Puts, puts-at, puts-says, TakesOut, takes-at, takes-says}
@@ -224,7 +224,7 @@ module _ (S : Sources) (rows : List ℕ) (scope : Scope) (ledger : Ledger) (list
     module _ {parts : Sides} (splits : TakesSides goal-bytes at AndTag goal ledger parts) where
       sides-come : Sound (book ledger list) → (G : Formula) → Means goal-bytes 0 (goal .formula) G
           → Comes (S .state) (book ledger list) (and-sides at G) (book (parts .ledger) list)
-          (λ x. On goal-bytes (parts .first) (x .0) (from-of goal) (to-of goal) × On goal-bytes (parts .second) (x .1) (from-of goal) (to-of goal))
+          (λ x. On goal-bytes (part-of goal (parts .first)) (x .0) (from-of goal) (to-of goal) × On goal-bytes (part-of goal (parts .second)) (x .1) (from-of goal) (to-of goal))
       unfolding sides TwoSided
       sides-come sound G means = comes-taken (S .state) list (and-sides at G) at ledger (parts .ledger) _ (G, G) sound (splits G tt means)
 
@@ -235,15 +235,15 @@ module _ (S : Sources) (rows : List ℕ) (scope : Scope) (ledger : Ledger) (list
           (passes-halted (S .state) (book ledger list) (and-sides at G) (parts .ledger) list (sides-come sound G means) _ e n next)
 
       module _ (going : stop-of (parts .ledger) ≡ Going) {begin : ℕ} (begins : at < length (S .proof) → begin ≡ at + 1) {one : Checked} {list₁ : List ℕ}
-          (checks : ChecksAt S rows scope (parts .ledger) list left goal-bytes (parts .first) begin one list₁) where
+          (checks : ChecksAt S rows scope (parts .ledger) list left goal-bytes (part-of goal (parts .first)) begin one list₁) where
         one-comes : (cs : List Statement) (Γ : List Assumption) (N : Check) (e : ℕ) → Sound (book (parts .ledger) list) → Around S rows scope (suc left) cs Γ
             → check-step (S .proof) (length cs) left (scope .count) (at + 1) ≡ some (N, e) → ToldChecking (S .ends) N
-            → (A : Formula) → On goal-bytes (parts .first) A (from-of goal) (to-of goal)
+            → (A : Formula) → On goal-bytes (part-of goal (parts .first)) A (from-of goal) (to-of goal)
             → Comes (S .state) (book (parts .ledger) list) (check cs Γ view N A (from-of goal) (to-of goal)) (book (one .ledger) list₁) (λ _. one .next ≡ e)
         one-comes cs Γ N e sound around reads told A on =
             let inside = check-begins (S .proof) (length cs) left (scope .count) (at + 1) N e reads in
             comes-checked (S .state) (book (parts .ledger) list) _ e one list₁
-            (passes-on (S .state) goal-bytes (parts .first) A (from-of goal) (to-of goal) on (check cs Γ view N A) (book (parts .ledger) list) e one list₁
+            (passes-on (S .state) goal-bytes (part-of goal (parts .first)) A (from-of goal) (to-of goal) on (check cs Γ view N A) (book (parts .ledger) list) e one list₁
             (checks cs Γ N e sound (around-part S rows scope left cs Γ around) (rw (begins (omega arith)) reads) told A (on .means)))
 
         pub check-pair-stopped : (stop-of (one .ledger) ≡ Going → ⊥) → By PairTag one list₁
@@ -257,7 +257,7 @@ module _ (S : Sources) (rows : List ℕ) (scope : Scope) (ledger : Ledger) (list
             (one-comes cs Γ (found .one) (found .middle) sound around (found .one-reads) (both .0) (x .0) (on .0)) _ e n (one .next)))
 
         pub check-pair : stop-of (one .ledger) ≡ Going → {other : Checked} {list₂ : List ℕ}
-            → ChecksAt S rows scope (one .ledger) list₁ left goal-bytes (parts .second) (one .next) other list₂
+            → ChecksAt S rows scope (one .ledger) list₁ left goal-bytes (part-of goal (parts .second)) (one .next) other list₂
             → By PairTag other list₂
         unfolding ToldChecking
         check-pair goes {other} {list₂} checks-other cs Γ N e sound around reads told G means =
@@ -267,7 +267,7 @@ module _ (S : Sources) (rows : List ℕ) (scope : Scope) (ledger : Ledger) (list
             (passes-then (S .state) (book ledger list) (and-sides at G) (parts .ledger) list (sides-come sound G means) _ e going other list₂
             (λ sound x on. passes-then (S .state) (book (parts .ledger) list) _ (one .ledger) list₁
             (one-comes cs Γ (found .one) (found .middle) sound around (found .one-reads) (both .0) (x .0) (on .0)) _ e goes other list₂
-            (λ sound y ends. passes-on (S .state) goal-bytes (parts .second) (x .1) (from-of goal) (to-of goal) (on .1) (check cs Γ view (found .other) (x .1)) (book (one .ledger) list₁) e other list₂
+            (λ sound y ends. passes-on (S .state) goal-bytes (part-of goal (parts .second)) (x .1) (from-of goal) (to-of goal) (on .1) (check cs Γ view (found .other) (x .1)) (book (one .ledger) list₁) e other list₂
             (checks-other cs Γ (found .other) e sound (around-part S rows scope left cs Γ around) (rw ends (found .other-reads)) (both .1) (x .1) (on .1 .means)))))
 
     module _ (shell : Shell) where

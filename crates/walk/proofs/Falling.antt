@@ -16,19 +16,19 @@ abbrev pub left-over : ℕ → ℕ → ℕ → ℕ
 left-over levels all at = levels * suc all + (all - at)
 
 -- A part of the step here, whose tag was read, has a level less, wherever it stands.
-pub part-falls : (all : ℕ) (here : Here) (left at t : ℕ) → left ≡ here .left → left-over (suc (here .left)) all (here .at + 1) ≡ t → left-over left all at < t
-part-falls all here left at t same is = let product = ap (λ n. n * suc all) same in omega (arith, product, is)
+pub part-falls : (all : ℕ) (here : Here) (at t : ℕ) → 0 < here .left → left-over (here .left) all (here .at + 1) ≡ t → left-over (here .left - 1) all at < t
+part-falls all here at t more is =
+    let level : here .left ≡ suc (here .left - 1) = omega arith in
+    let product : here .left * suc all ≡ suc (here .left - 1) * suc all = ap (λ n. n * suc all) level in
+    omega (arith, product, is)
 
-pub step-falls : (all : ℕ) (here : Here) (part : Here) (at : ℕ) (ledger : Ledger) (t : ℕ) → part ≡ record { scope = here .scope; at = at; ledger = ledger; left = here .left }
-    → left-over (suc (here .left)) all (here .at + 1) ≡ t → left-over (part .left) all (part .at) < t
-step-falls all here part at ledger t is = part-falls all here (part .left) (part .at) t (ap (λ h. h .left) is)
+pub here-falls : (all : ℕ) (here part : Here) (at : ℕ) (ledger : Ledger) (t : ℕ) → part ≡ record { scope = here .scope; at = at; ledger = ledger; left = here .left - 1 }
+    → 0 < here .left → left-over (here .left) all (here .at + 1) ≡ t → left-over (part .left) all (part .at) < t
+here-falls all here part at ledger t is more equal = rw is (part-falls all here at t more equal)
 
--- Where the tag is handed on with the place after it, a byte less is left.
-pub tag-falls : (all : ℕ) (here parts : Here) (t : ℕ) → (here .left ≡ 0 → ⊥) → parts ≡ record { scope = here .scope; at = here .at; ledger = here .ledger; left = here .left - 1 }
-    → here .at < all → left-over (here .left) all (here .at) ≡ t → left-over (suc (parts .left)) all (parts .at + 1) < t
-tag-falls all here parts t more below inside is =
-    let level : suc (here .left - 1) ≡ here .left = omega (arith, more) in
-    rw below (rw level (omega (arith, inside, is)))
+-- Where the tag is handed on, a byte less is left.
+pub tag-falls : (all : ℕ) (here : Here) (t : ℕ) → here .at < all → left-over (here .left) all (here .at) ≡ t → left-over (here .left) all (here .at + 1) < t
+tag-falls all here t inside is = omega (arith, inside, is)
 
 -- A tag that is one stands inside of the proof.
 abbrev pub IsTag : CheckTag → Type 0

@@ -19,13 +19,14 @@ use Rattle.bl.specs.Walk.{infer, check}
 use Rattle.steps.specs.Ends.{slot, Told}
 use Rattle.ledger.specs.declared.Stop.the-variants.{Going}
 use Rattle.ledger.specs.declared.Ledger.{Ledger}
+use Rattle.formula.specs.declared.parts.Judgement.{Judgement}
 use Rattle.judging.specs.declared.judge.Scope.{Scope}
 use Rattle.judging.specs.declared.judge.Inferred.{Inferred}
 use Rattle.judging.specs.declared.judge.Application.{Application}
 use Rattle.judging.specs.declared.judge.Checked.{Checked}
 use Rattle.ledger.specs.Books.{stop-of, Book, book, Sound}
 use Rattle.formula.specs.Meaning.{On}
-use Rattle.judging.specs.Judging.{view-in, and-then, first-side, second-side, put-in, Yields}
+use Rattle.judging.specs.Judging.{view-in, part-of, and-then, first-side, second-side, put-in, Yields}
 use Rattle.judging.specs.StepPromises.{UsesLocal, UsesCertificate, Continues, PutsToUse, StaysStopped}
 use Rattle.walk.specs.Walking.{Sources, Around, InfersAt, InfersBy, ChecksAt}
 use Rattle.procap.proofs.ReadApart.{after-byte}
@@ -150,7 +151,7 @@ module _ (S : Sources) (rows : List ℕ) (scope : Scope) (ledger : Ledger) (list
           applied-comes : (cs : List Statement) (Γ : List Assumption) (M : Infer) (e : ℕ) → Sound (book ledger list) → Around S rows scope (suc left) cs Γ
               → (found : ApplyRead (S .proof) (length cs) left (scope .count) at M e) → Told (S .ends) M
               → Comes (S .state) (book ledger list) (and-then (infer cs Γ view (found .part)) (use-implication at (found .from) (found .to))) (book (application .ledger) list₁)
-              (λ x. On (S .buffer) (application .premise) (x .0) (found .from) (found .to) × On (S .buffer) (application .conclusion) (x .1) (found .from) (found .to)
+              (λ x. On (S .buffer) (application .premise) (x .0) (found .from) (found .to) × On (S .buffer) (part-of (application .premise) (application .conclusion)) (x .1) (found .from) (found .to)
               × (application .middle ≡ found .middle) × (application .next ≡ e))
           unfolding Told
           applied-comes cs Γ M e sound around found told =
@@ -173,21 +174,22 @@ module _ (S : Sources) (rows : List ℕ) (scope : Scope) (ledger : Ledger) (list
               (comes-halted (S .state) (book ledger list) (book (application .ledger) list₁) _ _ (applied-comes cs Γ M e sound around found told) (top, found .from, found .to) n)))
 
           -- And with its second step checked.
-          pub infer-apply : stop-of (application .ledger) ≡ Going → {checked : Checked} {list₂ : List ℕ}
+          pub infer-apply : stop-of (application .ledger) ≡ Going → {conclusion : Judgement} → conclusion ≡ part-of (application .premise) (application .conclusion)
+              → {checked : Checked} {list₂ : List ℕ}
               → ChecksAt S rows scope (application .ledger) list₁ left (S .buffer) (application .premise) (application .middle) checked list₂
-              → By ApplyTag (record { ledger = checked .ledger; judgement = application .conclusion; next = application .next }) list₂
+              → By ApplyTag (record { ledger = checked .ledger; judgement = conclusion; next = application .next }) list₂
           unfolding Told
-          infer-apply going {checked} {list₂} checks cs Γ M e sound around reads told =
+          infer-apply going {conclusion} concludes {checked} {list₂} checks cs Γ M e sound around reads told =
               let found = apply-read (S .proof) (length cs) left (scope .count) at M e reads in
               let applied = applied-comes cs Γ M e sound around found told in
               let part = around-part S rows scope left cs Γ around in
               let used = book (application .ledger) list₁ in
               let r = book (checked .ledger) list₂ in
               rw (found .is, apply-walk cs Γ view at (found .part) (found .other) (found .from) (found .to))
-              (comes-yields (S .state) (S .buffer) (book ledger list) _ e (record { ledger = checked .ledger; judgement = application .conclusion; next = application .next }) list₂
+              (comes-yields (S .state) (S .buffer) (book ledger list) _ e (record { ledger = checked .ledger; judgement = conclusion; next = application .next }) list₂
               (comes-then (S .state) (book ledger list) used _ _ applied r going
               (λ x on. comes-with (S .state) used r _
               (comes-checked (S .state) used _ (found .after) checked list₂
               (passes-on (S .state) (S .buffer) (application .premise) (x .0) (found .from) (found .to) (on .0) (check cs Γ view (found .other) (x .0)) used (found .after) checked list₂
               (checks cs Γ (found .other) (found .after) (applied .gives .sound) part (rw (on .2) (found .other-reads)) ((told-is (S .ends) (found .is) told) .1) (x .0) (on .0 .means))))
-              (x .1, found .from, found .to) (on .1, on .3))))
+              (x .1, found .from, found .to) (rw concludes (on .1), on .3))))

@@ -1,4 +1,5 @@
 -- The promise of each call of the walk, over what it is lent.
+use Prim.Native.Nat.{_-_}
 use Rattle.procap.specs.Lent.{Lent}
 use Rattle.bl.specs.declared.InferTag.{InferTag}
 use Rattle.bl.specs.declared.CheckTag.{CheckTag}
@@ -31,10 +32,10 @@ module _ (S : Sources) (facts assumptions : Lent) where
   Infers here r =
       InfersAt S (assumptions .entry .now) (here .scope) (here .ledger) (facts .entry .now) (here .left) (here .at) r (facts .exit .now)
 
-  -- A step that infers, by its tag; its parts have at most so many levels.
+  -- The same, by its tag.
   abbrev pub InfersTagged : InferTag → Here → Inferred → Type 0
   InfersTagged tag here r =
-      InfersBy S (assumptions .entry .now) (here .scope) (here .ledger) (facts .entry .now) (here .left) tag (here .at) r (facts .exit .now)
+      InfersBy S (assumptions .entry .now) (here .scope) (here .ledger) (facts .entry .now) (here .left - 1) tag (here .at) r (facts .exit .now)
 
   module _ (goal-bytes : Lent) (goal : Judgement) (here : Here) (r : Checked) where
     -- A step that checks, of at most so many levels.
@@ -42,10 +43,10 @@ module _ (S : Sources) (facts assumptions : Lent) where
     Checks =
         ChecksAt S (assumptions .entry .now) (here .scope) (here .ledger) (facts .entry .now) (here .left) (goal-bytes .entry .now) goal (here .at) r (facts .exit .now)
 
-    -- A step that checks, by its tag; its parts have at most so many levels.
+    -- The same, by its tag.
     abbrev pub ChecksTagged : CheckTag → Type 0
     ChecksTagged tag =
-        ChecksBy S (assumptions .entry .now) (here .scope) (here .ledger) (facts .entry .now) (here .left) tag (goal-bytes .entry .now) goal (here .at) r (facts .exit .now)
+        ChecksBy S (assumptions .entry .now) (here .scope) (here .ledger) (facts .entry .now) (here .left - 1) tag (goal-bytes .entry .now) goal (here .at) r (facts .exit .now)
 
     -- The step that puts a formula into a shell, and the one that takes it out.
     abbrev pub ChecksPut : Shell → Type 0

@@ -17,6 +17,7 @@ use judging::judge::instance;
 use judging::judge::local;
 use judging::judge::nothing;
 use judging::judge::order;
+use judging::judge::part_at;
 use judging::judge::put_to_use;
 use judging::judge::second;
 use judging::judge::sides_of;
@@ -43,29 +44,15 @@ pub struct Here {
 }
 
 impl Here {
-    // The same at another place, with another ledger.
-    fn step(self, at: usize, ledger: Ledger) -> Here
-        ensures { λ r. ⌜ r ≡ record { scope = self .scope; at = at; ledger = ledger; left = self .left } ⌝ }
+    // A part of the step here, at another place and with another ledger: one level less is left.
+    fn part(self, at: usize, ledger: Ledger) -> Here
+        requires { ⌜ 0 < self .left ⌝ }
+        ensures { λ r. ⌜ r ≡ record { scope = self .scope; at = at; ledger = ledger; left = self .left - 1 } ⌝ }
     {
         let scope = self.scope;
         Here {
             scope: scope,
             at: at,
-            ledger: ledger,
-            left: self.left,
-        }
-    }
-
-    // The same with one level less, for the parts of the step.
-    fn below(self) -> Here
-        requires { ⌜ 0 < self .left ⌝ }
-        ensures { λ r. ⌜ r ≡ record { scope = self .scope; at = self .at; ledger = self .ledger; left = self .left - 1 } ⌝ }
-    {
-        let scope = self.scope;
-        let ledger = self.ledger;
-        Here {
-            scope: scope,
-            at: self.at,
             ledger: ledger,
             left: self.left - 1,
         }
@@ -89,15 +76,16 @@ fn infer(
     if proof.len() <= at {
         return nothing(ledger.misfit(at));
     }
-    infer_by(buffer, proof, state, certificates, ends, facts, assumptions, infer_tag_at(proof, at), here.below())
+    infer_by(buffer, proof, state, certificates, ends, facts, assumptions, infer_tag_at(proof, at), here)
 }
 
-// What a step infers, by its tag; its parts have at most so many levels.
+// What the step at a place infers, by its tag, of at most so many levels.
 #[rattlefmt::skip]
 fn infer_by(
     buffer: &[u8], proof: &[u8], state: &[u8], certificates: &[u64], ends: &[u16], facts: &mut [u64], assumptions: &mut [u64],
     tag: InferTag, here: Here,
 ) -> Inferred
+    requires { ⌜ 0 < here .left ⌝ }
     ensures walks { λ r. ⌜ InfersTagged (sources buffer proof state certificates ends) facts assumptions tag here r ⌝ }
     ensures keeps { λ _. ⌜ KeepsRows here assumptions ⌝ }
 {
@@ -109,30 +97,29 @@ fn infer_by(
         InferTag::LocalTag => local(proof, assumptions, scope, at, ledger),
         InferTag::CertificateTag => certificate(proof, certificates, scope, at, ledger),
         InferTag::FirstTag => {
-            let part = infer(buffer, proof, state, certificates, ends, facts, assumptions, here.step(begin, ledger));
+            let part = infer(buffer, proof, state, certificates, ends, facts, assumptions, here.part(begin, ledger));
             first(buffer, at, part)
         }
         InferTag::SecondTag => {
-            let part = infer(buffer, proof, state, certificates, ends, facts, assumptions, here.step(begin, ledger));
+            let part = infer(buffer, proof, state, certificates, ends, facts, assumptions, here.part(begin, ledger));
             second(buffer, at, part)
         }
         InferTag::ApplyTag => {
-            let part = infer(buffer, proof, state, certificates, ends, facts, assumptions, here.step(begin, ledger));
+            let part = infer(buffer, proof, state, certificates, ends, facts, assumptions, here.part(begin, ledger));
             let used = put_to_use(buffer, proof, at, part, end_in(ends, part.next));
             let after_used = used.ledger;
             let premise = used.premise;
-            let conclusion = used.conclusion;
             if !after_used.goes_on() {
                 return nothing(after_used);
             }
-            let checked = check(buffer, proof, state, certificates, ends, facts, assumptions, buffer, premise, here.step(used.middle, after_used));
+            let checked = check(buffer, proof, state, certificates, ends, facts, assumptions, buffer, premise, here.part(used.middle, after_used));
             let after_checked = checked.ledger;
-            Inferred { ledger: after_checked, judgement: conclusion, next: used.next }
+            Inferred { ledger: after_checked, judgement: part_at(premise, used.conclusion), next: used.next }
         }
         InferTag::InstanceTag => {
             let read = term_at(proof, begin);
             let term = read.term;
-            let part = infer(buffer, proof, state, certificates, ends, facts, assumptions, here.step(read.next, ledger));
+            let part = infer(buffer, proof, state, certificates, ends, facts, assumptions, here.part(read.next, ledger));
             instance(buffer, at, part, term)
         }
         InferTag::NoInferTag => nothing(ledger.misfit(at)),
@@ -153,18 +140,17 @@ pub fn check(
     if here.left == 0 {
         return Checked { ledger: ledger.misfit(at), next: at };
     }
-    let parts = here.below();
     match check_tag_at(proof, at) {
-        CheckTag::PairTag => pair(buffer, proof, state, certificates, ends, facts, assumptions, goal_bytes, goal, parts),
+        CheckTag::PairTag => pair(buffer, proof, state, certificates, ends, facts, assumptions, goal_bytes, goal, here),
         CheckTag::TopStepTag => Checked { ledger: top(goal_bytes, at, goal, ledger), next: past(proof, at) },
-        CheckTag::AtInTag => put_in(buffer, proof, state, certificates, ends, facts, assumptions, Shell::AtShell, goal_bytes, goal, parts),
-        CheckTag::AtOutTag => take_out(buffer, proof, state, certificates, ends, facts, assumptions, Shell::AtShell, goal_bytes, goal, parts),
-        CheckTag::SaysInTag => put_in(buffer, proof, state, certificates, ends, facts, assumptions, Shell::SaysShell, goal_bytes, goal, parts),
-        CheckTag::SaysOutTag => take_out(buffer, proof, state, certificates, ends, facts, assumptions, Shell::SaysShell, goal_bytes, goal, parts),
+        CheckTag::AtInTag => put_in(buffer, proof, state, certificates, ends, facts, assumptions, Shell::AtShell, goal_bytes, goal, here),
+        CheckTag::AtOutTag => take_out(buffer, proof, state, certificates, ends, facts, assumptions, Shell::AtShell, goal_bytes, goal, here),
+        CheckTag::SaysInTag => put_in(buffer, proof, state, certificates, ends, facts, assumptions, Shell::SaysShell, goal_bytes, goal, here),
+        CheckTag::SaysOutTag => take_out(buffer, proof, state, certificates, ends, facts, assumptions, Shell::SaysShell, goal_bytes, goal, here),
         CheckTag::StateTag => Checked { ledger: state_fact(goal_bytes, state, facts, at, goal, ledger), next: past(proof, at) },
         CheckTag::OrderStepTag => Checked { ledger: order(goal_bytes, at, goal, ledger), next: past(proof, at) },
         CheckTag::InferredTag => {
-            let inferred = infer_by(buffer, proof, state, certificates, ends, facts, assumptions, infer_tag_at(proof, at), parts);
+            let inferred = infer_by(buffer, proof, state, certificates, ends, facts, assumptions, infer_tag_at(proof, at), here);
             checked_by(buffer, goal_bytes, at, inferred, goal)
         }
         CheckTag::NoCheckTag => Checked { ledger: ledger.misfit(at), next: at },
@@ -177,6 +163,7 @@ fn pair(
     buffer: &[u8], proof: &[u8], state: &[u8], certificates: &[u64], ends: &[u16], facts: &mut [u64], assumptions: &mut [u64],
     goal_bytes: &[u8], goal: Judgement, here: Here,
 ) -> Checked
+    requires { ⌜ 0 < here .left ⌝ }
     ensures walks { λ r. ⌜ ChecksTagged (sources buffer proof state certificates ends) facts assumptions «goal_bytes» goal here r CheckTag.PairTag ⌝ }
     ensures keeps { λ _. ⌜ KeepsRows here assumptions ⌝ }
 {
@@ -184,17 +171,17 @@ fn pair(
     let ledger = here.ledger;
     let parts = sides_of(goal_bytes, at, FormulaTag::AndTag, goal, ledger);
     let after_parts = parts.ledger;
-    let one = parts.first;
-    let other = parts.second;
     if !after_parts.goes_on() {
         return Checked { ledger: after_parts, next: at };
     }
-    let checked = check(buffer, proof, state, certificates, ends, facts, assumptions, goal_bytes, one, here.step(past(proof, at), after_parts));
+    let one = part_at(goal, parts.first);
+    let checked = check(buffer, proof, state, certificates, ends, facts, assumptions, goal_bytes, one, here.part(past(proof, at), after_parts));
     let after_one = checked.ledger;
     if !after_one.goes_on() {
         return checked;
     }
-    check(buffer, proof, state, certificates, ends, facts, assumptions, goal_bytes, other, here.step(checked.next, after_one))
+    let other = part_at(goal, parts.second);
+    check(buffer, proof, state, certificates, ends, facts, assumptions, goal_bytes, other, here.part(checked.next, after_one))
 }
 
 // 28 and 2A: what stands inside of the goal's shell is checked, in the scope inside of it.
@@ -203,6 +190,7 @@ fn put_in(
     buffer: &[u8], proof: &[u8], state: &[u8], certificates: &[u64], ends: &[u16], facts: &mut [u64], assumptions: &mut [u64],
     shell: Shell, goal_bytes: &[u8], goal: Judgement, here: Here,
 ) -> Checked
+    requires { ⌜ 0 < here .left ⌝ }
     ensures walks { λ r. ⌜ ChecksPut (sources buffer proof state certificates ends) facts assumptions «goal_bytes» goal here r shell ⌝ }
     ensures keeps { λ _. ⌜ KeepsRows here assumptions ⌝ }
 {
@@ -217,7 +205,7 @@ fn put_in(
     if !after_inside.goes_on() {
         return Checked { ledger: after_inside, next: at };
     }
-    let inner = Here { scope: scope.inside(whose), at: past(proof, at), ledger: after_inside, left: here.left };
+    let inner = Here { scope: scope.inside(whose), at: past(proof, at), ledger: after_inside, left: here.left - 1 };
     check(buffer, proof, state, certificates, ends, facts, assumptions, goal_bytes, judgement, inner)
 }
 
@@ -227,6 +215,7 @@ fn take_out(
     buffer: &[u8], proof: &[u8], state: &[u8], certificates: &[u64], ends: &[u16], facts: &mut [u64], assumptions: &mut [u64],
     shell: Shell, goal_bytes: &[u8], goal: Judgement, here: Here,
 ) -> Checked
+    requires { ⌜ 0 < here .left ⌝ }
     ensures walks { λ r. ⌜ ChecksTaken (sources buffer proof state certificates ends) facts assumptions «goal_bytes» goal here r shell ⌝ }
     ensures keeps { λ _. ⌜ KeepsRows here assumptions ⌝ }
 {
@@ -235,7 +224,7 @@ fn take_out(
     let count = scope.count;
     let at = here.at;
     let ledger = here.ledger;
-    let inferred = infer(buffer, proof, state, certificates, ends, facts, assumptions, here.step(past(proof, at), ledger));
+    let inferred = infer(buffer, proof, state, certificates, ends, facts, assumptions, here.part(past(proof, at), ledger));
     let inside = inside_inferred(buffer, at, shell, inferred);
     let after_inside = inside.ledger;
     let row = inside.row;
@@ -247,6 +236,6 @@ fn take_out(
     }
     put_row(assumptions, count, row);
     let more = Scope { count: count + 1, shut: scope.shut, view: view };
-    let inner = Here { scope: more, at: inferred.next, ledger: after_inside, left: here.left };
+    let inner = Here { scope: more, at: inferred.next, ledger: after_inside, left: here.left - 1 };
     check(buffer, proof, state, certificates, ends, facts, assumptions, goal_bytes, goal, inner)
 }

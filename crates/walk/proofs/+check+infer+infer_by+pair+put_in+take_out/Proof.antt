@@ -33,6 +33,7 @@ use Rattle.judging.proofs.judge.instance.Reads as instance-reads
 use Rattle.judging.proofs.judge.local.Reads as local-reads
 use Rattle.judging.proofs.judge.nothing.Reads as nothing-reads
 use Rattle.judging.proofs.judge.order.Reads as order-reads
+use Rattle.judging.proofs.judge.part_at.Reads as part-at-reads
 use Rattle.judging.proofs.judge.put_to_use.Reads as put-to-use-reads
 use Rattle.judging.proofs.judge.second.Reads as second-reads
 use Rattle.judging.proofs.judge.sides_of.Reads as sides-of-reads
@@ -46,8 +47,7 @@ use Rattle.steps.proofs.check_tag_at.Reads as check-tag-at-reads
 use Rattle.steps.proofs.ends.end_in.Reads as end-in-reads
 use Rattle.steps.proofs.infer_tag_at.Reads as infer-tag-at-reads
 use Rattle.steps.proofs.term_at.Reads as term-at-reads
-use Rattle.walk.proofs.Here.below.Reads as below-reads
-use Rattle.walk.proofs.Here.step.Reads as step-reads
+use Rattle.walk.proofs.Here.part.Reads as part-reads
 use Rattle.walk.proofs.+check+infer+infer_by+pair+put_in+take_out.{statement}
 use Rattle.walk.proofs.+check+infer+infer_by+pair+put_in+take_out.Tie.{close}
 use Prim.Native.Nat.{suc, _+_, _-_}
@@ -63,7 +63,7 @@ use Rattle.bl.specs.Tags.{check-tag}
 use Rattle.judging.specs.declared.judge.Checked.{Checked}
 use Rattle.walk.specs.Walking.{Sources, ChecksAt, ChecksBy}
 use Rattle.walk.specs.WalkCalls.{puts-at, puts-says, takes-at, takes-says}
-use Rattle.walk.proofs.Falling.{left-over, part-falls, step-falls, tag-falls, IsTag, tag-inside}
+use Rattle.walk.proofs.Falling.{left-over, part-falls, here-falls, tag-falls, IsTag, tag-inside}
 use Rattle.walk.proofs.Surroundings.{keeps-same, keeps-then, keeps-put, keeps-inside, keeps-others, checks-kept}
 use Rattle.walk.proofs.Inferring.{infer-none, infer-past, infer-tagged, infer-local, infer-certificate, infer-no-tag, infer-first, infer-second, infer-instance, infer-apply-stopped, infer-apply}
 use Rattle.walk.proofs.Checking.{ChecksItself, check-none, check-tagged, check-inferred, check-no-tag, check-trivial, check-state, check-order, check-pair-unfit, check-pair-stopped, check-pair, check-put-unfit, check-put, check-take-stopped, check-take-full, check-take}
@@ -75,16 +75,16 @@ abbrev μ-infer : Measures 7 infer-kinds.ps ℕ
 μ-infer κs a = left-over (a .1 .1 .1 .1 .1 .1 .1 .0 .left) (length (a .1 .0 .now)) (a .1 .1 .1 .1 .1 .1 .1 .0 .at)
 
 abbrev μ-infer-by : Measures 7 infer-by-kinds.ps ℕ
-μ-infer-by κs a = left-over (suc (a .1 .1 .1 .1 .1 .1 .1 .1 .0 .left)) (length (a .1 .0 .now)) (a .1 .1 .1 .1 .1 .1 .1 .1 .0 .at + 1)
+μ-infer-by κs a = left-over (a .1 .1 .1 .1 .1 .1 .1 .1 .0 .left) (length (a .1 .0 .now)) (a .1 .1 .1 .1 .1 .1 .1 .1 .0 .at + 1)
 
 abbrev μ-pair : Measures 8 pair-kinds.ps ℕ
-μ-pair κs a = left-over (suc (a .1 .1 .1 .1 .1 .1 .1 .1 .1 .0 .left)) (length (a .1 .0 .now)) (a .1 .1 .1 .1 .1 .1 .1 .1 .1 .0 .at + 1)
+μ-pair κs a = left-over (a .1 .1 .1 .1 .1 .1 .1 .1 .1 .0 .left) (length (a .1 .0 .now)) (a .1 .1 .1 .1 .1 .1 .1 .1 .1 .0 .at + 1)
 
 abbrev μ-put-in : Measures 8 put-in-kinds.ps ℕ
-μ-put-in κs a = left-over (suc (a .1 .1 .1 .1 .1 .1 .1 .1 .1 .1 .0 .left)) (length (a .1 .0 .now)) (a .1 .1 .1 .1 .1 .1 .1 .1 .1 .1 .0 .at + 1)
+μ-put-in κs a = left-over (a .1 .1 .1 .1 .1 .1 .1 .1 .1 .1 .0 .left) (length (a .1 .0 .now)) (a .1 .1 .1 .1 .1 .1 .1 .1 .1 .1 .0 .at + 1)
 
 abbrev μ-take-out : Measures 8 take-out-kinds.ps ℕ
-μ-take-out κs a = left-over (suc (a .1 .1 .1 .1 .1 .1 .1 .1 .1 .1 .0 .left)) (length (a .1 .0 .now)) (a .1 .1 .1 .1 .1 .1 .1 .1 .1 .1 .0 .at + 1)
+μ-take-out κs a = left-over (a .1 .1 .1 .1 .1 .1 .1 .1 .1 .1 .0 .left) (length (a .1 .0 .now)) (a .1 .1 .1 .1 .1 .1 .1 .1 .1 .1 .0 .at + 1)
 
 abbrev check-at : ℕ → In 8 check-kinds.ps
 check-at t = and 8 check-kinds.ps (is 8 check-kinds.ps μ-check t) check.Pre
@@ -123,45 +123,44 @@ abbrev take-out-below : ℕ → In 8 take-out-kinds.ps
 take-out-below t = and 8 take-out-kinds.ps (falls 8 take-out-kinds.ps _<_ μ-take-out t) take-out.Pre
 
 abbrev check-calls : ℕ → check-lts.Claims
-check-calls t = (misfit-reads.Asked, misfit-reads.Learnt, below-reads.Asked, below-reads.Learnt, check-tag-at-reads.Asked, check-tag-at-reads.Learnt, pair-below t, pair.Post, top-reads.Asked, top-reads.Learnt, past-reads.Asked, past-reads.Learnt, put-in-below t, put-in.Post, take-out-below t, take-out.Post, state-fact-reads.Asked, state-fact-reads.Learnt, order-reads.Asked, order-reads.Learnt, infer-tag-at-reads.Asked, infer-tag-at-reads.Learnt, infer-by-below t, infer-by.Post, checked-by-reads.Asked, checked-by-reads.Learnt)
+check-calls t = (misfit-reads.Asked, misfit-reads.Learnt, check-tag-at-reads.Asked, check-tag-at-reads.Learnt, pair-below t, pair.Post, top-reads.Asked, top-reads.Learnt, past-reads.Asked, past-reads.Learnt, put-in-below t, put-in.Post, take-out-below t, take-out.Post, state-fact-reads.Asked, state-fact-reads.Learnt, order-reads.Asked, order-reads.Learnt, infer-tag-at-reads.Asked, infer-tag-at-reads.Learnt, infer-by-below t, infer-by.Post, checked-by-reads.Asked, checked-by-reads.Learnt)
 
 abbrev infer-calls : ℕ → infer-lts.Claims
-infer-calls t = (misfit-reads.Asked, misfit-reads.Learnt, nothing-reads.Asked, nothing-reads.Learnt, infer-tag-at-reads.Asked, infer-tag-at-reads.Learnt, below-reads.Asked, below-reads.Learnt, infer-by-below t, infer-by.Post)
+infer-calls t = (misfit-reads.Asked, misfit-reads.Learnt, nothing-reads.Asked, nothing-reads.Learnt, infer-tag-at-reads.Asked, infer-tag-at-reads.Learnt, infer-by-below t, infer-by.Post)
 
 abbrev infer-by-calls : ℕ → infer-by-lts.Claims
-infer-by-calls t = (past-reads.Asked, past-reads.Learnt, local-reads.Asked, local-reads.Learnt, certificate-reads.Asked, certificate-reads.Learnt, step-reads.Asked, step-reads.Learnt, infer-below t, infer.Post, first-reads.Asked, first-reads.Learnt, second-reads.Asked, second-reads.Learnt, end-in-reads.Asked, end-in-reads.Learnt, put-to-use-reads.Asked, put-to-use-reads.Learnt, goes-on-reads.Asked, goes-on-reads.Learnt, nothing-reads.Asked, nothing-reads.Learnt, check-below t, check.Post, term-at-reads.Asked, term-at-reads.Learnt, instance-reads.Asked, instance-reads.Learnt, misfit-reads.Asked, misfit-reads.Learnt)
+infer-by-calls t = (past-reads.Asked, past-reads.Learnt, local-reads.Asked, local-reads.Learnt, certificate-reads.Asked, certificate-reads.Learnt, part-reads.Asked, part-reads.Learnt, infer-below t, infer.Post, first-reads.Asked, first-reads.Learnt, second-reads.Asked, second-reads.Learnt, end-in-reads.Asked, end-in-reads.Learnt, put-to-use-reads.Asked, put-to-use-reads.Learnt, goes-on-reads.Asked, goes-on-reads.Learnt, nothing-reads.Asked, nothing-reads.Learnt, check-below t, check.Post, part-at-reads.Asked, part-at-reads.Learnt, term-at-reads.Asked, term-at-reads.Learnt, instance-reads.Asked, instance-reads.Learnt, misfit-reads.Asked, misfit-reads.Learnt)
 
 abbrev pair-calls : ℕ → pair-lts.Claims
-pair-calls t = (sides-of-reads.Asked, sides-of-reads.Learnt, goes-on-reads.Asked, goes-on-reads.Learnt, past-reads.Asked, past-reads.Learnt, step-reads.Asked, step-reads.Learnt, check-below t, check.Post)
+pair-calls t = (sides-of-reads.Asked, sides-of-reads.Learnt, goes-on-reads.Asked, goes-on-reads.Learnt, part-at-reads.Asked, part-at-reads.Learnt, past-reads.Asked, past-reads.Learnt, part-reads.Asked, part-reads.Learnt, check-below t, check.Post)
 
 abbrev put-in-calls : ℕ → put-in-lts.Claims
 put-in-calls t = (inside-of-reads.Asked, inside-of-reads.Learnt, goes-on-reads.Asked, goes-on-reads.Learnt, inside-reads.Asked, inside-reads.Learnt, past-reads.Asked, past-reads.Learnt, check-below t, check.Post)
 
 abbrev take-out-calls : ℕ → take-out-lts.Claims
-take-out-calls t = (past-reads.Asked, past-reads.Learnt, step-reads.Asked, step-reads.Learnt, infer-below t, infer.Post, inside-inferred-reads.Asked, inside-inferred-reads.Learnt, goes-on-reads.Asked, goes-on-reads.Learnt, misfit-reads.Asked, misfit-reads.Learnt, put-row-reads.Asked, put-row-reads.Learnt, check-below t, check.Post)
+take-out-calls t = (past-reads.Asked, past-reads.Learnt, part-reads.Asked, part-reads.Learnt, infer-below t, infer.Post, inside-inferred-reads.Asked, inside-inferred-reads.Learnt, goes-on-reads.Asked, goes-on-reads.Learnt, misfit-reads.Asked, misfit-reads.Learnt, put-row-reads.Asked, put-row-reads.Learnt, check-below t, check.Post)
 
 -- ── check ──
 
 -- What is known of check where it has read the tag: a level is left, and which tag it is.
 module _ (t : ℕ) (b : check-lts.After-check-tag-at (check-calls t) (check-at t) check.Post) where
-  check-level : let here = b .before .before .before .before .before .before .before .before .before .before .before .before .before .args .here in here .left ≡ suc (here .left - 1)
-  check-level = omega (arith, b .before .before .if1 .left)
+  check-level : let here = b .before .before .before .before .before .before .before .before .before .before .before .before .args .here in here .left ≡ suc (here .left - 1)
+  check-level = omega (arith, b .before .if1 .left)
 
-  check-tag-is : {tag : CheckTag} → b .check-tag-at .result ≡ tag
-      → let a = b .before .before .before .before .before .before .before .before .before .before .before .before .before .args in check-tag (getD (a .proof .now) (a .here .at) 0) ≡ tag
+  check-tag-is : {tag : CheckTag} → b .check-tag-at .result ≡ tag → let a = b .before .before .before .before .before .before .before .before .before .before .before .before .args in check-tag (getD (a .proof .now) (a .here .at) 0) ≡ tag
   check-tag-is is = sym (b .check-tag-at .ensures) ∙ is
 
   -- Where it is handed on, a byte less is left.
   check-falls : {tag : CheckTag} → b .check-tag-at .result ≡ tag → IsTag tag
-      → let a = b .before .before .before .before .before .before .before .before .before .before .before .before .before .args in
-      left-over (suc (b .before .below .result .left)) (length (a .proof .now)) (b .before .below .result .at + 1) < t
+      → let a = b .before .before .before .before .before .before .before .before .before .before .before .before .args in
+      (left-over (a .here .left) (length (a .proof .now)) (a .here .at + 1) < t) × (0 < a .here .left)
   check-falls is tag =
-      let start = b .before .before .before .before .before .before .before .before .before .before .before .before .before in
-      tag-falls _ _ _ _ (b .before .before .if1 .left) (b .before .below .ensures) (tag-inside (start .args .proof .now) _ _ (check-tag-is is) tag) (start .pre .0)
+      let start = b .before .before .before .before .before .before .before .before .before .before .before .before in
+      (tag-falls _ (start .args .here) _ (tag-inside (start .args .proof .now) _ _ (check-tag-is is) tag) (start .pre .0), omega (arith, b .before .if1 .left))
 
   -- The step is checked by its tag.
   check-by-tag : {tag : CheckTag} {r : Checked} {list′ : List ℕ} → b .check-tag-at .result ≡ tag → ChecksItself tag
-      → let a = b .before .before .before .before .before .before .before .before .before .before .before .before .before .args in
+      → let a = b .before .before .before .before .before .before .before .before .before .before .before .before .args in
       let S : Sources = record { buffer = a .buffer .now; proof = a .proof .now; state = a .state .now; certificates = a .certificates .now; ends = a .ends .now } in
       (a .here .at < length (a .proof .now) → ChecksBy S (a .assumptions .now) (a .here .scope) (a .here .ledger) (a .facts .now) (a .here .left - 1) tag (a .goal-bytes .now) (a .goal) (a .here .at) r list′)
       → ChecksAt S (a .assumptions .now) (a .here .scope) (a .here .ledger) (a .facts .now) (a .here .left) (a .goal-bytes .now) (a .goal) (a .here .at) r list′
@@ -176,46 +175,45 @@ check-pair-requires : (t : ℕ) → check-lts.Need-pair-requires (check-calls t)
 check-pair-requires t c κs =
     let after-enum-told = c .before .before in
     let after-check-tag-at = after-enum-told .before .before in
-    (check-falls t after-check-tag-at (after-enum-told .enum-told .given .1) tt, tt)
+    check-falls t after-check-tag-at (after-enum-told .enum-told .given .1) tt
 
 check-put-in-requires : (t : ℕ) → check-lts.Need-put-in-requires (check-calls t) (check-at t) check.Post
 check-put-in-requires t c κs =
     let after-enum-told3 = c .before .before in
     let after-check-tag-at = after-enum-told3 .before .before in
-    (check-falls t after-check-tag-at (after-enum-told3 .enum-told3 .given .1) tt, tt)
+    check-falls t after-check-tag-at (after-enum-told3 .enum-told3 .given .1) tt
 
 check-take-out-requires : (t : ℕ) → check-lts.Need-take-out-requires (check-calls t) (check-at t) check.Post
 check-take-out-requires t c κs =
     let after-enum-told4 = c .before .before in
     let after-check-tag-at = after-enum-told4 .before .before in
-    (check-falls t after-check-tag-at (after-enum-told4 .enum-told4 .given .1) tt, tt)
+    check-falls t after-check-tag-at (after-enum-told4 .enum-told4 .given .1) tt
 
 check-put-in-requires-2 : (t : ℕ) → check-lts.Need-put-in-requires-2 (check-calls t) (check-at t) check.Post
 check-put-in-requires-2 t c κs =
     let after-enum-told5 = c .before .before in
     let after-check-tag-at = after-enum-told5 .before .before in
-    (check-falls t after-check-tag-at (after-enum-told5 .enum-told5 .given .1) tt, tt)
+    check-falls t after-check-tag-at (after-enum-told5 .enum-told5 .given .1) tt
 
 check-take-out-requires-2 : (t : ℕ) → check-lts.Need-take-out-requires-2 (check-calls t) (check-at t) check.Post
 check-take-out-requires-2 t c κs =
     let after-enum-told6 = c .before .before in
     let after-check-tag-at = after-enum-told6 .before .before in
-    (check-falls t after-check-tag-at (after-enum-told6 .enum-told6 .given .1) tt, tt)
+    check-falls t after-check-tag-at (after-enum-told6 .enum-told6 .given .1) tt
 
 check-infer-by-requires : (t : ℕ) → check-lts.Need-infer-by-requires (check-calls t) (check-at t) check.Post
 check-infer-by-requires t c κs =
     let after-enum-told9 = c .before .before .before in
     let after-check-tag-at = after-enum-told9 .before .before in
-    (check-falls t after-check-tag-at (after-enum-told9 .enum-told9 .given .1) tt, tt)
+    check-falls t after-check-tag-at (after-enum-told9 .enum-told9 .given .1) tt
 
 check-returns-2 : (t : ℕ) → check-lts.Need-returns-2 (check-calls t) (check-at t) check.Post
 check-returns-2 t c =
     let after-pair = c .before .before .before .before in
     let after-enum-told = after-pair .before .before .before in
-    let after-check-tag-at = after-enum-told .before .before in
-    let after-below = after-check-tag-at .before in (
-      check-by-tag t after-check-tag-at (after-enum-told .enum-told .given .1) tt (λ inside. (rw (after-below .below .ensures) at (after-pair .pair .ensures .0))),
-      (rw (after-below .below .ensures) at (after-pair .pair .ensures .1)),
+    let after-check-tag-at = after-enum-told .before .before in (
+      check-by-tag t after-check-tag-at (after-enum-told .enum-told .given .1) tt (λ inside. after-pair .pair .ensures .0),
+      after-pair .pair .ensures .1,
     )
 
 check-returns-3 : (t : ℕ) → check-lts.Need-returns-3 (check-calls t) (check-at t) check.Post
@@ -231,40 +229,36 @@ check-returns-4 : (t : ℕ) → check-lts.Need-returns-4 (check-calls t) (check-
 check-returns-4 t c =
     let after-put-in = c .before .before .before .before in
     let after-enum-told3 = after-put-in .before .before .before in
-    let after-check-tag-at = after-enum-told3 .before .before in
-    let after-below = after-check-tag-at .before in (
-      check-by-tag t after-check-tag-at (after-enum-told3 .enum-told3 .given .1) tt (λ inside. (rw (after-below .below .ensures) at (after-put-in .put-in .ensures .0)) AtInTag puts-at),
-      (rw (after-below .below .ensures) at (after-put-in .put-in .ensures .1)),
+    let after-check-tag-at = after-enum-told3 .before .before in (
+      check-by-tag t after-check-tag-at (after-enum-told3 .enum-told3 .given .1) tt (λ inside. after-put-in .put-in .ensures .0 AtInTag puts-at),
+      after-put-in .put-in .ensures .1,
     )
 
 check-returns-5 : (t : ℕ) → check-lts.Need-returns-5 (check-calls t) (check-at t) check.Post
 check-returns-5 t c =
     let after-take-out = c .before .before .before .before in
     let after-enum-told4 = after-take-out .before .before .before in
-    let after-check-tag-at = after-enum-told4 .before .before in
-    let after-below = after-check-tag-at .before in (
-      check-by-tag t after-check-tag-at (after-enum-told4 .enum-told4 .given .1) tt (λ inside. (rw (after-below .below .ensures) at (after-take-out .take-out .ensures .0)) AtOutTag takes-at),
-      (rw (after-below .below .ensures) at (after-take-out .take-out .ensures .1)),
+    let after-check-tag-at = after-enum-told4 .before .before in (
+      check-by-tag t after-check-tag-at (after-enum-told4 .enum-told4 .given .1) tt (λ inside. after-take-out .take-out .ensures .0 AtOutTag takes-at),
+      after-take-out .take-out .ensures .1,
     )
 
 check-returns-6 : (t : ℕ) → check-lts.Need-returns-6 (check-calls t) (check-at t) check.Post
 check-returns-6 t c =
     let after-put-in2 = c .before .before .before .before in
     let after-enum-told5 = after-put-in2 .before .before .before in
-    let after-check-tag-at = after-enum-told5 .before .before in
-    let after-below = after-check-tag-at .before in (
-      check-by-tag t after-check-tag-at (after-enum-told5 .enum-told5 .given .1) tt (λ inside. (rw (after-below .below .ensures) at (after-put-in2 .put-in2 .ensures .0)) SaysInTag puts-says),
-      (rw (after-below .below .ensures) at (after-put-in2 .put-in2 .ensures .1)),
+    let after-check-tag-at = after-enum-told5 .before .before in (
+      check-by-tag t after-check-tag-at (after-enum-told5 .enum-told5 .given .1) tt (λ inside. after-put-in2 .put-in2 .ensures .0 SaysInTag puts-says),
+      after-put-in2 .put-in2 .ensures .1,
     )
 
 check-returns-7 : (t : ℕ) → check-lts.Need-returns-7 (check-calls t) (check-at t) check.Post
 check-returns-7 t c =
     let after-take-out2 = c .before .before .before .before in
     let after-enum-told6 = after-take-out2 .before .before .before in
-    let after-check-tag-at = after-enum-told6 .before .before in
-    let after-below = after-check-tag-at .before in (
-      check-by-tag t after-check-tag-at (after-enum-told6 .enum-told6 .given .1) tt (λ inside. (rw (after-below .below .ensures) at (after-take-out2 .take-out2 .ensures .0)) SaysOutTag takes-says),
-      (rw (after-below .below .ensures) at (after-take-out2 .take-out2 .ensures .1)),
+    let after-check-tag-at = after-enum-told6 .before .before in (
+      check-by-tag t after-check-tag-at (after-enum-told6 .enum-told6 .given .1) tt (λ inside. after-take-out2 .take-out2 .ensures .0 SaysOutTag takes-says),
+      after-take-out2 .take-out2 .ensures .1,
     )
 
 check-returns-8 : (t : ℕ) → check-lts.Need-returns-8 (check-calls t) (check-at t) check.Post
@@ -290,10 +284,9 @@ check-returns-10 t c =
     let after-infer-by = c .before .before .before .before .before in
     let after-infer-tag-at = after-infer-by .before in
     let after-enum-told9 = after-infer-tag-at .before .before .before in
-    let after-check-tag-at = after-enum-told9 .before .before in
-    let after-below = after-check-tag-at .before in (
-      check-inferred _ _ _ _ _ _ _ _ _ _ (check-level t after-check-tag-at) (check-tag-is t after-check-tag-at (after-enum-told9 .enum-told9 .given .1)) (after-infer-tag-at .infer-tag-at .ensures) (rw (after-below .below .ensures) at (after-infer-by .infer-by .ensures .0)) (c .checked-by .ensures),
-      (rw (after-below .below .ensures) at (after-infer-by .infer-by .ensures .1)),
+    let after-check-tag-at = after-enum-told9 .before .before in (
+      check-inferred _ _ _ _ _ _ _ _ _ _ (check-level t after-check-tag-at) (check-tag-is t after-check-tag-at (after-enum-told9 .enum-told9 .given .1)) (after-infer-tag-at .infer-tag-at .ensures) (after-infer-by .infer-by .ensures .0) (c .checked-by .ensures),
+      after-infer-by .infer-by .ensures .1,
     )
 
 check-returns-11 : (t : ℕ) → check-lts.Need-returns-11 (check-calls t) (check-at t) check.Post
@@ -318,62 +311,85 @@ infer-returns-2 t c =
 
 infer-infer-by-requires : (t : ℕ) → infer-lts.Need-infer-by-requires (infer-calls t) (infer-at t) infer.Post
 infer-infer-by-requires t c κs =
-    let after-if2 = c .before .before .before .before in
+    let after-if2 = c .before .before .before in
     let after-if1 = after-if2 .before in
     let start = after-if1 .before .before .before .before .before .before .before .before .before .before in
-    (tag-falls _ _ _ _ (after-if1 .if1 .left) (c .below .ensures) (omega (arith, after-if2 .if2 .left)) (start .pre .0), tt)
+    (tag-falls _ (start .args .here) _ (omega (arith, after-if2 .if2 .left)) (start .pre .0), (omega (arith, after-if1 .if1 .left)))
 
 infer-returns-3 : (t : ℕ) → infer-lts.Need-returns-3 (infer-calls t) (infer-at t) infer.Post
 infer-returns-3 t c =
     let after-infer-by = c .before .before .before .before in
-    let after-below = after-infer-by .before in
-    let after-infer-tag-at = after-below .before in
-    let after-if1 = after-infer-tag-at .before .before .before .before in
-    let start = after-if1 .before .before .before .before .before .before .before .before .before .before in (
-      infer-tagged _ _ _ _ _ _ (start .args .here .left - 1) _ _ (omega (arith, after-if1 .if1 .left)) (sym (after-infer-tag-at .infer-tag-at .ensures)) (rw (after-below .below .ensures) at (after-infer-by .infer-by .ensures .0)),
-      rw (after-below .below .ensures) at (after-infer-by .infer-by .ensures .1),
+    let after-infer-tag-at = after-infer-by .before in
+    let after-if1 = after-infer-tag-at .before .before .before .before in (
+      infer-tagged _ _ _ _ _ _ _ _ _ (omega (arith, after-if1 .if1 .left)) (sym (after-infer-tag-at .infer-tag-at .ensures)) (after-infer-by .infer-by .ensures .0),
+      after-infer-by .infer-by .ensures .1,
     )
 
 -- ── infer_by ──
 
+infer-by-part-requires : (t : ℕ) → infer-by-lts.Need-part-requires (infer-by-calls t) (infer-by-at t) infer-by.Post
+infer-by-part-requires t c κs =
+    let start = c .before .before .before .before .before .before .before .before .before .before .before .before .before .before in
+    start .pre .1
+
 infer-by-infer-requires : (t : ℕ) → infer-by-lts.Need-infer-requires (infer-by-calls t) (infer-by-at t) infer-by.Post
 infer-by-infer-requires t c κs =
     let start = c .before .before .before .before .before .before .before .before .before .before .before .before .before .before .before in
-    (step-falls _ (start .args .here) _ _ _ _ (c .step .ensures) (start .pre .0), tt)
+    (here-falls _ (start .args .here) _ _ _ _ (c .part .ensures) (start .pre .1) (start .pre .0), tt)
+
+infer-by-part-requires-2 : (t : ℕ) → infer-by-lts.Need-part-requires-2 (infer-by-calls t) (infer-by-at t) infer-by.Post
+infer-by-part-requires-2 t c κs =
+    let start = c .before .before .before .before .before .before .before .before .before .before .before .before .before .before in
+    start .pre .1
 
 infer-by-infer-requires-2 : (t : ℕ) → infer-by-lts.Need-infer-requires-2 (infer-by-calls t) (infer-by-at t) infer-by.Post
 infer-by-infer-requires-2 t c κs =
     let start = c .before .before .before .before .before .before .before .before .before .before .before .before .before .before .before in
-    (step-falls _ (start .args .here) _ _ _ _ (c .step2 .ensures) (start .pre .0), tt)
+    (here-falls _ (start .args .here) _ _ _ _ (c .part2 .ensures) (start .pre .1) (start .pre .0), tt)
+
+infer-by-part-requires-3 : (t : ℕ) → infer-by-lts.Need-part-requires-3 (infer-by-calls t) (infer-by-at t) infer-by.Post
+infer-by-part-requires-3 t c κs =
+    let start = c .before .before .before .before .before .before .before .before .before .before .before .before .before .before in
+    start .pre .1
 
 infer-by-infer-requires-3 : (t : ℕ) → infer-by-lts.Need-infer-requires-3 (infer-by-calls t) (infer-by-at t) infer-by.Post
 infer-by-infer-requires-3 t c κs =
     let start = c .before .before .before .before .before .before .before .before .before .before .before .before .before .before .before in
-    (step-falls _ (start .args .here) _ _ _ _ (c .step3 .ensures) (start .pre .0), tt)
+    (here-falls _ (start .args .here) _ _ _ _ (c .part3 .ensures) (start .pre .1) (start .pre .0), tt)
 
 infer-by-returns : (t : ℕ) → infer-by-lts.Need-returns (infer-by-calls t) (infer-by-at t) infer-by.Post
 infer-by-returns t c =
     let after-if1 = c .before in
     let after-goes-on = after-if1 .before in
-    let after-put-to-use = after-goes-on .before .before .before .before in
+    let after-put-to-use = after-goes-on .before .before .before in
     let after-end-in = after-put-to-use .before in
     let after-infer3 = after-end-in .before .before .before .before .before in
-    let after-step3 = after-infer3 .before in
-    let after-enum-told5 = after-step3 .before .before .before in
+    let after-part3 = after-infer3 .before in
+    let after-enum-told5 = after-part3 .before .before .before in
     let after-past = after-enum-told5 .before .before in (
-      rw (after-enum-told5 .enum-told5 .given .1) (infer-apply-stopped _ _ _ _ _ _ _ (after-past .past .ensures .0) (rw (after-step3 .step3 .ensures) at (after-infer3 .infer3 .ensures .0)) (after-end-in .end-in .ensures) (after-put-to-use .put-to-use .ensures .0) (after-put-to-use .put-to-use .ensures .1) (c .nothing .ensures) (fails-where (after-goes-on .goes-on .result) (after-if1 .if1 .taken) (after-goes-on .goes-on .ensures))),
-      (rw (after-step3 .step3 .ensures) at (after-infer3 .infer3 .ensures .1)),
+      rw (after-enum-told5 .enum-told5 .given .1) (infer-apply-stopped _ _ _ _ _ _ _ (after-past .past .ensures .0) (rw (after-part3 .part3 .ensures) at (after-infer3 .infer3 .ensures .0)) (after-end-in .end-in .ensures) (after-put-to-use .put-to-use .ensures .0) (after-put-to-use .put-to-use .ensures .1) (c .nothing .ensures) (fails-where (after-goes-on .goes-on .result) (after-if1 .if1 .taken) (after-goes-on .goes-on .ensures))),
+      (rw (after-part3 .part3 .ensures) at (after-infer3 .infer3 .ensures .1)),
     )
+
+infer-by-part-requires-4 : (t : ℕ) → infer-by-lts.Need-part-requires-4 (infer-by-calls t) (infer-by-at t) infer-by.Post
+infer-by-part-requires-4 t c κs =
+    let start = c .before .before .before .before .before .before .before .before .before .before .before .before .before .before .before .before .before .before .before .before .before .before .before .before .before .before .before .before in
+    start .pre .1
 
 infer-by-check-requires : (t : ℕ) → infer-by-lts.Need-check-requires (infer-by-calls t) (infer-by-at t) infer-by.Post
 infer-by-check-requires t c κs =
-    let start = c .before .before .before .before .before .before .before .before .before .before .before .before .before .before .before .before .before .before .before .before .before .before .before .before .before .before .before .before .before .before in
-    (step-falls _ (start .args .here) _ _ _ _ (c .step4 .ensures) (start .pre .0), tt)
+    let start = c .before .before .before .before .before .before .before .before .before .before .before .before .before .before .before .before .before .before .before .before .before .before .before .before .before .before .before .before .before in
+    (here-falls _ (start .args .here) _ _ _ _ (c .part4 .ensures) (start .pre .1) (start .pre .0), tt)
+
+infer-by-part-requires-5 : (t : ℕ) → infer-by-lts.Need-part-requires-5 (infer-by-calls t) (infer-by-at t) infer-by.Post
+infer-by-part-requires-5 t c κs =
+    let start = c .before .before .before .before .before .before .before .before .before .before .before .before .before .before .before in
+    start .pre .1
 
 infer-by-infer-requires-4 : (t : ℕ) → infer-by-lts.Need-infer-requires-4 (infer-by-calls t) (infer-by-at t) infer-by.Post
 infer-by-infer-requires-4 t c κs =
     let start = c .before .before .before .before .before .before .before .before .before .before .before .before .before .before .before .before in
-    (step-falls _ (start .args .here) _ _ _ _ (c .step5 .ensures) (start .pre .0), tt)
+    (here-falls _ (start .args .here) _ _ _ _ (c .part5 .ensures) (start .pre .1) (start .pre .0), tt)
 
 infer-by-returns-2 : (t : ℕ) → infer-by-lts.Need-returns-2 (infer-by-calls t) (infer-by-at t) infer-by.Post
 infer-by-returns-2 t c =
@@ -392,60 +408,60 @@ infer-by-returns-3 t c =
 infer-by-returns-4 : (t : ℕ) → infer-by-lts.Need-returns-4 (infer-by-calls t) (infer-by-at t) infer-by.Post
 infer-by-returns-4 t c =
     let after-infer = c .before .before .before .before .before in
-    let after-step = after-infer .before in
-    let after-enum-told3 = after-step .before .before .before in
+    let after-part = after-infer .before in
+    let after-enum-told3 = after-part .before .before .before in
     let after-past = after-enum-told3 .before .before in (
-      rw (after-enum-told3 .enum-told3 .given .1) (infer-first _ _ _ _ _ _ _ (after-past .past .ensures .0) (rw (after-step .step .ensures) at (after-infer .infer .ensures .0)) (c .first .ensures)),
-      (rw (after-step .step .ensures) at (after-infer .infer .ensures .1)),
+      rw (after-enum-told3 .enum-told3 .given .1) (infer-first _ _ _ _ _ _ _ (after-past .past .ensures .0) (rw (after-part .part .ensures) at (after-infer .infer .ensures .0)) (c .first .ensures)),
+      (rw (after-part .part .ensures) at (after-infer .infer .ensures .1)),
     )
 
 infer-by-returns-5 : (t : ℕ) → infer-by-lts.Need-returns-5 (infer-by-calls t) (infer-by-at t) infer-by.Post
 infer-by-returns-5 t c =
     let after-infer2 = c .before .before .before .before .before in
-    let after-step2 = after-infer2 .before in
-    let after-enum-told4 = after-step2 .before .before .before in
+    let after-part2 = after-infer2 .before in
+    let after-enum-told4 = after-part2 .before .before .before in
     let after-past = after-enum-told4 .before .before in (
-      rw (after-enum-told4 .enum-told4 .given .1) (infer-second _ _ _ _ _ _ _ (after-past .past .ensures .0) (rw (after-step2 .step2 .ensures) at (after-infer2 .infer2 .ensures .0)) (c .second .ensures)),
-      (rw (after-step2 .step2 .ensures) at (after-infer2 .infer2 .ensures .1)),
+      rw (after-enum-told4 .enum-told4 .given .1) (infer-second _ _ _ _ _ _ _ (after-past .past .ensures .0) (rw (after-part2 .part2 .ensures) at (after-infer2 .infer2 .ensures .0)) (c .second .ensures)),
+      (rw (after-part2 .part2 .ensures) at (after-infer2 .infer2 .ensures .1)),
     )
 
 infer-by-same-length-8 : (t : ℕ) → infer-by-lts.Need-same-length-8 (infer-by-calls t) (infer-by-at t) infer-by.Post
 infer-by-same-length-8 t c =
-    let after-check = c .before .before .before .before .before in
-    let after-infer3 = after-check .before .before .before .before .before .before .before .before .before .before .before .before .before .before .before in
+    let after-check = c .before .before .before .before .before .before in
+    let after-infer3 = after-check .before .before .before .before .before .before .before .before .before .before .before .before .before .before in
     after-check .check .kept .1 .1 .1 .1 .1 .0 ∙ after-infer3 .infer3 .kept .1 .1 .1 .1 .1 .0
 
 infer-by-same-length-9 : (t : ℕ) → infer-by-lts.Need-same-length-9 (infer-by-calls t) (infer-by-at t) infer-by.Post
 infer-by-same-length-9 t c =
-    let after-check = c .before .before .before .before .before in
-    let after-infer3 = after-check .before .before .before .before .before .before .before .before .before .before .before .before .before .before .before in
+    let after-check = c .before .before .before .before .before .before in
+    let after-infer3 = after-check .before .before .before .before .before .before .before .before .before .before .before .before .before .before in
     after-check .check .kept .1 .1 .1 .1 .1 .1 .0 ∙ after-infer3 .infer3 .kept .1 .1 .1 .1 .1 .1 .0
 
 infer-by-returns-6 : (t : ℕ) → infer-by-lts.Need-returns-6 (infer-by-calls t) (infer-by-at t) infer-by.Post
 infer-by-returns-6 t c =
-    let after-check = c .before .before .before .before .before in
-    let after-step4 = after-check .before in
-    let after-if1 = after-step4 .before .before .before in
+    let after-check = c .before .before .before .before .before .before in
+    let after-part4 = after-check .before in
+    let after-if1 = after-part4 .before .before .before in
     let after-goes-on = after-if1 .before in
-    let after-put-to-use = after-goes-on .before .before .before .before in
+    let after-put-to-use = after-goes-on .before .before .before in
     let after-end-in = after-put-to-use .before in
     let after-infer3 = after-end-in .before .before .before .before .before in
-    let after-step3 = after-infer3 .before in
-    let after-enum-told5 = after-step3 .before .before .before in
+    let after-part3 = after-infer3 .before in
+    let after-enum-told5 = after-part3 .before .before .before in
     let after-past = after-enum-told5 .before .before in (
-      rw (after-enum-told5 .enum-told5 .given .1) (infer-apply _ _ _ _ _ _ _ (after-past .past .ensures .0) (rw (after-step3 .step3 .ensures) at (after-infer3 .infer3 .ensures .0)) (after-end-in .end-in .ensures) (after-put-to-use .put-to-use .ensures .0) (after-put-to-use .put-to-use .ensures .1) (holds-else (after-goes-on .goes-on .result) (after-if1 .if1 .left) (after-goes-on .goes-on .ensures)) (checks-kept _ _ _ _ _ _ _ _ _ _ (rw (after-step3 .step3 .ensures) at (after-infer3 .infer3 .ensures .1)) (rw (after-step4 .step4 .ensures) at (after-check .check .ensures .0)))),
-      keeps-then (rw (after-step3 .step3 .ensures) at (after-infer3 .infer3 .ensures .1)) (rw (after-step4 .step4 .ensures) at (after-check .check .ensures .1)),
+      rw (after-enum-told5 .enum-told5 .given .1) (infer-apply _ _ _ _ _ _ _ (after-past .past .ensures .0) (rw (after-part3 .part3 .ensures) at (after-infer3 .infer3 .ensures .0)) (after-end-in .end-in .ensures) (after-put-to-use .put-to-use .ensures .0) (after-put-to-use .put-to-use .ensures .1) (holds-else (after-goes-on .goes-on .result) (after-if1 .if1 .left) (after-goes-on .goes-on .ensures)) (c .part-at .ensures) (checks-kept _ _ _ _ _ _ _ _ _ _ (rw (after-part3 .part3 .ensures) at (after-infer3 .infer3 .ensures .1)) (rw (after-part4 .part4 .ensures) at (after-check .check .ensures .0)))),
+      keeps-then (rw (after-part3 .part3 .ensures) at (after-infer3 .infer3 .ensures .1)) (rw (after-part4 .part4 .ensures) at (after-check .check .ensures .1)),
     )
 
 infer-by-returns-7 : (t : ℕ) → infer-by-lts.Need-returns-7 (infer-by-calls t) (infer-by-at t) infer-by.Post
 infer-by-returns-7 t c =
     let after-infer4 = c .before .before .before .before .before in
-    let after-step5 = after-infer4 .before in
-    let after-term-at = after-step5 .before .before .before in
+    let after-part5 = after-infer4 .before in
+    let after-term-at = after-part5 .before .before .before in
     let after-enum-told6 = after-term-at .before in
     let after-past = after-enum-told6 .before .before in (
-      rw (after-enum-told6 .enum-told6 .given .1) (infer-instance _ _ _ _ _ _ _ (after-past .past .ensures .0) (after-term-at .term-at .ensures .0) (rw (after-step5 .step5 .ensures) at (after-infer4 .infer4 .ensures .0)) (c .instance .ensures (after-term-at .term-at .ensures .1))),
-      (rw (after-step5 .step5 .ensures) at (after-infer4 .infer4 .ensures .1)),
+      rw (after-enum-told6 .enum-told6 .given .1) (infer-instance _ _ _ _ _ _ _ (after-past .past .ensures .0) (after-term-at .term-at .ensures .0) (rw (after-part5 .part5 .ensures) at (after-infer4 .infer4 .ensures .0)) (c .instance .ensures (after-term-at .term-at .ensures .1))),
+      (rw (after-part5 .part5 .ensures) at (after-infer4 .infer4 .ensures .1)),
     )
 
 infer-by-returns-8 : (t : ℕ) → infer-by-lts.Need-returns-8 (infer-by-calls t) (infer-by-at t) infer-by.Post
@@ -460,60 +476,73 @@ infer-by-returns-8 t c =
 pair-returns : (t : ℕ) → pair-lts.Need-returns (pair-calls t) (pair-at t) pair.Post
 pair-returns t c =
     let after-goes-on = c .before in
-    let after-sides-of = after-goes-on .before .before .before .before in (
+    let after-sides-of = after-goes-on .before .before in (
       check-pair-unfit _ _ _ _ _ _ _ _ _ (after-sides-of .sides-of .ensures) (fails-where (after-goes-on .goes-on .result) (c .if1 .taken) (after-goes-on .goes-on .ensures)),
       keeps-same _ _,
     )
 
+pair-part-requires : (t : ℕ) → pair-lts.Need-part-requires (pair-calls t) (pair-at t) pair.Post
+pair-part-requires t c κs =
+    let start = c .before .before .before .before .before .before .before .before .before .before .before .before .before .before .before .before .before in
+    start .pre .1
+
 pair-check-requires : (t : ℕ) → pair-lts.Need-check-requires (pair-calls t) (pair-at t) pair.Post
 pair-check-requires t c κs =
-    let start = c .before .before .before .before .before .before .before .before .before .before .before .before .before .before .before .before .before .before .before in
-    (step-falls _ (start .args .here) _ _ _ _ (c .step .ensures) (start .pre .0), tt)
+    let start = c .before .before .before .before .before .before .before .before .before .before .before .before .before .before .before .before .before .before in
+    (here-falls _ (start .args .here) _ _ _ _ (c .part .ensures) (start .pre .1) (start .pre .0), tt)
 
 pair-returns-2 : (t : ℕ) → pair-lts.Need-returns-2 (pair-calls t) (pair-at t) pair.Post
 pair-returns-2 t c =
     let after-goes-on2 = c .before in
     let after-check = after-goes-on2 .before .before .before .before .before .before in
-    let after-step = after-check .before in
-    let after-past = after-step .before in
-    let after-if1 = after-past .before .before .before in
+    let after-part = after-check .before in
+    let after-past = after-part .before in
+    let after-part-at = after-past .before .before .before in
+    let after-if1 = after-part-at .before in
     let after-goes-on = after-if1 .before in
-    let after-sides-of = after-goes-on .before .before .before .before in (
-      check-pair-stopped _ _ _ _ _ _ _ _ _ (after-sides-of .sides-of .ensures) (holds-else (after-goes-on .goes-on .result) (after-if1 .if1 .left) (after-goes-on .goes-on .ensures)) (after-past .past .ensures .0) (rw (after-step .step .ensures) at (after-check .check .ensures .0)) (fails-where (after-goes-on2 .goes-on2 .result) (c .if2 .taken) (after-goes-on2 .goes-on2 .ensures)),
-      (rw (after-step .step .ensures) at (after-check .check .ensures .1)),
+    let after-sides-of = after-goes-on .before .before in (
+      check-pair-stopped _ _ _ _ _ _ _ _ _ (after-sides-of .sides-of .ensures) (holds-else (after-goes-on .goes-on .result) (after-if1 .if1 .left) (after-goes-on .goes-on .ensures)) (after-past .past .ensures .0) (rw (after-part-at .part-at .ensures, after-part .part .ensures) at (after-check .check .ensures .0)) (fails-where (after-goes-on2 .goes-on2 .result) (c .if2 .taken) (after-goes-on2 .goes-on2 .ensures)),
+      (rw (after-part .part .ensures) at (after-check .check .ensures .1)),
     )
+
+pair-part-requires-2 : (t : ℕ) → pair-lts.Need-part-requires-2 (pair-calls t) (pair-at t) pair.Post
+pair-part-requires-2 t c κs =
+    let start = c .before .before .before .before .before .before .before .before .before .before .before .before .before .before .before .before .before .before .before .before .before .before .before .before .before .before .before .before .before in
+    start .pre .1
 
 pair-check-requires-2 : (t : ℕ) → pair-lts.Need-check-requires-2 (pair-calls t) (pair-at t) pair.Post
 pair-check-requires-2 t c κs =
     let start = c .before .before .before .before .before .before .before .before .before .before .before .before .before .before .before .before .before .before .before .before .before .before .before .before .before .before .before .before .before .before in
-    (step-falls _ (start .args .here) _ _ _ _ (c .step2 .ensures) (start .pre .0), tt)
+    (here-falls _ (start .args .here) _ _ _ _ (c .part2 .ensures) (start .pre .1) (start .pre .0), tt)
 
 pair-same-length-3 : (t : ℕ) → pair-lts.Need-same-length-3 (pair-calls t) (pair-at t) pair.Post
 pair-same-length-3 t c =
     let after-check2 = c .before .before .before .before in
-    let after-check = after-check2 .before .before .before .before .before .before .before .before .before .before .before in
+    let after-check = after-check2 .before .before .before .before .before .before .before .before .before .before .before .before in
     after-check2 .check2 .kept .1 .1 .1 .1 .1 .0 ∙ after-check .check .kept .1 .1 .1 .1 .1 .0
 
 pair-same-length-4 : (t : ℕ) → pair-lts.Need-same-length-4 (pair-calls t) (pair-at t) pair.Post
 pair-same-length-4 t c =
     let after-check2 = c .before .before .before .before in
-    let after-check = after-check2 .before .before .before .before .before .before .before .before .before .before .before in
+    let after-check = after-check2 .before .before .before .before .before .before .before .before .before .before .before .before in
     after-check2 .check2 .kept .1 .1 .1 .1 .1 .1 .0 ∙ after-check .check .kept .1 .1 .1 .1 .1 .1 .0
 
 pair-returns-3 : (t : ℕ) → pair-lts.Need-returns-3 (pair-calls t) (pair-at t) pair.Post
 pair-returns-3 t c =
     let after-check2 = c .before .before .before .before in
-    let after-step2 = after-check2 .before in
-    let after-if2 = after-step2 .before .before .before in
+    let after-part2 = after-check2 .before in
+    let after-part-at2 = after-part2 .before .before .before in
+    let after-if2 = after-part-at2 .before in
     let after-goes-on2 = after-if2 .before in
     let after-check = after-goes-on2 .before .before .before .before .before .before in
-    let after-step = after-check .before in
-    let after-past = after-step .before in
-    let after-if1 = after-past .before .before .before in
+    let after-part = after-check .before in
+    let after-past = after-part .before in
+    let after-part-at = after-past .before .before .before in
+    let after-if1 = after-part-at .before in
     let after-goes-on = after-if1 .before in
-    let after-sides-of = after-goes-on .before .before .before .before in (
-      check-pair _ _ _ _ _ _ _ _ _ (after-sides-of .sides-of .ensures) (holds-else (after-goes-on .goes-on .result) (after-if1 .if1 .left) (after-goes-on .goes-on .ensures)) (after-past .past .ensures .0) (rw (after-step .step .ensures) at (after-check .check .ensures .0)) (holds-else (after-goes-on2 .goes-on2 .result) (after-if2 .if2 .left) (after-goes-on2 .goes-on2 .ensures)) (checks-kept _ _ _ _ _ _ _ _ _ _ (rw (after-step .step .ensures) at (after-check .check .ensures .1)) (rw (after-step2 .step2 .ensures) at (after-check2 .check2 .ensures .0))),
-      keeps-then (rw (after-step .step .ensures) at (after-check .check .ensures .1)) (rw (after-step2 .step2 .ensures) at (after-check2 .check2 .ensures .1)),
+    let after-sides-of = after-goes-on .before .before in (
+      check-pair _ _ _ _ _ _ _ _ _ (after-sides-of .sides-of .ensures) (holds-else (after-goes-on .goes-on .result) (after-if1 .if1 .left) (after-goes-on .goes-on .ensures)) (after-past .past .ensures .0) (rw (after-part-at .part-at .ensures, after-part .part .ensures) at (after-check .check .ensures .0)) (holds-else (after-goes-on2 .goes-on2 .result) (after-if2 .if2 .left) (after-goes-on2 .goes-on2 .ensures)) (checks-kept _ _ _ _ _ _ _ _ _ _ (rw (after-part .part .ensures) at (after-check .check .ensures .1)) (rw (after-part-at2 .part-at2 .ensures, after-part2 .part2 .ensures) at (after-check2 .check2 .ensures .0))),
+      keeps-then (rw (after-part .part .ensures) at (after-check .check .ensures .1)) (rw (after-part2 .part2 .ensures) at (after-check2 .check2 .ensures .1)),
     )
 
 -- ── put_in ──
@@ -526,15 +555,20 @@ put-in-returns t c =
       keeps-same _ _,
     )
 
+put-in-sub-t25 : (t : ℕ) → put-in-lts.Need-sub-t25 (put-in-calls t) (put-in-at t) put-in.Post
+put-in-sub-t25 t c =
+    let start = c .before .before .before .before .before .before .before .before .before .before .before .before .before .before .before .before .before .before .before in
+    omega (arith, start .pre .1)
+
 put-in-check-requires : (t : ℕ) → put-in-lts.Need-check-requires (put-in-calls t) (put-in-at t) put-in.Post
 put-in-check-requires t c κs =
-    let start = c .before .before .before .before .before .before .before .before .before .before .before .before .before .before .before .before .before .before .before .before in
-    (part-falls _ (start .args .here) _ _ _ refl (start .pre .0), tt)
+    let start = c .before .before .before .before .before .before .before .before .before .before .before .before .before .before .before .before .before .before .before .before .before in
+    (part-falls _ (start .args .here) _ _ (start .pre .1) (start .pre .0), tt)
 
 put-in-returns-2 : (t : ℕ) → put-in-lts.Need-returns-2 (put-in-calls t) (put-in-at t) put-in.Post
 put-in-returns-2 t c =
     let after-check = c .before .before .before .before in
-    let after-past = after-check .before .before .before in
+    let after-past = after-check .before .before .before .before in
     let after-inside = after-past .before in
     let after-if1 = after-inside .before in
     let after-goes-on = after-if1 .before in
@@ -546,20 +580,25 @@ put-in-returns-2 t c =
 
 -- ── take_out ──
 
+take-out-part-requires : (t : ℕ) → take-out-lts.Need-part-requires (take-out-calls t) (take-out-at t) take-out.Post
+take-out-part-requires t c κs =
+    let start = c .before .before .before .before .before .before .before .before .before .before .before .before .before in
+    start .pre .1
+
 take-out-infer-requires : (t : ℕ) → take-out-lts.Need-infer-requires (take-out-calls t) (take-out-at t) take-out.Post
 take-out-infer-requires t c κs =
     let start = c .before .before .before .before .before .before .before .before .before .before .before .before .before .before in
-    (step-falls _ (start .args .here) _ _ _ _ (c .step .ensures) (start .pre .0), tt)
+    (here-falls _ (start .args .here) _ _ _ _ (c .part .ensures) (start .pre .1) (start .pre .0), tt)
 
 take-out-returns : (t : ℕ) → take-out-lts.Need-returns (take-out-calls t) (take-out-at t) take-out.Post
 take-out-returns t c =
     let after-goes-on = c .before in
     let after-inside-inferred = after-goes-on .before .before .before in
     let after-infer = after-inside-inferred .before .before .before .before .before in
-    let after-step = after-infer .before in
-    let after-past = after-step .before in (
-      check-take-stopped _ _ _ _ _ _ _ _ _ _ (after-past .past .ensures .0) (rw (after-step .step .ensures) at (after-infer .infer .ensures .0)) (after-inside-inferred .inside-inferred .ensures .0) (after-inside-inferred .inside-inferred .ensures .1) (fails-where (after-goes-on .goes-on .result) (c .if1 .taken) (after-goes-on .goes-on .ensures)),
-      (rw (after-step .step .ensures) at (after-infer .infer .ensures .1)),
+    let after-part = after-infer .before in
+    let after-past = after-part .before in (
+      check-take-stopped _ _ _ _ _ _ _ _ _ _ (after-past .past .ensures .0) (rw (after-part .part .ensures) at (after-infer .infer .ensures .0)) (after-inside-inferred .inside-inferred .ensures .0) (after-inside-inferred .inside-inferred .ensures .1) (fails-where (after-goes-on .goes-on .result) (c .if1 .taken) (after-goes-on .goes-on .ensures)),
+      (rw (after-part .part .ensures) at (after-infer .infer .ensures .1)),
     )
 
 take-out-returns-2 : (t : ℕ) → take-out-lts.Need-returns-2 (take-out-calls t) (take-out-at t) take-out.Post
@@ -567,56 +606,61 @@ take-out-returns-2 t c =
     let after-if2 = c .before in
     let after-inside-inferred = after-if2 .before .before .before .before .before in
     let after-infer = after-inside-inferred .before .before .before .before .before in
-    let after-step = after-infer .before in
-    let after-past = after-step .before in (
-      check-take-full _ _ _ _ _ _ _ _ _ _ (after-past .past .ensures .0) (rw (after-step .step .ensures) at (after-infer .infer .ensures .0)) (after-inside-inferred .inside-inferred .ensures .0) (after-inside-inferred .inside-inferred .ensures .1) (after-if2 .if2 .taken),
-      (rw (after-step .step .ensures) at (after-infer .infer .ensures .1)),
+    let after-part = after-infer .before in
+    let after-past = after-part .before in (
+      check-take-full _ _ _ _ _ _ _ _ _ _ (after-past .past .ensures .0) (rw (after-part .part .ensures) at (after-infer .infer .ensures .0)) (after-inside-inferred .inside-inferred .ensures .0) (after-inside-inferred .inside-inferred .ensures .1) (after-if2 .if2 .taken),
+      (rw (after-part .part .ensures) at (after-infer .infer .ensures .1)),
     )
+
+take-out-sub-t35 : (t : ℕ) → take-out-lts.Need-sub-t35 (take-out-calls t) (take-out-at t) take-out.Post
+take-out-sub-t35 t c =
+    let start = c .before .before .before .before .before .before .before .before .before .before .before .before .before .before .before .before .before .before .before .before .before .before .before .before .before .before .before .before .before .before in
+    omega (arith, start .pre .1)
 
 take-out-check-requires : (t : ℕ) → take-out-lts.Need-check-requires (take-out-calls t) (take-out-at t) take-out.Post
 take-out-check-requires t c κs =
-    let start = c .before .before .before .before .before .before .before .before .before .before .before .before .before .before .before .before .before .before .before .before .before .before .before .before .before .before .before .before .before .before .before in
-    (part-falls _ (start .args .here) _ _ _ refl (start .pre .0), tt)
+    let start = c .before .before .before .before .before .before .before .before .before .before .before .before .before .before .before .before .before .before .before .before .before .before .before .before .before .before .before .before .before .before .before .before in
+    (part-falls _ (start .args .here) _ _ (start .pre .1) (start .pre .0), tt)
 
 take-out-same-length-5 : (t : ℕ) → take-out-lts.Need-same-length-5 (take-out-calls t) (take-out-at t) take-out.Post
 take-out-same-length-5 t c =
     let after-check = c .before .before .before .before in
-    let after-infer = after-check .before .before .before .before .before .before .before .before .before .before .before .before .before .before .before .before .before in
+    let after-infer = after-check .before .before .before .before .before .before .before .before .before .before .before .before .before .before .before .before .before .before in
     after-check .check .kept .1 .1 .1 .1 .1 .0 ∙ after-infer .infer .kept .1 .1 .1 .1 .1 .0
 
 take-out-same-length-6 : (t : ℕ) → take-out-lts.Need-same-length-6 (take-out-calls t) (take-out-at t) take-out.Post
 take-out-same-length-6 t c =
     let after-check = c .before .before .before .before in
-    let after-put-row = after-check .before .before .before .before .before in
+    let after-put-row = after-check .before .before .before .before .before .before in
     let after-infer = after-put-row .before .before .before .before .before .before .before .before .before .before .before .before in
     after-check .check .kept .1 .1 .1 .1 .1 .1 .0 ∙ after-put-row .put-row .kept .0 ∙ after-infer .infer .kept .1 .1 .1 .1 .1 .1 .0
 
 take-out-returns-3 : (t : ℕ) → take-out-lts.Need-returns-3 (take-out-calls t) (take-out-at t) take-out.Post
 take-out-returns-3 t c =
     let after-check = c .before .before .before .before in
-    let after-put-row = after-check .before .before .before .before .before in
+    let after-put-row = after-check .before .before .before .before .before .before in
     let after-if1 = after-put-row .before .before .before in
     let after-goes-on = after-if1 .before in
     let after-inside-inferred = after-goes-on .before .before .before in
     let after-infer = after-inside-inferred .before .before .before .before .before in
-    let after-step = after-infer .before in
-    let after-past = after-step .before in (
-      check-take _ _ _ _ _ _ _ _ _ _ (after-past .past .ensures .0) (rw (after-step .step .ensures) at (after-infer .infer .ensures .0)) (after-inside-inferred .inside-inferred .ensures .0) (after-inside-inferred .inside-inferred .ensures .1) (holds-else (after-goes-on .goes-on .result) (after-if1 .if1 .left) (after-goes-on .goes-on .ensures)) (rw (after-step .step .ensures) at (after-infer .infer .ensures .1)) (after-put-row .put-row .ensures .0) (keeps-others _ _ _ (after-put-row .put-row .ensures .1) (after-put-row .put-row .kept .0)) (after-check .check .ensures .0),
-      keeps-then (rw (after-step .step .ensures) at (after-infer .infer .ensures .1)) (keeps-put (keeps-others _ _ _ (after-put-row .put-row .ensures .1) (after-put-row .put-row .kept .0)) (after-check .check .ensures .1)),
+    let after-part = after-infer .before in
+    let after-past = after-part .before in (
+      check-take _ _ _ _ _ _ _ _ _ _ (after-past .past .ensures .0) (rw (after-part .part .ensures) at (after-infer .infer .ensures .0)) (after-inside-inferred .inside-inferred .ensures .0) (after-inside-inferred .inside-inferred .ensures .1) (holds-else (after-goes-on .goes-on .result) (after-if1 .if1 .left) (after-goes-on .goes-on .ensures)) (rw (after-part .part .ensures) at (after-infer .infer .ensures .1)) (after-put-row .put-row .ensures .0) (keeps-others _ _ _ (after-put-row .put-row .ensures .1) (after-put-row .put-row .kept .0)) (after-check .check .ensures .0),
+      keeps-then (rw (after-part .part .ensures) at (after-infer .infer .ensures .1)) (keeps-put (keeps-others _ _ _ (after-put-row .put-row .ensures .1) (after-put-row .put-row .kept .0)) (after-check .check .ensures .1)),
     )
 
 pub +check+infer+infer-by+pair+put-in+take-out-spec : {M : Type 1} → statement M
 +check+infer+infer-by+pair+put-in+take-out-spec =
     close μ-check μ-infer μ-infer-by μ-pair μ-put-in μ-take-out
     (λ t. check-lts.spec (check-calls t) (check-at t) check.Post
-    (λ c κs. search needs) (check-returns t) (λ c κs. search needs) (λ c κs. search needs) (λ c. search needs) (check-pair-requires t) (λ c. search needs) (λ c κs. search needs) (λ c κs. search needs) (λ c. search needs) (check-put-in-requires t) (λ c. search needs) (check-take-out-requires t) (λ c. search needs) (check-put-in-requires-2 t) (λ c. search needs) (check-take-out-requires-2 t) (λ c. search needs) (λ c κs. search needs) (λ c κs. search needs) (λ c. search needs) (λ c κs. search needs) (λ c κs. search needs) (λ c. search needs) (λ c κs. search needs) (check-infer-by-requires t) (λ c κs. search needs) (λ c. search needs) (λ c κs. search needs) (λ c. search needs) (λ c. search needs) (check-returns-2 t) (check-returns-3 t) (λ c. search needs) (λ c. search needs) (check-returns-4 t) (λ c. search needs) (λ c. search needs) (check-returns-5 t) (λ c. search needs) (λ c. search needs) (check-returns-6 t) (λ c. search needs) (λ c. search needs) (check-returns-7 t) (λ c. search needs) (check-returns-8 t) (check-returns-9 t) (λ c. search needs) (λ c. search needs) (check-returns-10 t) (check-returns-11 t))
+    (λ c κs. search needs) (check-returns t) (λ c κs. search needs) (λ c. search needs) (check-pair-requires t) (λ c. search needs) (λ c κs. search needs) (λ c κs. search needs) (λ c. search needs) (check-put-in-requires t) (λ c. search needs) (check-take-out-requires t) (λ c. search needs) (check-put-in-requires-2 t) (λ c. search needs) (check-take-out-requires-2 t) (λ c. search needs) (λ c κs. search needs) (λ c κs. search needs) (λ c. search needs) (λ c κs. search needs) (λ c κs. search needs) (λ c. search needs) (λ c κs. search needs) (check-infer-by-requires t) (λ c κs. search needs) (λ c. search needs) (λ c κs. search needs) (λ c. search needs) (λ c. search needs) (check-returns-2 t) (check-returns-3 t) (λ c. search needs) (λ c. search needs) (check-returns-4 t) (λ c. search needs) (λ c. search needs) (check-returns-5 t) (λ c. search needs) (λ c. search needs) (check-returns-6 t) (λ c. search needs) (λ c. search needs) (check-returns-7 t) (λ c. search needs) (check-returns-8 t) (check-returns-9 t) (λ c. search needs) (λ c. search needs) (check-returns-10 t) (check-returns-11 t))
     (λ t. infer-lts.spec (infer-calls t) (infer-at t) infer.Post
-    (λ c κs. search needs) (λ c κs. search needs) (infer-returns t) (λ c κs. search needs) (λ c κs. search needs) (infer-returns-2 t) (λ c κs. search needs) (λ c κs. search needs) (infer-infer-by-requires t) (λ c. search needs) (λ c. search needs) (infer-returns-3 t))
+    (λ c κs. search needs) (λ c κs. search needs) (infer-returns t) (λ c κs. search needs) (λ c κs. search needs) (infer-returns-2 t) (λ c κs. search needs) (infer-infer-by-requires t) (λ c. search needs) (λ c. search needs) (infer-returns-3 t))
     (λ t. infer-by-lts.spec (infer-by-calls t) (infer-by-at t) infer-by.Post
-    (λ c κs. search needs) (λ c. search needs) (λ c κs. search needs) (λ c. search needs) (λ c κs. search needs) (λ c. search needs) (λ c κs. search needs) (infer-by-infer-requires t) (λ c κs. search needs) (λ c. search needs) (λ c κs. search needs) (infer-by-infer-requires-2 t) (λ c κs. search needs) (λ c. search needs) (λ c κs. search needs) (infer-by-infer-requires-3 t) (λ c κs. search needs) (λ c κs. search needs) (λ c κs. search needs) (λ c κs. search needs) (λ c. search needs) (λ c. search needs) (infer-by-returns t) (λ c κs. search needs) (infer-by-check-requires t) (λ c. search needs) (λ c κs. search needs) (λ c κs. search needs) (infer-by-infer-requires-4 t) (λ c κs. search needs) (λ c. search needs) (λ c κs. search needs) (λ c κs. search needs) (λ c. search needs) (infer-by-returns-2 t) (infer-by-returns-3 t) (λ c. search needs) (λ c. search needs) (infer-by-returns-4 t) (λ c. search needs) (λ c. search needs) (infer-by-returns-5 t) (infer-by-same-length-8 t) (infer-by-same-length-9 t) (infer-by-returns-6 t) (λ c. search needs) (λ c. search needs) (infer-by-returns-7 t) (infer-by-returns-8 t))
+    (λ c κs. search needs) (λ c. search needs) (λ c κs. search needs) (λ c. search needs) (λ c κs. search needs) (λ c. search needs) (infer-by-part-requires t) (infer-by-infer-requires t) (λ c κs. search needs) (λ c. search needs) (infer-by-part-requires-2 t) (infer-by-infer-requires-2 t) (λ c κs. search needs) (λ c. search needs) (infer-by-part-requires-3 t) (infer-by-infer-requires-3 t) (λ c κs. search needs) (λ c κs. search needs) (λ c κs. search needs) (λ c κs. search needs) (λ c. search needs) (λ c. search needs) (infer-by-returns t) (infer-by-part-requires-4 t) (infer-by-check-requires t) (λ c κs. search needs) (λ c. search needs) (λ c κs. search needs) (infer-by-part-requires-5 t) (infer-by-infer-requires-4 t) (λ c κs. search needs) (λ c. search needs) (λ c κs. search needs) (λ c κs. search needs) (λ c. search needs) (infer-by-returns-2 t) (infer-by-returns-3 t) (λ c. search needs) (λ c. search needs) (infer-by-returns-4 t) (λ c. search needs) (λ c. search needs) (infer-by-returns-5 t) (infer-by-same-length-8 t) (infer-by-same-length-9 t) (infer-by-returns-6 t) (λ c. search needs) (λ c. search needs) (infer-by-returns-7 t) (infer-by-returns-8 t))
     (λ t. pair-lts.spec (pair-calls t) (pair-at t) pair.Post
-    (λ c κs. search needs) (λ c κs. search needs) (pair-returns t) (λ c κs. search needs) (λ c κs. search needs) (pair-check-requires t) (λ c κs. search needs) (λ c. search needs) (λ c. search needs) (pair-returns-2 t) (λ c κs. search needs) (pair-check-requires-2 t) (pair-same-length-3 t) (pair-same-length-4 t) (pair-returns-3 t))
+    (λ c κs. search needs) (λ c κs. search needs) (pair-returns t) (λ c κs. search needs) (λ c κs. search needs) (pair-part-requires t) (pair-check-requires t) (λ c κs. search needs) (λ c. search needs) (λ c. search needs) (pair-returns-2 t) (λ c κs. search needs) (pair-part-requires-2 t) (pair-check-requires-2 t) (pair-same-length-3 t) (pair-same-length-4 t) (pair-returns-3 t))
     (λ t. put-in-lts.spec (put-in-calls t) (put-in-at t) put-in.Post
-    (λ c κs. search needs) (λ c κs. search needs) (put-in-returns t) (λ c κs. search needs) (λ c κs. search needs) (put-in-check-requires t) (λ c. search needs) (λ c. search needs) (put-in-returns-2 t))
+    (λ c κs. search needs) (λ c κs. search needs) (put-in-returns t) (λ c κs. search needs) (λ c κs. search needs) (put-in-sub-t25 t) (put-in-check-requires t) (λ c. search needs) (λ c. search needs) (put-in-returns-2 t))
     (λ t. take-out-lts.spec (take-out-calls t) (take-out-at t) take-out.Post
-    (λ c κs. search needs) (λ c κs. search needs) (take-out-infer-requires t) (λ c κs. search needs) (λ c κs. search needs) (λ c. search needs) (λ c. search needs) (take-out-returns t) (λ c κs. search needs) (λ c. search needs) (λ c. search needs) (take-out-returns-2 t) (λ c κs. search needs) (λ c. search needs) (take-out-check-requires t) (take-out-same-length-5 t) (take-out-same-length-6 t) (take-out-returns-3 t))
+    (λ c κs. search needs) (take-out-part-requires t) (take-out-infer-requires t) (λ c κs. search needs) (λ c κs. search needs) (λ c. search needs) (λ c. search needs) (take-out-returns t) (λ c κs. search needs) (λ c. search needs) (λ c. search needs) (take-out-returns-2 t) (λ c κs. search needs) (λ c. search needs) (take-out-sub-t35 t) (take-out-check-requires t) (take-out-same-length-5 t) (take-out-same-length-6 t) (take-out-returns-3 t))

@@ -6,14 +6,11 @@ use Rattle.judging.proofs.JudgingLaws.{takes-so, one-side}
 use Rattle.judging.proofs.judge.first.Statement.{statement}
 use Rattle.judging.proofs.judge.first.Tie as tie
 
-conjuncts-requires : tie.Need-conjuncts-requires
-conjuncts-requires c κs = search needs
-
 returns : tie.Need-returns
 unfolding first-side
 returns c =
-    let both = c .before .before .conjuncts .ensures in
-    λ state b w e list y. one-side _ (λ x. x .0) _ y (λ F going m. takes-so (λ x on. on .0) (both .0 F going m)) (both .1) refl
+    let both = c .before .before .before .conjuncts .ensures in
+    λ state b w e list y. one-side _ (λ x. x .0) _ y (λ F going m. takes-so (λ x on. rw (c .part-at .ensures) (on .0)) (both .0 F going m)) (both .1) refl
 
 pub first-spec : {M : Type 1} → statement M
-first-spec = tie.close (tie.spec conjuncts-requires returns)
+first-spec = tie.close (tie.spec (λ c κs. search needs) (λ c κs. search needs) returns)
