@@ -39,9 +39,9 @@ use Rattle.formula.specs.Meaning.{from-of, to-of, Means, On}
 use Rattle.judging.specs.RowsOf.{RowIs, is-plain, is-claim, is-shut, most-rows, PutsRow}
 use Rattle.judging.specs.Judging.{view-in, scope-inside, part-of, and-then, sides, TwoSided, and-sides, inside, top-goal, fact-goal, order-goal, Passes}
 use Rattle.judging.specs.StepPromises.{TakesSides, TakesInside, TakesInsideInferred, StaysStopped, ChecksInferred}
-use Rattle.walk.specs.Walking.{Sources, Around, Keeps, InfersAt, InfersBy, ChecksAt, ChecksBy}
+use Rattle.walk.specs.Walking.{Sources, Around, Keeps, InfersAt, ChecksAt, ChecksBy}
 use Rattle.walk.specs.WalkCalls.{Puts, puts-at, puts-says, TakesOut, takes-at, takes-says}
-use Rattle.steps.proofs.StepsRead.{check-read, pair-read, trivial-read, state-read, compare-read, at-in-read, says-in-read, at-out-read, says-out-read, no-check-read, inferred-read, infer-read, begins-there}
+use Rattle.steps.proofs.StepsRead.{check-read, pair-read, trivial-read, state-read, compare-read, at-in-read, says-in-read, at-out-read, says-out-read, no-check-read, inferred-read, begins-there}
 use Rattle.judging.proofs.StepWalks.{check-inside, pair-walk, trivial-walk, state-walk, compare-walk, at-in-walk, says-in-walk, at-out-walk, says-out-walk, inferred-walk}
 use Rattle.judging.proofs.Coming.{Comes, comes-taken, comes-inferred, comes-checked, comes-or-stays, passes-on, passes-halted, passes-then}
 use Rattle.judging.proofs.JudgingLaws.{takes-so}
@@ -178,17 +178,15 @@ module _ (S : Sources) (rows : List ℕ) (scope : Scope) (ledger : Ledger) (list
 
   -- An inferring step where one is checked.
   pub check-inferred : (left n at : ℕ) → left ≡ suc n → check-tag (getD (S .proof) at 0) ≡ InferredTag
-      → {tag : InferTag} → tag ≡ infer-tag (getD (S .proof) at 0)
-      → {inferred : Inferred} {list′ : List ℕ} → InfersBy S rows scope ledger list n tag at inferred list′
+      → {inferred : Inferred} {list′ : List ℕ} → InfersAt S rows scope ledger list left at inferred list′
       → {r : Checked} → ChecksInferred (S .buffer) goal-bytes at inferred goal r
       → ChecksAt S rows scope ledger list left goal-bytes goal at r list′
   unfolding ToldChecking
-  check-inferred left n at more t tagged {inferred} {list′} infers h cs Γ N e sound around reads told G means =
+  check-inferred left n at more t {inferred} {list′} infers h cs Γ N e sound around reads told G means =
       let found = inferred-read (S .proof) (length cs) n (scope .count) at N e (rw more at reads) t in
       let there = begins-there (S .proof) (length cs) (suc n) (scope .count) at (found .part) e (found .reads) in
-      let by-tag = infer-read (S .proof) (length cs) n (scope .count) at (found .part) e (found .reads) .1 in
       rw (found .is, inferred-walk cs Γ view at G (from-of goal) (to-of goal) (found .part) there)
-      (h (S .state) (book ledger list) _ e list′ G (infers cs Γ (found .part) e sound (rw more at around) (rw tagged by-tag) (told-is (S .ends) (found .is) told)) means)
+      (h (S .state) (book ledger list) _ e list′ G (infers cs Γ (found .part) e sound around (rw more (found .reads)) (told-is (S .ends) (found .is) told)) means)
 
   module _ (left at : ℕ) where
     -- The step here, by its tag.

@@ -22,9 +22,9 @@ part-falls all here at t more is =
     let product : here .left * suc all ≡ suc (here .left - 1) * suc all = ap (λ n. n * suc all) level in
     omega (arith, product, is)
 
-pub here-falls : (all : ℕ) (here part : Here) (at : ℕ) (ledger : Ledger) (t : ℕ) → part ≡ record { scope = here .scope; at = at; ledger = ledger; left = here .left - 1 }
-    → 0 < here .left → left-over (here .left) all (here .at + 1) ≡ t → left-over (part .left) all (part .at) < t
-here-falls all here part at ledger t is more equal = rw is (part-falls all here at t more equal)
+pub here-falls : (all : ℕ) (here part : Here) (at : ℕ) (ledger : Ledger) (place t : ℕ) → part ≡ record { scope = here .scope; at = at; ledger = ledger; left = here .left - 1 }
+    → 0 < here .left → left-over (here .left) all (here .at + 1) ≡ t → left-over (part .left) all place < t
+here-falls all here part at ledger place t is more equal = rw is (part-falls all here place t more equal)
 
 -- Where the tag is handed on, a byte less is left.
 pub tag-falls : (all : ℕ) (here : Here) (t : ℕ) → here .at < all → left-over (here .left) all (here .at) ≡ t → left-over (here .left) all (here .at + 1) < t

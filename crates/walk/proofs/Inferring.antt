@@ -1,5 +1,5 @@
 -- The steps that infer, over bytes: what the code comes to in each branch is what the walk of the step that the reader finds there comes to.
-use Prim.Native.Nat.{ℕ, zero, suc, _+_, _<_, _≤_}
+use Prim.Native.Nat.{ℕ, zero, suc, _+_, _<_}
 use mathlib.Core.Path.{_≡_, refl, ap, _∙_}
 use mathlib.Core.List.{List}
 use mathlib.Core.Option.{some}
@@ -61,13 +61,9 @@ module _ (S : Sources) (rows : List ℕ) (scope : Scope) (ledger : Ledger) (list
   abbrev view : View
   view = view-in (scope .view)
 
-  -- The first tests: is a level left, and a byte there?
+  -- The first test: is a level left?
   pub infer-none : (left at : ℕ) {r : Inferred} {list′ : List ℕ} → left ≡ 0 → InfersAt S rows scope ledger list left at r list′
   infer-none left at z cs Γ M e sound around reads told = absurd (no-infer-step (S .proof) (length cs) left (scope .count) at M e z reads)
-
-  pub infer-past : (left at : ℕ) {r : Inferred} {list′ : List ℕ} → length (S .proof) ≤ at → InfersAt S rows scope ledger list left at r list′
-  infer-past left at past cs Γ M e sound around reads told =
-      absurd (omega (arith, infer-inside (S .proof) (length cs) left (scope .count) at M e reads))
 
   -- Then the step is read by its tag.
   pub infer-tagged : (left n at : ℕ) (tag : InferTag) {r : Inferred} {list′ : List ℕ} → left ≡ suc n → infer-tag (getD (S .proof) at 0) ≡ tag

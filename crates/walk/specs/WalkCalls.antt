@@ -1,16 +1,19 @@
 -- The promise of each call of the walk, over what it is lent.
 use Prim.Native.Nat.{_-_}
+use mathlib.Core.Path.{_≡_}
+use lib.ListN.{getD}
 use Rattle.procap.specs.Lent.{Lent}
 use Rattle.bl.specs.declared.InferTag.{InferTag}
 use Rattle.bl.specs.declared.CheckTag.{CheckTag}
 use Rattle.bl.specs.declared.CheckTag.the-variants.{AtInTag, AtOutTag, SaysInTag, SaysOutTag}
+use Rattle.bl.specs.Tags.{infer-tag}
 use Rattle.formula.specs.declared.parts.Judgement.{Judgement}
 use Rattle.judging.specs.declared.judge.Inferred.{Inferred}
 use Rattle.judging.specs.declared.judge.Checked.{Checked}
 use Rattle.judging.specs.declared.judge.Shell.{Shell}
 use Rattle.judging.specs.declared.judge.Shell.the-variants.{AtShell, SaysShell}
 use Rattle.walk.specs.declared.Here.{Here}
-use Rattle.walk.specs.Walking.{Sources, Keeps, InfersAt, InfersBy, ChecksAt, ChecksBy}
+use Rattle.walk.specs.Walking.{Sources, Keeps, InfersAt, ChecksAt, ChecksBy}
 
 -- The slices that are lent all through.
 abbrev pub sources : Lent → Lent → Lent → Lent → Lent → Sources
@@ -27,15 +30,11 @@ pub data TakesOut : CheckTag → Shell → Type 0 where
   takes-says : TakesOut SaysOutTag SaysShell
 
 module _ (S : Sources) (facts assumptions : Lent) where
-  -- A step that infers, of at most so many levels.
-  abbrev pub Infers : Here → Inferred → Type 0
-  Infers here r =
-      InfersAt S (assumptions .entry .now) (here .scope) (here .ledger) (facts .entry .now) (here .left) (here .at) r (facts .exit .now)
-
-  -- The same, by its tag.
-  abbrev pub InfersTagged : InferTag → Here → Inferred → Type 0
-  InfersTagged tag here r =
-      InfersBy S (assumptions .entry .now) (here .scope) (here .ledger) (facts .entry .now) (here .left - 1) tag (here .at) r (facts .exit .now)
+  -- A step that infers, of at most so many levels, by the tag that stands at its place.
+  abbrev pub Infers : InferTag → Here → Inferred → Type 0
+  Infers tag here r =
+      tag ≡ infer-tag (getD (S .proof) (here .at) 0)
+      → InfersAt S (assumptions .entry .now) (here .scope) (here .ledger) (facts .entry .now) (here .left) (here .at) r (facts .exit .now)
 
   module _ (goal-bytes : Lent) (goal : Judgement) (here : Here) (r : Checked) where
     -- A step that checks, of at most so many levels.

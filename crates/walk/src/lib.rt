@@ -33,7 +33,7 @@ use steps::infer_tag_at;
 use steps::term_at;
 ghost use mathlib.Core.Path.{_≡_};
 ghost use Prim.Native.Nat.{_-_, _<_};
-ghost use Rattle.walk.specs.WalkCalls.{sources, Infers, InfersTagged, Checks, ChecksTagged, ChecksPut, ChecksTaken, KeepsRows};
+ghost use Rattle.walk.specs.WalkCalls.{sources, Infers, Checks, ChecksTagged, ChecksPut, ChecksTaken, KeepsRows};
 
 // Where the walk stands: in which scope, at which step, with what ledger, and how many levels are left there.
 pub struct Here {
@@ -59,53 +59,35 @@ impl Here {
     }
 }
 
-// What the step at a place infers, of at most so many levels.
+// What the step at a place infers, of at most so many levels, by its tag, which was read there.
 #[rattlefmt::skip]
 fn infer(
     buffer: &[u8], proof: &[u8], state: &[u8], certificates: &[u64], ends: &[u16], facts: &mut [u64], assumptions: &mut [u64],
-    here: Here,
-) -> Inferred
-    ensures walks { λ r. ⌜ Infers (sources buffer proof state certificates ends) facts assumptions here r ⌝ }
-    ensures keeps { λ _. ⌜ KeepsRows here assumptions ⌝ }
-{
-    let at = here.at;
-    let ledger = here.ledger;
-    if here.left == 0 {
-        return nothing(ledger.misfit(at));
-    }
-    if proof.len() <= at {
-        return nothing(ledger.misfit(at));
-    }
-    infer_by(buffer, proof, state, certificates, ends, facts, assumptions, infer_tag_at(proof, at), here)
-}
-
-// What the step at a place infers, by its tag, of at most so many levels.
-#[rattlefmt::skip]
-fn infer_by(
-    buffer: &[u8], proof: &[u8], state: &[u8], certificates: &[u64], ends: &[u16], facts: &mut [u64], assumptions: &mut [u64],
     tag: InferTag, here: Here,
 ) -> Inferred
-    requires { ⌜ 0 < here .left ⌝ }
-    ensures walks { λ r. ⌜ InfersTagged (sources buffer proof state certificates ends) facts assumptions tag here r ⌝ }
+    ensures walks { λ r. ⌜ Infers (sources buffer proof state certificates ends) facts assumptions tag here r ⌝ }
     ensures keeps { λ _. ⌜ KeepsRows here assumptions ⌝ }
 {
     let scope = here.scope;
     let at = here.at;
     let ledger = here.ledger;
+    if here.left == 0 {
+        return nothing(ledger.misfit(at));
+    }
     let begin = past(proof, at);
     match tag {
         InferTag::LocalTag => local(proof, assumptions, scope, at, ledger),
         InferTag::CertificateTag => certificate(proof, certificates, scope, at, ledger),
         InferTag::FirstTag => {
-            let part = infer(buffer, proof, state, certificates, ends, facts, assumptions, here.part(begin, ledger));
+            let part = infer(buffer, proof, state, certificates, ends, facts, assumptions, infer_tag_at(proof, begin), here.part(begin, ledger));
             first(buffer, at, part)
         }
         InferTag::SecondTag => {
-            let part = infer(buffer, proof, state, certificates, ends, facts, assumptions, here.part(begin, ledger));
+            let part = infer(buffer, proof, state, certificates, ends, facts, assumptions, infer_tag_at(proof, begin), here.part(begin, ledger));
             second(buffer, at, part)
         }
         InferTag::ApplyTag => {
-            let part = infer(buffer, proof, state, certificates, ends, facts, assumptions, here.part(begin, ledger));
+            let part = infer(buffer, proof, state, certificates, ends, facts, assumptions, infer_tag_at(proof, begin), here.part(begin, ledger));
             let used = put_to_use(buffer, proof, at, part, end_in(ends, part.next));
             let after_used = used.ledger;
             let premise = used.premise;
@@ -119,7 +101,8 @@ fn infer_by(
         InferTag::InstanceTag => {
             let read = term_at(proof, begin);
             let term = read.term;
-            let part = infer(buffer, proof, state, certificates, ends, facts, assumptions, here.part(read.next, ledger));
+            let next = read.next;
+            let part = infer(buffer, proof, state, certificates, ends, facts, assumptions, infer_tag_at(proof, next), here.part(next, ledger));
             instance(buffer, at, part, term)
         }
         InferTag::NoInferTag => nothing(ledger.misfit(at)),
@@ -150,7 +133,7 @@ pub fn check(
         CheckTag::StateTag => Checked { ledger: state_fact(goal_bytes, state, facts, at, goal, ledger), next: past(proof, at) },
         CheckTag::OrderStepTag => Checked { ledger: order(goal_bytes, at, goal, ledger), next: past(proof, at) },
         CheckTag::InferredTag => {
-            let inferred = infer_by(buffer, proof, state, certificates, ends, facts, assumptions, infer_tag_at(proof, at), here);
+            let inferred = infer(buffer, proof, state, certificates, ends, facts, assumptions, infer_tag_at(proof, at), here);
             checked_by(buffer, goal_bytes, at, inferred, goal)
         }
         CheckTag::NoCheckTag => Checked { ledger: ledger.misfit(at), next: at },
@@ -205,7 +188,8 @@ fn put_in(
     if !after_inside.goes_on() {
         return Checked { ledger: after_inside, next: at };
     }
-    let inner = Here { scope: scope.inside(whose), at: past(proof, at), ledger: after_inside, left: here.left - 1 };
+    let left = here.left - 1;
+    let inner = Here { scope: scope.inside(whose), at: past(proof, at), ledger: after_inside, left: left };
     check(buffer, proof, state, certificates, ends, facts, assumptions, goal_bytes, judgement, inner)
 }
 
@@ -224,7 +208,8 @@ fn take_out(
     let count = scope.count;
     let at = here.at;
     let ledger = here.ledger;
-    let inferred = infer(buffer, proof, state, certificates, ends, facts, assumptions, here.part(past(proof, at), ledger));
+    let begin = past(proof, at);
+    let inferred = infer(buffer, proof, state, certificates, ends, facts, assumptions, infer_tag_at(proof, begin), here.part(begin, ledger));
     let inside = inside_inferred(buffer, at, shell, inferred);
     let after_inside = inside.ledger;
     let row = inside.row;
@@ -236,6 +221,7 @@ fn take_out(
     }
     put_row(assumptions, count, row);
     let more = Scope { count: count + 1, shut: scope.shut, view: view };
-    let inner = Here { scope: more, at: inferred.next, ledger: after_inside, left: here.left - 1 };
+    let left = here.left - 1;
+    let inner = Here { scope: more, at: inferred.next, ledger: after_inside, left: left };
     check(buffer, proof, state, certificates, ends, facts, assumptions, goal_bytes, goal, inner)
 }

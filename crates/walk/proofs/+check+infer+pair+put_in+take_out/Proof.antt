@@ -7,22 +7,19 @@ use borrow.Fn.Kinds.{In}
 use borrow.Fn.PlainCycle.{Measures, is, falls, and}
 use Rattle.walk.proofs.check.Reads as check
 use Rattle.walk.proofs.check.Kinds as check-kinds
-use Rattle.walk.proofs.+check+infer+infer_by+pair+put_in+take_out.Lts-check as check-lts
+use Rattle.walk.proofs.+check+infer+pair+put_in+take_out.Lts-check as check-lts
 use Rattle.walk.proofs.infer.Reads as infer
 use Rattle.walk.proofs.infer.Kinds as infer-kinds
-use Rattle.walk.proofs.+check+infer+infer_by+pair+put_in+take_out.Lts-infer as infer-lts
-use Rattle.walk.proofs.infer_by.Reads as infer-by
-use Rattle.walk.proofs.infer_by.Kinds as infer-by-kinds
-use Rattle.walk.proofs.+check+infer+infer_by+pair+put_in+take_out.Lts-infer_by as infer-by-lts
+use Rattle.walk.proofs.+check+infer+pair+put_in+take_out.Lts-infer as infer-lts
 use Rattle.walk.proofs.pair.Reads as pair
 use Rattle.walk.proofs.pair.Kinds as pair-kinds
-use Rattle.walk.proofs.+check+infer+infer_by+pair+put_in+take_out.Lts-pair as pair-lts
+use Rattle.walk.proofs.+check+infer+pair+put_in+take_out.Lts-pair as pair-lts
 use Rattle.walk.proofs.put_in.Reads as put-in
 use Rattle.walk.proofs.put_in.Kinds as put-in-kinds
-use Rattle.walk.proofs.+check+infer+infer_by+pair+put_in+take_out.Lts-put_in as put-in-lts
+use Rattle.walk.proofs.+check+infer+pair+put_in+take_out.Lts-put_in as put-in-lts
 use Rattle.walk.proofs.take_out.Reads as take-out
 use Rattle.walk.proofs.take_out.Kinds as take-out-kinds
-use Rattle.walk.proofs.+check+infer+infer_by+pair+put_in+take_out.Lts-take_out as take-out-lts
+use Rattle.walk.proofs.+check+infer+pair+put_in+take_out.Lts-take_out as take-out-lts
 use Rattle.judging.proofs.judge.Scope.inside.Reads as inside-reads
 use Rattle.judging.proofs.judge.certificate.Reads as certificate-reads
 use Rattle.judging.proofs.judge.checked_by.Reads as checked-by-reads
@@ -48,8 +45,8 @@ use Rattle.steps.proofs.ends.end_in.Reads as end-in-reads
 use Rattle.steps.proofs.infer_tag_at.Reads as infer-tag-at-reads
 use Rattle.steps.proofs.term_at.Reads as term-at-reads
 use Rattle.walk.proofs.Here.part.Reads as part-reads
-use Rattle.walk.proofs.+check+infer+infer_by+pair+put_in+take_out.{statement}
-use Rattle.walk.proofs.+check+infer+infer_by+pair+put_in+take_out.Tie.{close}
+use Rattle.walk.proofs.+check+infer+pair+put_in+take_out.{statement}
+use Rattle.walk.proofs.+check+infer+pair+put_in+take_out.Tie.{close}
 use Prim.Native.Nat.{suc, _+_, _-_}
 use mathlib.Core.Path.{_≡_, refl, sym, _∙_}
 use native.Mathlib.Omega.{arith}
@@ -65,17 +62,14 @@ use Rattle.walk.specs.Walking.{Sources, ChecksAt, ChecksBy}
 use Rattle.walk.specs.WalkCalls.{puts-at, puts-says, takes-at, takes-says}
 use Rattle.walk.proofs.Falling.{left-over, part-falls, here-falls, tag-falls, IsTag, tag-inside}
 use Rattle.walk.proofs.Surroundings.{keeps-same, keeps-then, keeps-put, keeps-inside, keeps-others, checks-kept}
-use Rattle.walk.proofs.Inferring.{infer-none, infer-past, infer-tagged, infer-local, infer-certificate, infer-no-tag, infer-first, infer-second, infer-instance, infer-apply-stopped, infer-apply}
+use Rattle.walk.proofs.Inferring.{infer-none, infer-tagged, infer-local, infer-certificate, infer-no-tag, infer-first, infer-second, infer-instance, infer-apply-stopped, infer-apply}
 use Rattle.walk.proofs.Checking.{ChecksItself, check-none, check-tagged, check-inferred, check-no-tag, check-trivial, check-state, check-order, check-pair-unfit, check-pair-stopped, check-pair, check-put-unfit, check-put, check-take-stopped, check-take-full, check-take}
 
 abbrev μ-check : Measures 8 check-kinds.ps ℕ
 μ-check κs a = left-over (a .1 .1 .1 .1 .1 .1 .1 .1 .1 .0 .left) (length (a .1 .0 .now)) (a .1 .1 .1 .1 .1 .1 .1 .1 .1 .0 .at)
 
 abbrev μ-infer : Measures 7 infer-kinds.ps ℕ
-μ-infer κs a = left-over (a .1 .1 .1 .1 .1 .1 .1 .0 .left) (length (a .1 .0 .now)) (a .1 .1 .1 .1 .1 .1 .1 .0 .at)
-
-abbrev μ-infer-by : Measures 7 infer-by-kinds.ps ℕ
-μ-infer-by κs a = left-over (a .1 .1 .1 .1 .1 .1 .1 .1 .0 .left) (length (a .1 .0 .now)) (a .1 .1 .1 .1 .1 .1 .1 .1 .0 .at + 1)
+μ-infer κs a = left-over (a .1 .1 .1 .1 .1 .1 .1 .1 .0 .left) (length (a .1 .0 .now)) (a .1 .1 .1 .1 .1 .1 .1 .1 .0 .at + 1)
 
 abbrev μ-pair : Measures 8 pair-kinds.ps ℕ
 μ-pair κs a = left-over (a .1 .1 .1 .1 .1 .1 .1 .1 .1 .0 .left) (length (a .1 .0 .now)) (a .1 .1 .1 .1 .1 .1 .1 .1 .1 .0 .at + 1)
@@ -98,12 +92,6 @@ infer-at t = and 7 infer-kinds.ps (is 7 infer-kinds.ps μ-infer t) infer.Pre
 abbrev infer-below : ℕ → In 7 infer-kinds.ps
 infer-below t = and 7 infer-kinds.ps (falls 7 infer-kinds.ps _<_ μ-infer t) infer.Pre
 
-abbrev infer-by-at : ℕ → In 7 infer-by-kinds.ps
-infer-by-at t = and 7 infer-by-kinds.ps (is 7 infer-by-kinds.ps μ-infer-by t) infer-by.Pre
-
-abbrev infer-by-below : ℕ → In 7 infer-by-kinds.ps
-infer-by-below t = and 7 infer-by-kinds.ps (falls 7 infer-by-kinds.ps _<_ μ-infer-by t) infer-by.Pre
-
 abbrev pair-at : ℕ → In 8 pair-kinds.ps
 pair-at t = and 8 pair-kinds.ps (is 8 pair-kinds.ps μ-pair t) pair.Pre
 
@@ -123,13 +111,10 @@ abbrev take-out-below : ℕ → In 8 take-out-kinds.ps
 take-out-below t = and 8 take-out-kinds.ps (falls 8 take-out-kinds.ps _<_ μ-take-out t) take-out.Pre
 
 abbrev check-calls : ℕ → check-lts.Claims
-check-calls t = (misfit-reads.Asked, misfit-reads.Learnt, check-tag-at-reads.Asked, check-tag-at-reads.Learnt, pair-below t, pair.Post, top-reads.Asked, top-reads.Learnt, past-reads.Asked, past-reads.Learnt, put-in-below t, put-in.Post, take-out-below t, take-out.Post, state-fact-reads.Asked, state-fact-reads.Learnt, order-reads.Asked, order-reads.Learnt, infer-tag-at-reads.Asked, infer-tag-at-reads.Learnt, infer-by-below t, infer-by.Post, checked-by-reads.Asked, checked-by-reads.Learnt)
+check-calls t = (misfit-reads.Asked, misfit-reads.Learnt, check-tag-at-reads.Asked, check-tag-at-reads.Learnt, pair-below t, pair.Post, top-reads.Asked, top-reads.Learnt, past-reads.Asked, past-reads.Learnt, put-in-below t, put-in.Post, take-out-below t, take-out.Post, state-fact-reads.Asked, state-fact-reads.Learnt, order-reads.Asked, order-reads.Learnt, infer-tag-at-reads.Asked, infer-tag-at-reads.Learnt, infer-below t, infer.Post, checked-by-reads.Asked, checked-by-reads.Learnt)
 
 abbrev infer-calls : ℕ → infer-lts.Claims
-infer-calls t = (misfit-reads.Asked, misfit-reads.Learnt, nothing-reads.Asked, nothing-reads.Learnt, infer-tag-at-reads.Asked, infer-tag-at-reads.Learnt, infer-by-below t, infer-by.Post)
-
-abbrev infer-by-calls : ℕ → infer-by-lts.Claims
-infer-by-calls t = (past-reads.Asked, past-reads.Learnt, local-reads.Asked, local-reads.Learnt, certificate-reads.Asked, certificate-reads.Learnt, part-reads.Asked, part-reads.Learnt, infer-below t, infer.Post, first-reads.Asked, first-reads.Learnt, second-reads.Asked, second-reads.Learnt, end-in-reads.Asked, end-in-reads.Learnt, put-to-use-reads.Asked, put-to-use-reads.Learnt, goes-on-reads.Asked, goes-on-reads.Learnt, nothing-reads.Asked, nothing-reads.Learnt, check-below t, check.Post, part-at-reads.Asked, part-at-reads.Learnt, term-at-reads.Asked, term-at-reads.Learnt, instance-reads.Asked, instance-reads.Learnt, misfit-reads.Asked, misfit-reads.Learnt)
+infer-calls t = (misfit-reads.Asked, misfit-reads.Learnt, nothing-reads.Asked, nothing-reads.Learnt, past-reads.Asked, past-reads.Learnt, local-reads.Asked, local-reads.Learnt, certificate-reads.Asked, certificate-reads.Learnt, infer-tag-at-reads.Asked, infer-tag-at-reads.Learnt, part-reads.Asked, part-reads.Learnt, infer-below t, infer.Post, first-reads.Asked, first-reads.Learnt, second-reads.Asked, second-reads.Learnt, end-in-reads.Asked, end-in-reads.Learnt, put-to-use-reads.Asked, put-to-use-reads.Learnt, goes-on-reads.Asked, goes-on-reads.Learnt, check-below t, check.Post, part-at-reads.Asked, part-at-reads.Learnt, term-at-reads.Asked, term-at-reads.Learnt, instance-reads.Asked, instance-reads.Learnt)
 
 abbrev pair-calls : ℕ → pair-lts.Claims
 pair-calls t = (sides-of-reads.Asked, sides-of-reads.Learnt, goes-on-reads.Asked, goes-on-reads.Learnt, part-at-reads.Asked, part-at-reads.Learnt, past-reads.Asked, past-reads.Learnt, part-reads.Asked, part-reads.Learnt, check-below t, check.Post)
@@ -138,7 +123,7 @@ abbrev put-in-calls : ℕ → put-in-lts.Claims
 put-in-calls t = (inside-of-reads.Asked, inside-of-reads.Learnt, goes-on-reads.Asked, goes-on-reads.Learnt, inside-reads.Asked, inside-reads.Learnt, past-reads.Asked, past-reads.Learnt, check-below t, check.Post)
 
 abbrev take-out-calls : ℕ → take-out-lts.Claims
-take-out-calls t = (past-reads.Asked, past-reads.Learnt, part-reads.Asked, part-reads.Learnt, infer-below t, infer.Post, inside-inferred-reads.Asked, inside-inferred-reads.Learnt, goes-on-reads.Asked, goes-on-reads.Learnt, misfit-reads.Asked, misfit-reads.Learnt, put-row-reads.Asked, put-row-reads.Learnt, check-below t, check.Post)
+take-out-calls t = (past-reads.Asked, past-reads.Learnt, infer-tag-at-reads.Asked, infer-tag-at-reads.Learnt, part-reads.Asked, part-reads.Learnt, infer-below t, infer.Post, inside-inferred-reads.Asked, inside-inferred-reads.Learnt, goes-on-reads.Asked, goes-on-reads.Learnt, misfit-reads.Asked, misfit-reads.Learnt, put-row-reads.Asked, put-row-reads.Learnt, check-below t, check.Post)
 
 -- ── check ──
 
@@ -201,11 +186,11 @@ check-take-out-requires-2 t c κs =
     let after-check-tag-at = after-enum-told6 .before .before in
     check-falls t after-check-tag-at (after-enum-told6 .enum-told6 .given .1) tt
 
-check-infer-by-requires : (t : ℕ) → check-lts.Need-infer-by-requires (check-calls t) (check-at t) check.Post
-check-infer-by-requires t c κs =
+check-infer-requires : (t : ℕ) → check-lts.Need-infer-requires (check-calls t) (check-at t) check.Post
+check-infer-requires t c κs =
     let after-enum-told9 = c .before .before .before in
     let after-check-tag-at = after-enum-told9 .before .before in
-    check-falls t after-check-tag-at (after-enum-told9 .enum-told9 .given .1) tt
+    (check-falls t after-check-tag-at (after-enum-told9 .enum-told9 .given .1) tt .0, tt)
 
 check-returns-2 : (t : ℕ) → check-lts.Need-returns-2 (check-calls t) (check-at t) check.Post
 check-returns-2 t c =
@@ -281,12 +266,12 @@ check-returns-9 t c =
 
 check-returns-10 : (t : ℕ) → check-lts.Need-returns-10 (check-calls t) (check-at t) check.Post
 check-returns-10 t c =
-    let after-infer-by = c .before .before .before .before .before in
-    let after-infer-tag-at = after-infer-by .before in
+    let after-infer = c .before .before .before .before .before in
+    let after-infer-tag-at = after-infer .before in
     let after-enum-told9 = after-infer-tag-at .before .before .before in
     let after-check-tag-at = after-enum-told9 .before .before in (
-      check-inferred _ _ _ _ _ _ _ _ _ _ (check-level t after-check-tag-at) (check-tag-is t after-check-tag-at (after-enum-told9 .enum-told9 .given .1)) (after-infer-tag-at .infer-tag-at .ensures) (after-infer-by .infer-by .ensures .0) (c .checked-by .ensures),
-      after-infer-by .infer-by .ensures .1,
+      check-inferred _ _ _ _ _ _ _ _ _ _ (check-level t after-check-tag-at) (check-tag-is t after-check-tag-at (after-enum-told9 .enum-told9 .given .1)) (after-infer .infer .ensures .0 (after-infer-tag-at .infer-tag-at .ensures)) (c .checked-by .ensures),
+      after-infer .infer .ensures .1,
     )
 
 check-returns-11 : (t : ℕ) → check-lts.Need-returns-11 (check-calls t) (check-at t) check.Post
@@ -302,172 +287,175 @@ check-returns-11 t c =
 infer-returns : (t : ℕ) → infer-lts.Need-returns (infer-calls t) (infer-at t) infer.Post
 infer-returns t c =
     let after-if1 = c .before .before in
-    (infer-none _ _ _ _ _ _ _ (after-if1 .if1 .taken), keeps-same _ _)
+    (λ is. infer-none _ _ _ _ _ _ _ (after-if1 .if1 .taken), keeps-same _ _)
+
+infer-part-requires : (t : ℕ) → infer-lts.Need-part-requires (infer-calls t) (infer-at t) infer.Post
+infer-part-requires t c κs =
+    let after-if1 = c .before .before .before .before .before .before in
+    omega (arith, after-if1 .if1 .left)
+
+infer-infer-requires : (t : ℕ) → infer-lts.Need-infer-requires (infer-calls t) (infer-at t) infer.Post
+infer-infer-requires t c κs =
+    let after-if1 = c .before .before .before .before .before .before .before in
+    let start = after-if1 .before .before .before .before .before .before .before .before .before .before .before in
+    (here-falls _ (start .args .here) _ _ _ _ _ (c .part .ensures) (omega (arith, after-if1 .if1 .left)) (start .pre .0), tt)
+
+infer-part-requires-2 : (t : ℕ) → infer-lts.Need-part-requires-2 (infer-calls t) (infer-at t) infer.Post
+infer-part-requires-2 t c κs =
+    let after-if1 = c .before .before .before .before .before .before in
+    omega (arith, after-if1 .if1 .left)
+
+infer-infer-requires-2 : (t : ℕ) → infer-lts.Need-infer-requires-2 (infer-calls t) (infer-at t) infer.Post
+infer-infer-requires-2 t c κs =
+    let after-if1 = c .before .before .before .before .before .before .before in
+    let start = after-if1 .before .before .before .before .before .before .before .before .before .before .before in
+    (here-falls _ (start .args .here) _ _ _ _ _ (c .part2 .ensures) (omega (arith, after-if1 .if1 .left)) (start .pre .0), tt)
+
+infer-part-requires-3 : (t : ℕ) → infer-lts.Need-part-requires-3 (infer-calls t) (infer-at t) infer.Post
+infer-part-requires-3 t c κs =
+    let after-if1 = c .before .before .before .before .before .before in
+    omega (arith, after-if1 .if1 .left)
+
+infer-infer-requires-3 : (t : ℕ) → infer-lts.Need-infer-requires-3 (infer-calls t) (infer-at t) infer.Post
+infer-infer-requires-3 t c κs =
+    let after-if1 = c .before .before .before .before .before .before .before in
+    let start = after-if1 .before .before .before .before .before .before .before .before .before .before .before in
+    (here-falls _ (start .args .here) _ _ _ _ _ (c .part3 .ensures) (omega (arith, after-if1 .if1 .left)) (start .pre .0), tt)
 
 infer-returns-2 : (t : ℕ) → infer-lts.Need-returns-2 (infer-calls t) (infer-at t) infer.Post
 infer-returns-2 t c =
-    let after-if2 = c .before .before in
-    (infer-past _ _ _ _ _ _ _ (after-if2 .if2 .taken), keeps-same _ _)
-
-infer-infer-by-requires : (t : ℕ) → infer-lts.Need-infer-by-requires (infer-calls t) (infer-at t) infer.Post
-infer-infer-by-requires t c κs =
-    let after-if2 = c .before .before .before in
-    let after-if1 = after-if2 .before in
-    let start = after-if1 .before .before .before .before .before .before .before .before .before .before in
-    (tag-falls _ (start .args .here) _ (omega (arith, after-if2 .if2 .left)) (start .pre .0), (omega (arith, after-if1 .if1 .left)))
-
-infer-returns-3 : (t : ℕ) → infer-lts.Need-returns-3 (infer-calls t) (infer-at t) infer.Post
-infer-returns-3 t c =
-    let after-infer-by = c .before .before .before .before in
-    let after-infer-tag-at = after-infer-by .before in
-    let after-if1 = after-infer-tag-at .before .before .before .before in (
-      infer-tagged _ _ _ _ _ _ _ _ _ (omega (arith, after-if1 .if1 .left)) (sym (after-infer-tag-at .infer-tag-at .ensures)) (after-infer-by .infer-by .ensures .0),
-      after-infer-by .infer-by .ensures .1,
-    )
-
--- ── infer_by ──
-
-infer-by-part-requires : (t : ℕ) → infer-by-lts.Need-part-requires (infer-by-calls t) (infer-by-at t) infer-by.Post
-infer-by-part-requires t c κs =
-    let start = c .before .before .before .before .before .before .before .before .before .before .before .before .before .before in
-    start .pre .1
-
-infer-by-infer-requires : (t : ℕ) → infer-by-lts.Need-infer-requires (infer-by-calls t) (infer-by-at t) infer-by.Post
-infer-by-infer-requires t c κs =
-    let start = c .before .before .before .before .before .before .before .before .before .before .before .before .before .before .before in
-    (here-falls _ (start .args .here) _ _ _ _ (c .part .ensures) (start .pre .1) (start .pre .0), tt)
-
-infer-by-part-requires-2 : (t : ℕ) → infer-by-lts.Need-part-requires-2 (infer-by-calls t) (infer-by-at t) infer-by.Post
-infer-by-part-requires-2 t c κs =
-    let start = c .before .before .before .before .before .before .before .before .before .before .before .before .before .before in
-    start .pre .1
-
-infer-by-infer-requires-2 : (t : ℕ) → infer-by-lts.Need-infer-requires-2 (infer-by-calls t) (infer-by-at t) infer-by.Post
-infer-by-infer-requires-2 t c κs =
-    let start = c .before .before .before .before .before .before .before .before .before .before .before .before .before .before .before in
-    (here-falls _ (start .args .here) _ _ _ _ (c .part2 .ensures) (start .pre .1) (start .pre .0), tt)
-
-infer-by-part-requires-3 : (t : ℕ) → infer-by-lts.Need-part-requires-3 (infer-by-calls t) (infer-by-at t) infer-by.Post
-infer-by-part-requires-3 t c κs =
-    let start = c .before .before .before .before .before .before .before .before .before .before .before .before .before .before in
-    start .pre .1
-
-infer-by-infer-requires-3 : (t : ℕ) → infer-by-lts.Need-infer-requires-3 (infer-by-calls t) (infer-by-at t) infer-by.Post
-infer-by-infer-requires-3 t c κs =
-    let start = c .before .before .before .before .before .before .before .before .before .before .before .before .before .before .before in
-    (here-falls _ (start .args .here) _ _ _ _ (c .part3 .ensures) (start .pre .1) (start .pre .0), tt)
-
-infer-by-returns : (t : ℕ) → infer-by-lts.Need-returns (infer-by-calls t) (infer-by-at t) infer-by.Post
-infer-by-returns t c =
-    let after-if1 = c .before in
-    let after-goes-on = after-if1 .before in
+    let after-if2 = c .before in
+    let after-goes-on = after-if2 .before in
     let after-put-to-use = after-goes-on .before .before .before in
     let after-end-in = after-put-to-use .before in
     let after-infer3 = after-end-in .before .before .before .before .before in
     let after-part3 = after-infer3 .before in
-    let after-enum-told5 = after-part3 .before .before .before in
-    let after-past = after-enum-told5 .before .before in (
-      rw (after-enum-told5 .enum-told5 .given .1) (infer-apply-stopped _ _ _ _ _ _ _ (after-past .past .ensures .0) (rw (after-part3 .part3 .ensures) at (after-infer3 .infer3 .ensures .0)) (after-end-in .end-in .ensures) (after-put-to-use .put-to-use .ensures .0) (after-put-to-use .put-to-use .ensures .1) (c .nothing .ensures) (fails-where (after-goes-on .goes-on .result) (after-if1 .if1 .taken) (after-goes-on .goes-on .ensures))),
+    let after-infer-tag-at3 = after-part3 .before in
+    let after-enum-told5 = after-infer-tag-at3 .before .before .before in
+    let after-past = after-enum-told5 .before .before in
+    let after-if1 = after-past .before in
+    let start = after-if1 .before .before .before .before .before .before .before .before .before .before .before in (
+      λ is. infer-tagged _ _ _ _ _ _ (start .args .here .left - 1) _ _ (omega (arith, after-if1 .if1 .left)) (sym is ∙ after-enum-told5 .enum-told5 .given .1) (infer-apply-stopped _ _ _ _ _ _ _ (after-past .past .ensures .0) ((rw (after-part3 .part3 .ensures) at (after-infer3 .infer3 .ensures .0)) (after-infer-tag-at3 .infer-tag-at3 .ensures)) (after-end-in .end-in .ensures) (after-put-to-use .put-to-use .ensures .0) (after-put-to-use .put-to-use .ensures .1) (c .nothing2 .ensures) (fails-where (after-goes-on .goes-on .result) (after-if2 .if2 .taken) (after-goes-on .goes-on .ensures))),
       (rw (after-part3 .part3 .ensures) at (after-infer3 .infer3 .ensures .1)),
     )
 
-infer-by-part-requires-4 : (t : ℕ) → infer-by-lts.Need-part-requires-4 (infer-by-calls t) (infer-by-at t) infer-by.Post
-infer-by-part-requires-4 t c κs =
-    let start = c .before .before .before .before .before .before .before .before .before .before .before .before .before .before .before .before .before .before .before .before .before .before .before .before .before .before .before .before in
-    start .pre .1
+infer-part-requires-4 : (t : ℕ) → infer-lts.Need-part-requires-4 (infer-calls t) (infer-at t) infer.Post
+infer-part-requires-4 t c κs =
+    let after-if1 = c .before .before .before .before .before .before .before .before .before .before .before .before .before .before .before .before .before .before .before .before in
+    omega (arith, after-if1 .if1 .left)
 
-infer-by-check-requires : (t : ℕ) → infer-by-lts.Need-check-requires (infer-by-calls t) (infer-by-at t) infer-by.Post
-infer-by-check-requires t c κs =
-    let start = c .before .before .before .before .before .before .before .before .before .before .before .before .before .before .before .before .before .before .before .before .before .before .before .before .before .before .before .before .before in
-    (here-falls _ (start .args .here) _ _ _ _ (c .part4 .ensures) (start .pre .1) (start .pre .0), tt)
+infer-check-requires : (t : ℕ) → infer-lts.Need-check-requires (infer-calls t) (infer-at t) infer.Post
+infer-check-requires t c κs =
+    let after-if1 = c .before .before .before .before .before .before .before .before .before .before .before .before .before .before .before .before .before .before .before .before .before in
+    let start = after-if1 .before .before .before .before .before .before .before .before .before .before .before in
+    (here-falls _ (start .args .here) _ _ _ _ _ (c .part4 .ensures) (omega (arith, after-if1 .if1 .left)) (start .pre .0), tt)
 
-infer-by-part-requires-5 : (t : ℕ) → infer-by-lts.Need-part-requires-5 (infer-by-calls t) (infer-by-at t) infer-by.Post
-infer-by-part-requires-5 t c κs =
-    let start = c .before .before .before .before .before .before .before .before .before .before .before .before .before .before .before in
-    start .pre .1
+infer-part-requires-5 : (t : ℕ) → infer-lts.Need-part-requires-5 (infer-calls t) (infer-at t) infer.Post
+infer-part-requires-5 t c κs =
+    let after-if1 = c .before .before .before .before .before .before .before in
+    omega (arith, after-if1 .if1 .left)
 
-infer-by-infer-requires-4 : (t : ℕ) → infer-by-lts.Need-infer-requires-4 (infer-by-calls t) (infer-by-at t) infer-by.Post
-infer-by-infer-requires-4 t c κs =
-    let start = c .before .before .before .before .before .before .before .before .before .before .before .before .before .before .before .before in
-    (here-falls _ (start .args .here) _ _ _ _ (c .part5 .ensures) (start .pre .1) (start .pre .0), tt)
+infer-infer-requires-4 : (t : ℕ) → infer-lts.Need-infer-requires-4 (infer-calls t) (infer-at t) infer.Post
+infer-infer-requires-4 t c κs =
+    let after-if1 = c .before .before .before .before .before .before .before .before in
+    let start = after-if1 .before .before .before .before .before .before .before .before .before .before .before in
+    (here-falls _ (start .args .here) _ _ _ _ _ (c .part5 .ensures) (omega (arith, after-if1 .if1 .left)) (start .pre .0), tt)
 
-infer-by-returns-2 : (t : ℕ) → infer-by-lts.Need-returns-2 (infer-by-calls t) (infer-by-at t) infer-by.Post
-infer-by-returns-2 t c =
-    let after-enum-told = c .before .before in (
-      rw (after-enum-told .enum-told .given .1) (infer-local _ _ _ _ _ _ _ (c .local .ensures)),
+infer-returns-3 : (t : ℕ) → infer-lts.Need-returns-3 (infer-calls t) (infer-at t) infer.Post
+infer-returns-3 t c =
+    let after-enum-told = c .before .before in
+    let after-if1 = after-enum-told .before .before .before in
+    let start = after-if1 .before .before .before .before .before .before .before .before .before .before .before in (
+      λ is. infer-tagged _ _ _ _ _ _ (start .args .here .left - 1) _ _ (omega (arith, after-if1 .if1 .left)) (sym is ∙ after-enum-told .enum-told .given .1) (infer-local _ _ _ _ _ _ _ (c .local .ensures)),
       keeps-same _ _,
     )
 
-infer-by-returns-3 : (t : ℕ) → infer-by-lts.Need-returns-3 (infer-by-calls t) (infer-by-at t) infer-by.Post
-infer-by-returns-3 t c =
-    let after-enum-told2 = c .before in (
-      rw (after-enum-told2 .enum-told2 .given .1) (infer-certificate _ _ _ _ _ _ _ (c .certificate .ensures)),
+infer-returns-4 : (t : ℕ) → infer-lts.Need-returns-4 (infer-calls t) (infer-at t) infer.Post
+infer-returns-4 t c =
+    let after-enum-told2 = c .before in
+    let after-if1 = after-enum-told2 .before .before .before in
+    let start = after-if1 .before .before .before .before .before .before .before .before .before .before .before in (
+      λ is. infer-tagged _ _ _ _ _ _ (start .args .here .left - 1) _ _ (omega (arith, after-if1 .if1 .left)) (sym is ∙ after-enum-told2 .enum-told2 .given .1) (infer-certificate _ _ _ _ _ _ _ (c .certificate .ensures)),
       keeps-same _ _,
     )
 
-infer-by-returns-4 : (t : ℕ) → infer-by-lts.Need-returns-4 (infer-by-calls t) (infer-by-at t) infer-by.Post
-infer-by-returns-4 t c =
+infer-returns-5 : (t : ℕ) → infer-lts.Need-returns-5 (infer-calls t) (infer-at t) infer.Post
+infer-returns-5 t c =
     let after-infer = c .before .before .before .before .before in
     let after-part = after-infer .before in
-    let after-enum-told3 = after-part .before .before .before in
-    let after-past = after-enum-told3 .before .before in (
-      rw (after-enum-told3 .enum-told3 .given .1) (infer-first _ _ _ _ _ _ _ (after-past .past .ensures .0) (rw (after-part .part .ensures) at (after-infer .infer .ensures .0)) (c .first .ensures)),
+    let after-infer-tag-at = after-part .before in
+    let after-enum-told3 = after-infer-tag-at .before .before .before in
+    let after-past = after-enum-told3 .before .before in
+    let after-if1 = after-past .before in
+    let start = after-if1 .before .before .before .before .before .before .before .before .before .before .before in (
+      λ is. infer-tagged _ _ _ _ _ _ (start .args .here .left - 1) _ _ (omega (arith, after-if1 .if1 .left)) (sym is ∙ after-enum-told3 .enum-told3 .given .1) (infer-first _ _ _ _ _ _ _ (after-past .past .ensures .0) ((rw (after-part .part .ensures) at (after-infer .infer .ensures .0)) (after-infer-tag-at .infer-tag-at .ensures)) (c .first .ensures)),
       (rw (after-part .part .ensures) at (after-infer .infer .ensures .1)),
     )
 
-infer-by-returns-5 : (t : ℕ) → infer-by-lts.Need-returns-5 (infer-by-calls t) (infer-by-at t) infer-by.Post
-infer-by-returns-5 t c =
+infer-returns-6 : (t : ℕ) → infer-lts.Need-returns-6 (infer-calls t) (infer-at t) infer.Post
+infer-returns-6 t c =
     let after-infer2 = c .before .before .before .before .before in
     let after-part2 = after-infer2 .before in
-    let after-enum-told4 = after-part2 .before .before .before in
-    let after-past = after-enum-told4 .before .before in (
-      rw (after-enum-told4 .enum-told4 .given .1) (infer-second _ _ _ _ _ _ _ (after-past .past .ensures .0) (rw (after-part2 .part2 .ensures) at (after-infer2 .infer2 .ensures .0)) (c .second .ensures)),
+    let after-infer-tag-at2 = after-part2 .before in
+    let after-enum-told4 = after-infer-tag-at2 .before .before .before in
+    let after-past = after-enum-told4 .before .before in
+    let after-if1 = after-past .before in
+    let start = after-if1 .before .before .before .before .before .before .before .before .before .before .before in (
+      λ is. infer-tagged _ _ _ _ _ _ (start .args .here .left - 1) _ _ (omega (arith, after-if1 .if1 .left)) (sym is ∙ after-enum-told4 .enum-told4 .given .1) (infer-second _ _ _ _ _ _ _ (after-past .past .ensures .0) ((rw (after-part2 .part2 .ensures) at (after-infer2 .infer2 .ensures .0)) (after-infer-tag-at2 .infer-tag-at2 .ensures)) (c .second .ensures)),
       (rw (after-part2 .part2 .ensures) at (after-infer2 .infer2 .ensures .1)),
     )
 
-infer-by-same-length-8 : (t : ℕ) → infer-by-lts.Need-same-length-8 (infer-by-calls t) (infer-by-at t) infer-by.Post
-infer-by-same-length-8 t c =
+infer-same-length-8 : (t : ℕ) → infer-lts.Need-same-length-8 (infer-calls t) (infer-at t) infer.Post
+infer-same-length-8 t c =
     let after-check = c .before .before .before .before .before .before in
     let after-infer3 = after-check .before .before .before .before .before .before .before .before .before .before .before .before .before .before in
     after-check .check .kept .1 .1 .1 .1 .1 .0 ∙ after-infer3 .infer3 .kept .1 .1 .1 .1 .1 .0
 
-infer-by-same-length-9 : (t : ℕ) → infer-by-lts.Need-same-length-9 (infer-by-calls t) (infer-by-at t) infer-by.Post
-infer-by-same-length-9 t c =
+infer-same-length-9 : (t : ℕ) → infer-lts.Need-same-length-9 (infer-calls t) (infer-at t) infer.Post
+infer-same-length-9 t c =
     let after-check = c .before .before .before .before .before .before in
     let after-infer3 = after-check .before .before .before .before .before .before .before .before .before .before .before .before .before .before in
     after-check .check .kept .1 .1 .1 .1 .1 .1 .0 ∙ after-infer3 .infer3 .kept .1 .1 .1 .1 .1 .1 .0
 
-infer-by-returns-6 : (t : ℕ) → infer-by-lts.Need-returns-6 (infer-by-calls t) (infer-by-at t) infer-by.Post
-infer-by-returns-6 t c =
+infer-returns-7 : (t : ℕ) → infer-lts.Need-returns-7 (infer-calls t) (infer-at t) infer.Post
+infer-returns-7 t c =
     let after-check = c .before .before .before .before .before .before in
     let after-part4 = after-check .before in
-    let after-if1 = after-part4 .before .before .before in
-    let after-goes-on = after-if1 .before in
+    let after-if2 = after-part4 .before .before .before in
+    let after-goes-on = after-if2 .before in
     let after-put-to-use = after-goes-on .before .before .before in
     let after-end-in = after-put-to-use .before in
     let after-infer3 = after-end-in .before .before .before .before .before in
     let after-part3 = after-infer3 .before in
-    let after-enum-told5 = after-part3 .before .before .before in
-    let after-past = after-enum-told5 .before .before in (
-      rw (after-enum-told5 .enum-told5 .given .1) (infer-apply _ _ _ _ _ _ _ (after-past .past .ensures .0) (rw (after-part3 .part3 .ensures) at (after-infer3 .infer3 .ensures .0)) (after-end-in .end-in .ensures) (after-put-to-use .put-to-use .ensures .0) (after-put-to-use .put-to-use .ensures .1) (holds-else (after-goes-on .goes-on .result) (after-if1 .if1 .left) (after-goes-on .goes-on .ensures)) (c .part-at .ensures) (checks-kept _ _ _ _ _ _ _ _ _ _ (rw (after-part3 .part3 .ensures) at (after-infer3 .infer3 .ensures .1)) (rw (after-part4 .part4 .ensures) at (after-check .check .ensures .0)))),
+    let after-infer-tag-at3 = after-part3 .before in
+    let after-enum-told5 = after-infer-tag-at3 .before .before .before in
+    let after-past = after-enum-told5 .before .before in
+    let after-if1 = after-past .before in
+    let start = after-if1 .before .before .before .before .before .before .before .before .before .before .before in (
+      λ is. infer-tagged _ _ _ _ _ _ (start .args .here .left - 1) _ _ (omega (arith, after-if1 .if1 .left)) (sym is ∙ after-enum-told5 .enum-told5 .given .1) (infer-apply _ _ _ _ _ _ _ (after-past .past .ensures .0) ((rw (after-part3 .part3 .ensures) at (after-infer3 .infer3 .ensures .0)) (after-infer-tag-at3 .infer-tag-at3 .ensures)) (after-end-in .end-in .ensures) (after-put-to-use .put-to-use .ensures .0) (after-put-to-use .put-to-use .ensures .1) (holds-else (after-goes-on .goes-on .result) (after-if2 .if2 .left) (after-goes-on .goes-on .ensures)) (c .part-at .ensures) (checks-kept _ _ _ _ _ _ _ _ _ _ (rw (after-part3 .part3 .ensures) at (after-infer3 .infer3 .ensures .1)) (rw (after-part4 .part4 .ensures) at (after-check .check .ensures .0)))),
       keeps-then (rw (after-part3 .part3 .ensures) at (after-infer3 .infer3 .ensures .1)) (rw (after-part4 .part4 .ensures) at (after-check .check .ensures .1)),
     )
 
-infer-by-returns-7 : (t : ℕ) → infer-by-lts.Need-returns-7 (infer-by-calls t) (infer-by-at t) infer-by.Post
-infer-by-returns-7 t c =
+infer-returns-8 : (t : ℕ) → infer-lts.Need-returns-8 (infer-calls t) (infer-at t) infer.Post
+infer-returns-8 t c =
     let after-infer4 = c .before .before .before .before .before in
     let after-part5 = after-infer4 .before in
-    let after-term-at = after-part5 .before .before .before in
+    let after-infer-tag-at4 = after-part5 .before in
+    let after-term-at = after-infer-tag-at4 .before .before .before in
     let after-enum-told6 = after-term-at .before in
-    let after-past = after-enum-told6 .before .before in (
-      rw (after-enum-told6 .enum-told6 .given .1) (infer-instance _ _ _ _ _ _ _ (after-past .past .ensures .0) (after-term-at .term-at .ensures .0) (rw (after-part5 .part5 .ensures) at (after-infer4 .infer4 .ensures .0)) (c .instance .ensures (after-term-at .term-at .ensures .1))),
+    let after-past = after-enum-told6 .before .before in
+    let after-if1 = after-past .before in
+    let start = after-if1 .before .before .before .before .before .before .before .before .before .before .before in (
+      λ is. infer-tagged _ _ _ _ _ _ (start .args .here .left - 1) _ _ (omega (arith, after-if1 .if1 .left)) (sym is ∙ after-enum-told6 .enum-told6 .given .1) (infer-instance _ _ _ _ _ _ _ (after-past .past .ensures .0) (after-term-at .term-at .ensures .0) ((rw (after-part5 .part5 .ensures) at (after-infer4 .infer4 .ensures .0)) (after-infer-tag-at4 .infer-tag-at4 .ensures)) (c .instance .ensures (after-term-at .term-at .ensures .1))),
       (rw (after-part5 .part5 .ensures) at (after-infer4 .infer4 .ensures .1)),
     )
 
-infer-by-returns-8 : (t : ℕ) → infer-by-lts.Need-returns-8 (infer-by-calls t) (infer-by-at t) infer-by.Post
-infer-by-returns-8 t c =
-    let after-enum-told7 = c .before .before in (
-      rw (after-enum-told7 .enum-told7 .given .1) (infer-no-tag _ _ _ _ _ _ _),
+infer-returns-9 : (t : ℕ) → infer-lts.Need-returns-9 (infer-calls t) (infer-at t) infer.Post
+infer-returns-9 t c =
+    let after-enum-told7 = c .before .before in
+    let after-if1 = after-enum-told7 .before .before .before in
+    let start = after-if1 .before .before .before .before .before .before .before .before .before .before .before in (
+      λ is. infer-tagged _ _ _ _ _ _ (start .args .here .left - 1) _ _ (omega (arith, after-if1 .if1 .left)) (sym is ∙ after-enum-told7 .enum-told7 .given .1) (infer-no-tag _ _ _ _ _ _ _),
       keeps-same _ _,
     )
 
@@ -489,7 +477,7 @@ pair-part-requires t c κs =
 pair-check-requires : (t : ℕ) → pair-lts.Need-check-requires (pair-calls t) (pair-at t) pair.Post
 pair-check-requires t c κs =
     let start = c .before .before .before .before .before .before .before .before .before .before .before .before .before .before .before .before .before .before in
-    (here-falls _ (start .args .here) _ _ _ _ (c .part .ensures) (start .pre .1) (start .pre .0), tt)
+    (here-falls _ (start .args .here) _ _ _ _ _ (c .part .ensures) (start .pre .1) (start .pre .0), tt)
 
 pair-returns-2 : (t : ℕ) → pair-lts.Need-returns-2 (pair-calls t) (pair-at t) pair.Post
 pair-returns-2 t c =
@@ -513,7 +501,7 @@ pair-part-requires-2 t c κs =
 pair-check-requires-2 : (t : ℕ) → pair-lts.Need-check-requires-2 (pair-calls t) (pair-at t) pair.Post
 pair-check-requires-2 t c κs =
     let start = c .before .before .before .before .before .before .before .before .before .before .before .before .before .before .before .before .before .before .before .before .before .before .before .before .before .before .before .before .before .before in
-    (here-falls _ (start .args .here) _ _ _ _ (c .part2 .ensures) (start .pre .1) (start .pre .0), tt)
+    (here-falls _ (start .args .here) _ _ _ _ _ (c .part2 .ensures) (start .pre .1) (start .pre .0), tt)
 
 pair-same-length-3 : (t : ℕ) → pair-lts.Need-same-length-3 (pair-calls t) (pair-at t) pair.Post
 pair-same-length-3 t c =
@@ -555,9 +543,9 @@ put-in-returns t c =
       keeps-same _ _,
     )
 
-put-in-sub-t25 : (t : ℕ) → put-in-lts.Need-sub-t25 (put-in-calls t) (put-in-at t) put-in.Post
-put-in-sub-t25 t c =
-    let start = c .before .before .before .before .before .before .before .before .before .before .before .before .before .before .before .before .before .before .before in
+put-in-sub-left : (t : ℕ) → put-in-lts.Need-sub-left (put-in-calls t) (put-in-at t) put-in.Post
+put-in-sub-left t c =
+    let start = c .before .before .before .before .before .before .before .before .before .before .before .before .before .before .before .before .before in
     omega (arith, start .pre .1)
 
 put-in-check-requires : (t : ℕ) → put-in-lts.Need-check-requires (put-in-calls t) (put-in-at t) put-in.Post
@@ -568,9 +556,9 @@ put-in-check-requires t c κs =
 put-in-returns-2 : (t : ℕ) → put-in-lts.Need-returns-2 (put-in-calls t) (put-in-at t) put-in.Post
 put-in-returns-2 t c =
     let after-check = c .before .before .before .before in
-    let after-past = after-check .before .before .before .before in
+    let after-past = after-check .before .before .before in
     let after-inside = after-past .before in
-    let after-if1 = after-inside .before in
+    let after-if1 = after-inside .before .before in
     let after-goes-on = after-if1 .before in
     let after-inside-of = after-goes-on .before .before .before .before in
     let start = after-inside-of .before .before .before .before .before .before .before .before .before .before .before in (
@@ -582,13 +570,13 @@ put-in-returns-2 t c =
 
 take-out-part-requires : (t : ℕ) → take-out-lts.Need-part-requires (take-out-calls t) (take-out-at t) take-out.Post
 take-out-part-requires t c κs =
-    let start = c .before .before .before .before .before .before .before .before .before .before .before .before .before in
+    let start = c .before .before .before .before .before .before .before .before .before .before .before .before .before .before in
     start .pre .1
 
 take-out-infer-requires : (t : ℕ) → take-out-lts.Need-infer-requires (take-out-calls t) (take-out-at t) take-out.Post
 take-out-infer-requires t c κs =
-    let start = c .before .before .before .before .before .before .before .before .before .before .before .before .before .before in
-    (here-falls _ (start .args .here) _ _ _ _ (c .part .ensures) (start .pre .1) (start .pre .0), tt)
+    let start = c .before .before .before .before .before .before .before .before .before .before .before .before .before .before .before in
+    (here-falls _ (start .args .here) _ _ _ _ _ (c .part .ensures) (start .pre .1) (start .pre .0), tt)
 
 take-out-returns : (t : ℕ) → take-out-lts.Need-returns (take-out-calls t) (take-out-at t) take-out.Post
 take-out-returns t c =
@@ -596,8 +584,9 @@ take-out-returns t c =
     let after-inside-inferred = after-goes-on .before .before .before in
     let after-infer = after-inside-inferred .before .before .before .before .before in
     let after-part = after-infer .before in
-    let after-past = after-part .before in (
-      check-take-stopped _ _ _ _ _ _ _ _ _ _ (after-past .past .ensures .0) (rw (after-part .part .ensures) at (after-infer .infer .ensures .0)) (after-inside-inferred .inside-inferred .ensures .0) (after-inside-inferred .inside-inferred .ensures .1) (fails-where (after-goes-on .goes-on .result) (c .if1 .taken) (after-goes-on .goes-on .ensures)),
+    let after-infer-tag-at = after-part .before in
+    let after-past = after-infer-tag-at .before .before .before in (
+      check-take-stopped _ _ _ _ _ _ _ _ _ _ (after-past .past .ensures .0) ((rw (after-part .part .ensures) at (after-infer .infer .ensures .0)) (after-infer-tag-at .infer-tag-at .ensures)) (after-inside-inferred .inside-inferred .ensures .0) (after-inside-inferred .inside-inferred .ensures .1) (fails-where (after-goes-on .goes-on .result) (c .if1 .taken) (after-goes-on .goes-on .ensures)),
       (rw (after-part .part .ensures) at (after-infer .infer .ensures .1)),
     )
 
@@ -607,19 +596,20 @@ take-out-returns-2 t c =
     let after-inside-inferred = after-if2 .before .before .before .before .before in
     let after-infer = after-inside-inferred .before .before .before .before .before in
     let after-part = after-infer .before in
-    let after-past = after-part .before in (
-      check-take-full _ _ _ _ _ _ _ _ _ _ (after-past .past .ensures .0) (rw (after-part .part .ensures) at (after-infer .infer .ensures .0)) (after-inside-inferred .inside-inferred .ensures .0) (after-inside-inferred .inside-inferred .ensures .1) (after-if2 .if2 .taken),
+    let after-infer-tag-at = after-part .before in
+    let after-past = after-infer-tag-at .before .before .before in (
+      check-take-full _ _ _ _ _ _ _ _ _ _ (after-past .past .ensures .0) ((rw (after-part .part .ensures) at (after-infer .infer .ensures .0)) (after-infer-tag-at .infer-tag-at .ensures)) (after-inside-inferred .inside-inferred .ensures .0) (after-inside-inferred .inside-inferred .ensures .1) (after-if2 .if2 .taken),
       (rw (after-part .part .ensures) at (after-infer .infer .ensures .1)),
     )
 
-take-out-sub-t35 : (t : ℕ) → take-out-lts.Need-sub-t35 (take-out-calls t) (take-out-at t) take-out.Post
-take-out-sub-t35 t c =
-    let start = c .before .before .before .before .before .before .before .before .before .before .before .before .before .before .before .before .before .before .before .before .before .before .before .before .before .before .before .before .before .before in
+take-out-sub-left : (t : ℕ) → take-out-lts.Need-sub-left (take-out-calls t) (take-out-at t) take-out.Post
+take-out-sub-left t c =
+    let start = c .before .before .before .before .before .before .before .before .before .before .before .before .before .before .before .before .before .before .before .before .before .before .before .before .before .before .before .before .before .before .before in
     omega (arith, start .pre .1)
 
 take-out-check-requires : (t : ℕ) → take-out-lts.Need-check-requires (take-out-calls t) (take-out-at t) take-out.Post
 take-out-check-requires t c κs =
-    let start = c .before .before .before .before .before .before .before .before .before .before .before .before .before .before .before .before .before .before .before .before .before .before .before .before .before .before .before .before .before .before .before .before in
+    let start = c .before .before .before .before .before .before .before .before .before .before .before .before .before .before .before .before .before .before .before .before .before .before .before .before .before .before .before .before .before .before .before .before .before in
     (part-falls _ (start .args .here) _ _ (start .pre .1) (start .pre .0), tt)
 
 take-out-same-length-5 : (t : ℕ) → take-out-lts.Need-same-length-5 (take-out-calls t) (take-out-at t) take-out.Post
@@ -644,23 +634,22 @@ take-out-returns-3 t c =
     let after-inside-inferred = after-goes-on .before .before .before in
     let after-infer = after-inside-inferred .before .before .before .before .before in
     let after-part = after-infer .before in
-    let after-past = after-part .before in (
-      check-take _ _ _ _ _ _ _ _ _ _ (after-past .past .ensures .0) (rw (after-part .part .ensures) at (after-infer .infer .ensures .0)) (after-inside-inferred .inside-inferred .ensures .0) (after-inside-inferred .inside-inferred .ensures .1) (holds-else (after-goes-on .goes-on .result) (after-if1 .if1 .left) (after-goes-on .goes-on .ensures)) (rw (after-part .part .ensures) at (after-infer .infer .ensures .1)) (after-put-row .put-row .ensures .0) (keeps-others _ _ _ (after-put-row .put-row .ensures .1) (after-put-row .put-row .kept .0)) (after-check .check .ensures .0),
+    let after-infer-tag-at = after-part .before in
+    let after-past = after-infer-tag-at .before .before .before in (
+      check-take _ _ _ _ _ _ _ _ _ _ (after-past .past .ensures .0) ((rw (after-part .part .ensures) at (after-infer .infer .ensures .0)) (after-infer-tag-at .infer-tag-at .ensures)) (after-inside-inferred .inside-inferred .ensures .0) (after-inside-inferred .inside-inferred .ensures .1) (holds-else (after-goes-on .goes-on .result) (after-if1 .if1 .left) (after-goes-on .goes-on .ensures)) (rw (after-part .part .ensures) at (after-infer .infer .ensures .1)) (after-put-row .put-row .ensures .0) (keeps-others _ _ _ (after-put-row .put-row .ensures .1) (after-put-row .put-row .kept .0)) (after-check .check .ensures .0),
       keeps-then (rw (after-part .part .ensures) at (after-infer .infer .ensures .1)) (keeps-put (keeps-others _ _ _ (after-put-row .put-row .ensures .1) (after-put-row .put-row .kept .0)) (after-check .check .ensures .1)),
     )
 
-pub +check+infer+infer-by+pair+put-in+take-out-spec : {M : Type 1} → statement M
-+check+infer+infer-by+pair+put-in+take-out-spec =
-    close μ-check μ-infer μ-infer-by μ-pair μ-put-in μ-take-out
+pub +check+infer+pair+put-in+take-out-spec : {M : Type 1} → statement M
++check+infer+pair+put-in+take-out-spec =
+    close μ-check μ-infer μ-pair μ-put-in μ-take-out
     (λ t. check-lts.spec (check-calls t) (check-at t) check.Post
-    (λ c κs. search needs) (check-returns t) (λ c κs. search needs) (λ c. search needs) (check-pair-requires t) (λ c. search needs) (λ c κs. search needs) (λ c κs. search needs) (λ c. search needs) (check-put-in-requires t) (λ c. search needs) (check-take-out-requires t) (λ c. search needs) (check-put-in-requires-2 t) (λ c. search needs) (check-take-out-requires-2 t) (λ c. search needs) (λ c κs. search needs) (λ c κs. search needs) (λ c. search needs) (λ c κs. search needs) (λ c κs. search needs) (λ c. search needs) (λ c κs. search needs) (check-infer-by-requires t) (λ c κs. search needs) (λ c. search needs) (λ c κs. search needs) (λ c. search needs) (λ c. search needs) (check-returns-2 t) (check-returns-3 t) (λ c. search needs) (λ c. search needs) (check-returns-4 t) (λ c. search needs) (λ c. search needs) (check-returns-5 t) (λ c. search needs) (λ c. search needs) (check-returns-6 t) (λ c. search needs) (λ c. search needs) (check-returns-7 t) (λ c. search needs) (check-returns-8 t) (check-returns-9 t) (λ c. search needs) (λ c. search needs) (check-returns-10 t) (check-returns-11 t))
+    (λ c κs. search needs) (check-returns t) (λ c κs. search needs) (λ c. search needs) (check-pair-requires t) (λ c. search needs) (λ c κs. search needs) (λ c κs. search needs) (λ c. search needs) (check-put-in-requires t) (λ c. search needs) (check-take-out-requires t) (λ c. search needs) (check-put-in-requires-2 t) (λ c. search needs) (check-take-out-requires-2 t) (λ c. search needs) (λ c κs. search needs) (λ c κs. search needs) (λ c. search needs) (λ c κs. search needs) (λ c κs. search needs) (λ c. search needs) (λ c κs. search needs) (check-infer-requires t) (λ c κs. search needs) (λ c. search needs) (λ c κs. search needs) (λ c. search needs) (λ c. search needs) (check-returns-2 t) (check-returns-3 t) (λ c. search needs) (λ c. search needs) (check-returns-4 t) (λ c. search needs) (λ c. search needs) (check-returns-5 t) (λ c. search needs) (λ c. search needs) (check-returns-6 t) (λ c. search needs) (λ c. search needs) (check-returns-7 t) (λ c. search needs) (check-returns-8 t) (check-returns-9 t) (λ c. search needs) (λ c. search needs) (check-returns-10 t) (check-returns-11 t))
     (λ t. infer-lts.spec (infer-calls t) (infer-at t) infer.Post
-    (λ c κs. search needs) (λ c κs. search needs) (infer-returns t) (λ c κs. search needs) (λ c κs. search needs) (infer-returns-2 t) (λ c κs. search needs) (infer-infer-by-requires t) (λ c. search needs) (λ c. search needs) (infer-returns-3 t))
-    (λ t. infer-by-lts.spec (infer-by-calls t) (infer-by-at t) infer-by.Post
-    (λ c κs. search needs) (λ c. search needs) (λ c κs. search needs) (λ c. search needs) (λ c κs. search needs) (λ c. search needs) (infer-by-part-requires t) (infer-by-infer-requires t) (λ c κs. search needs) (λ c. search needs) (infer-by-part-requires-2 t) (infer-by-infer-requires-2 t) (λ c κs. search needs) (λ c. search needs) (infer-by-part-requires-3 t) (infer-by-infer-requires-3 t) (λ c κs. search needs) (λ c κs. search needs) (λ c κs. search needs) (λ c κs. search needs) (λ c. search needs) (λ c. search needs) (infer-by-returns t) (infer-by-part-requires-4 t) (infer-by-check-requires t) (λ c κs. search needs) (λ c. search needs) (λ c κs. search needs) (infer-by-part-requires-5 t) (infer-by-infer-requires-4 t) (λ c κs. search needs) (λ c. search needs) (λ c κs. search needs) (λ c κs. search needs) (λ c. search needs) (infer-by-returns-2 t) (infer-by-returns-3 t) (λ c. search needs) (λ c. search needs) (infer-by-returns-4 t) (λ c. search needs) (λ c. search needs) (infer-by-returns-5 t) (infer-by-same-length-8 t) (infer-by-same-length-9 t) (infer-by-returns-6 t) (λ c. search needs) (λ c. search needs) (infer-by-returns-7 t) (infer-by-returns-8 t))
+    (λ c κs. search needs) (λ c κs. search needs) (infer-returns t) (λ c κs. search needs) (λ c. search needs) (λ c κs. search needs) (λ c. search needs) (λ c κs. search needs) (λ c. search needs) (λ c κs. search needs) (infer-part-requires t) (infer-infer-requires t) (λ c κs. search needs) (λ c. search needs) (λ c κs. search needs) (infer-part-requires-2 t) (infer-infer-requires-2 t) (λ c κs. search needs) (λ c. search needs) (λ c κs. search needs) (infer-part-requires-3 t) (infer-infer-requires-3 t) (λ c κs. search needs) (λ c κs. search needs) (λ c κs. search needs) (λ c κs. search needs) (λ c. search needs) (λ c. search needs) (infer-returns-2 t) (infer-part-requires-4 t) (infer-check-requires t) (λ c κs. search needs) (λ c. search needs) (λ c κs. search needs) (λ c κs. search needs) (infer-part-requires-5 t) (infer-infer-requires-4 t) (λ c κs. search needs) (λ c. search needs) (λ c κs. search needs) (λ c κs. search needs) (λ c. search needs) (infer-returns-3 t) (infer-returns-4 t) (λ c. search needs) (λ c. search needs) (infer-returns-5 t) (λ c. search needs) (λ c. search needs) (infer-returns-6 t) (infer-same-length-8 t) (infer-same-length-9 t) (infer-returns-7 t) (λ c. search needs) (λ c. search needs) (infer-returns-8 t) (infer-returns-9 t))
     (λ t. pair-lts.spec (pair-calls t) (pair-at t) pair.Post
     (λ c κs. search needs) (λ c κs. search needs) (pair-returns t) (λ c κs. search needs) (λ c κs. search needs) (pair-part-requires t) (pair-check-requires t) (λ c κs. search needs) (λ c. search needs) (λ c. search needs) (pair-returns-2 t) (λ c κs. search needs) (pair-part-requires-2 t) (pair-check-requires-2 t) (pair-same-length-3 t) (pair-same-length-4 t) (pair-returns-3 t))
     (λ t. put-in-lts.spec (put-in-calls t) (put-in-at t) put-in.Post
-    (λ c κs. search needs) (λ c κs. search needs) (put-in-returns t) (λ c κs. search needs) (λ c κs. search needs) (put-in-sub-t25 t) (put-in-check-requires t) (λ c. search needs) (λ c. search needs) (put-in-returns-2 t))
+    (λ c κs. search needs) (λ c κs. search needs) (put-in-returns t) (put-in-sub-left t) (λ c κs. search needs) (λ c κs. search needs) (put-in-check-requires t) (λ c. search needs) (λ c. search needs) (put-in-returns-2 t))
     (λ t. take-out-lts.spec (take-out-calls t) (take-out-at t) take-out.Post
-    (λ c κs. search needs) (take-out-part-requires t) (take-out-infer-requires t) (λ c κs. search needs) (λ c κs. search needs) (λ c. search needs) (λ c. search needs) (take-out-returns t) (λ c κs. search needs) (λ c. search needs) (λ c. search needs) (take-out-returns-2 t) (λ c κs. search needs) (λ c. search needs) (take-out-sub-t35 t) (take-out-check-requires t) (take-out-same-length-5 t) (take-out-same-length-6 t) (take-out-returns-3 t))
+    (λ c κs. search needs) (λ c κs. search needs) (take-out-part-requires t) (take-out-infer-requires t) (λ c κs. search needs) (λ c κs. search needs) (λ c. search needs) (λ c. search needs) (take-out-returns t) (λ c κs. search needs) (λ c. search needs) (λ c. search needs) (take-out-returns-2 t) (λ c κs. search needs) (λ c. search needs) (take-out-sub-left t) (take-out-check-requires t) (take-out-same-length-5 t) (take-out-same-length-6 t) (take-out-returns-3 t))
