@@ -1,4 +1,5 @@
 // Whether bytes are a proof. No function calls itself: of what is still to be read one thing is at hand, and the others wait on a small stack, the newest last.
+use crate::MOST_PROOF_LEVELS;
 use crate::ends::note_end;
 use crate::todo::Opened;
 use crate::todo::Todo;
@@ -24,7 +25,7 @@ pub fn well_formed(proof: &[u8], certificates: usize, ends: &mut [u16]) -> bool
         return false;
     }
     let mut waiting = [0u64; MOST_WAITING];
-    let mut todo = Todo::Checking(32, 0);
+    let mut todo = Todo::Checking(MOST_PROOF_LEVELS, 0);
     let mut count: usize = 1;
     let mut place: usize = 0;
     let mut states: usize = 0;
