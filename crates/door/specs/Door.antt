@@ -4,6 +4,8 @@ use mathlib.Core.Path.{_≡_}
 use mathlib.Core.List.{List, [], _∷_}
 use mathlib.Core.Option.{some}
 use native.Mathlib.Decide.{decLe}
+use lib.ListN.{take}
+use Rattle.procap.specs.Lent.{Lent}
 use Rattle.procap.specs.Facts.{Spelled}
 use Rattle.procap.specs.Procaps.{listed}
 use Rattle.procap.specs.Answers.{number-of, place-of}
@@ -15,6 +17,7 @@ use Rattle.procap.specs.declared.answer.Answer.{Answer}
 use Rattle.procap.specs.declared.answer.Answer.the-variants.{RequestDiffers, MomentOutside, FactMissing, ProcapMalformed}
 use Rattle.procap.specs.declared.procap.Request.{Request}
 use Rattle.procap.specs.declared.procap.Procap.{Procap}
+use Rattle.text.specs.Places.{OnLines}
 use Rattle.text.specs.Calls.{reading}
 
 -- [Numbers 10] Each fact holds; the first that does not is named by its index, the first of these being i.
@@ -27,6 +30,11 @@ each-holds m σ i (f ∷ fs) =
 -- The answer names the first of these facts that does not hold, in bytes that are a state.
 abbrev pub NamesMissing : ℕ → List ℕ → List Spelled → Answer → Type 0
 NamesMissing m state fs answer = (σ : List Spelled) → stated state ≡ some σ → answer ≡ answer-of (each-holds m σ 0 fs)
+
+-- The same of the facts on the lines of a text that begin at the first so many places.
+abbrev pub NamesMissingOn : Lent → List ℕ → ℕ → ℕ → Lent → Answer → Type 0
+NamesMissingOn text places count m state answer =
+    (fs : List Spelled) → OnLines (text .entry .now) (take count places) fs → NamesMissing m (state .entry .now) fs answer
 
 -- What comes before the facts, for a procap with this request and these moments: 11, 7, 8, 9, and else the state.
 unfoldable pub before-facts : Request → ℕ → ℕ → Request → ℕ → List ℕ → Outcome (List Spelled)

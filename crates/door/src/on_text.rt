@@ -6,15 +6,11 @@ use state::holds_at;
 use text::facts::fact_at;
 use text::reader::look_over;
 ghost use mathlib.Core.Path.{_≡_};
-ghost use mathlib.Core.List.{List};
 ghost use Prim.Native.Nat.{_≤_, _<_};
-ghost use lib.ListN.{take};
-ghost use Rattle.procap.specs.Facts.{Spelled};
 ghost use Rattle.procap.specs.Procaps.{«most-facts», «request-of»};
-ghost use Rattle.text.specs.Places.{OnLines};
 ghost use Rattle.procap.specs.Answers.{«place-of»};
 ghost use Rattle.procap.specs.Outcome.{«answer-of»};
-ghost use Rattle.door.specs.Door.{«opening-text», NamesMissing, packed};
+ghost use Rattle.door.specs.Door.{«opening-text», NamesMissingOn, packed};
 
 // What the door answers, as 256 times the number plus the place. 12 comes first, for bytes that are no text; a number that is no name is in no request.
 #[no_mangle]
@@ -50,7 +46,7 @@ fn first_line_missing(
     state: &[u8],
 ) -> Answer
     requires { ⌜ count ≤ «most-facts» ⌝ }
-    ensures { λ r. ⌜ ((fs : List Spelled) → OnLines (now (text .entry)) (take count places) fs → NamesMissing moment (now (state .entry)) fs r) ⌝ }
+    ensures { λ r. ⌜ NamesMissingOn text places count moment state r ⌝ }
 {
     let mut i: usize = 0;
     while i < count {

@@ -16,16 +16,16 @@ use procap::time::LATEST_SECOND;
 use procap::time::Time;
 use state::stands_in;
 ghost use mathlib.Core.Path.{_≡_};
-ghost use Prim.Native.Nat.{ℕ, _+_, _*_, _≤_, _<_, min, max};
+ghost use Prim.Native.Nat.{_+_, _*_, _≤_, _<_, min, max};
 ghost use lib.ListN.{length, getD};
 ghost use Rattle.procap.specs.Lists.{In};
 ghost use Rattle.procap.specs.Tells.{Tells};
-ghost use Rattle.procap.specs.Facts.{spelled, «argument-of», «no-argument», «most-terms»};
+ghost use Rattle.procap.specs.Facts.{spelled, «argument-of»};
 ghost use Rattle.procap.specs.Procaps.{«most-facts»};
 ghost use Rattle.bl.specs.Questions.{«ask-order»};
 ghost use Rattle.ledger.specs.Books.{OnClock, begun, opened, keeping, «stop-of», book, Sound, Leads, «list-numbers», «fact-numbers», «argument-in», «facts-in», «fact-in», «stopped-by», misfitted};
 ghost use Rattle.ledger.specs.Asking.{Narrows, AsksFact, ListsFact, «kept-procap»};
-ghost use Rattle.ledger.specs.Putting.{KeptBefore};
+ghost use Rattle.ledger.specs.Putting.{ArgumentsPut, KeptBefore};
 
 // How many numbers a listed fact takes: its predicate, its count, and two for each term.
 pub const FACT_NUMBERS: usize = 10;
@@ -297,7 +297,7 @@ fn put_fact(facts: &mut [u64], index: usize, fact: Fact)
 // Puts the terms of a fact at a place of the list, its zeros too.
 fn put_terms(facts: &mut [u64], at: usize, fact: Fact)
     requires { ⌜ at + 8 ≤ length (now facts) ⌝ }
-    ensures put { λ _. ⌜ ((k : ℕ) → k < «most-terms» → «argument-in» (now (facts .exit)) (at + 2 * k) ≡ getD (fact .arguments) k «no-argument») ⌝ }
+    ensures put { λ _. ⌜ ArgumentsPut fact at (now (facts .exit)) ⌝ }
     ensures kept { λ _. ⌜ KeptBefore at (now (facts .entry)) (now (facts .exit)) ⌝ }
 {
     let mut i: usize = 0;

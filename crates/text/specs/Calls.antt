@@ -9,14 +9,19 @@ use Rattle.procap.specs.Outcome.{Outcome, granted, refused, go-on, or-else, req
 use Rattle.procap.specs.Bytes.{to-the-end}
 use Rattle.procap.specs.Deciding.{writable?}
 use Rattle.procap.specs.declared.answer.Answer.the-variants.{ProcapMalformed, BufferShort}
+use Rattle.procap.specs.declared.procap.Request.{Request}
 use Rattle.procap.specs.declared.procap.Procap.{Procap}
 use Rattle.text.specs.Text.{text-of}
-use Rattle.text.specs.Reader.{text-in}
+use Rattle.text.specs.Reader.{procap-with, text-in}
 use Rattle.text.specs.declared.writer.WrittenText.{WrittenText}
 
 -- [Numbers 12] The procap that was read, if it ends where the bytes do.
 abbrev pub read-to-the-end : List ℕ → Option (Procap × ℕ) → Outcome Procap
 read-to-the-end bytes o = or-else ProcapMalformed (to-the-end bytes o)
+
+-- The same of what comes after the moments: the lines of the facts, for a request and two moments that were read.
+abbrev pub facts-to-the-end : List ℕ → Request → ℕ → ℕ → ℕ → Outcome Procap
+facts-to-the-end bytes request from to at = read-to-the-end bytes (procap-with bytes request from to at)
 
 -- [Numbers 12] The procap that the bytes say.
 unfoldable pub reading : List ℕ → Outcome Procap

@@ -2,15 +2,16 @@
 use Prim.Native.Nat.{ℕ, _+_, _≤_, _<_}
 use mathlib.Core.Bool.{Bool, true, false}
 use mathlib.Core.Path.{_≡_}
-use mathlib.Core.List.{List, [], _∷_}
+use mathlib.Core.List.{List, [], _∷_, map}
 use mathlib.Core.Option.{Option, some, none}
 use lib.ListN.{length, take, drop}
-use Rattle.procap.specs.Lists.{In, Distinct}
+use Rattle.procap.specs.Lists.{pad, In, Distinct}
 use Rattle.procap.specs.Tells.{Tells}
-use Rattle.procap.specs.Facts.{Spelled}
+use Rattle.procap.specs.Facts.{Spelled, fact-of, no-fact}
 use Rattle.procap.specs.Procaps.{most-facts, procap-of}
 use Rattle.procap.specs.Outcome.{Outcome, granted, refused}
 use Rattle.procap.specs.declared.answer.Answer.the-variants.{ProcapMalformed, InputMalformed}
+use Rattle.procap.specs.declared.fact.Fact.{Fact}
 use Rattle.procap.specs.declared.procap.Procap.{Procap}
 use Rattle.procap.specs.declared.procap.Request.{Request}
 use Rattle.text.specs.Numbers.{digit-zero, leading-digits}
@@ -69,6 +70,14 @@ OnLines text (p ∷ ps) (f ∷ fs) = ((e : ℕ) × ReadsAt text p f e) × OnLine
 abbrev pub StandsBefore : List ℕ → ℕ → ℕ → List ℕ → ℕ → Bool → Type 0
 StandsBefore text at end places count r =
     (f : Spelled) (fs : List Spelled) → ReadsAt text at f end → OnLines text (take count places) fs → Tells r (In f fs)
+
+-- The flag tells whether the line from a place to its end and the line at another place are of one fact.
+abbrev pub SameLine : List ℕ → ℕ → ℕ → ℕ → Bool → Type 0
+SameLine text at end other r = (f g : Spelled) (e : ℕ) → ReadsAt text at f end → ReadsAt text other g e → Tells r (f ≡ g)
+
+-- The facts on the lines at the first so many places, with zeros past them.
+abbrev pub FactsOn : List ℕ → List ℕ → ℕ → List Fact → Type 0
+FactsOn text places count r = (fs : List Spelled) → OnLines text (take count places) fs → r ≡ pad most-facts no-fact (map fact-of fs)
 
 -- So many lines of facts that a reader finds, no two alike, by their places, and the place after them; or, by the flag, there are no such lines.
 abbrev pub LinesFound : List ℕ → Option (List Spelled × ℕ) → ℕ → Bool → List ℕ → ℕ → Type 0

@@ -7,13 +7,11 @@ ghost use mathlib.Core.Path.{_≡_};
 ghost use mathlib.Core.List.{List, map};
 ghost use Prim.Native.Nat.{ℕ, _≤_};
 ghost use lib.ListN.{take};
-ghost use Rattle.procap.specs.Lists.{pad};
 ghost use Rattle.procap.specs.Tells.{Tells};
-ghost use Rattle.procap.specs.Facts.{Spelled, «fact-of», «no-fact»};
 ghost use Rattle.procap.specs.Procaps.{«most-facts»};
 ghost use Rattle.procap.specs.Bytes.{many};
 ghost use Rattle.text.specs.Reader.{«fact-line»};
-ghost use Rattle.text.specs.Places.{OnLines, LinesReads, ReadsAt, StandsBefore};
+ghost use Rattle.text.specs.Places.{OnLines, LinesReads, ReadsAt, StandsBefore, SameLine, FactsOn};
 
 // How many bytes the word takes with which every line of a fact begins.
 const WORD_BYTES: usize = 5;
@@ -86,7 +84,7 @@ fn stood_before(
 
 // Whether the line of a fact, up to its end, is the line at another place too.
 fn same_line(text: &[u8], at: usize, end: usize, other: usize) -> bool
-    ensures { λ r. ⌜ ((f g : Spelled) (e : ℕ) → ReadsAt (now (text .entry)) at f end → ReadsAt (now (text .entry)) other g e → Tells r (f ≡ g)) ⌝ }
+    ensures { λ r. ⌜ SameLine (now (text .entry)) at end other r ⌝ }
 {
     if text.len() <= at {
         return false;
@@ -115,7 +113,7 @@ fn same_line(text: &[u8], at: usize, end: usize, other: usize) -> bool
 // The facts on the lines at the first so many places, with zeros past them.
 pub(crate) fn facts_on(text: &[u8], places: [usize; MOST_FACTS], count: usize) -> [Fact; MOST_FACTS]
     requires { ⌜ count ≤ «most-facts» ⌝ }
-    ensures { λ r. ⌜ ((fs : List Spelled) → OnLines (now (text .entry)) (take count places) fs → r ≡ pad «most-facts» «no-fact» (map «fact-of» fs)) ⌝ }
+    ensures { λ r. ⌜ FactsOn (now (text .entry)) places count r ⌝ }
 {
     let none = Fact::none();
     let mut facts = [none; MOST_FACTS];

@@ -15,9 +15,9 @@ ghost use mathlib.Core.Bool.{Bool};
 ghost use mathlib.Core.Path.{_≡_};
 ghost use Rattle.procap.specs.Procaps.{«empty-procap»};
 ghost use Rattle.procap.specs.Outcome.{«answer-of», «procap-handed»};
-ghost use Rattle.text.specs.Reader.{«moment-lines», «procap-with»};
+ghost use Rattle.text.specs.Reader.{«moment-lines»};
 ghost use Rattle.text.specs.Places.{MomentsReads, Sees};
-ghost use Rattle.text.specs.Calls.{«read-to-the-end», reading};
+ghost use Rattle.text.specs.Calls.{«facts-to-the-end», reading};
 
 // The answer of reading a text, and the procap that it says.
 pub struct ReadText {
@@ -95,7 +95,7 @@ pub fn look_over(text: &[u8]) -> Overview
 
 // The same of a request, two moments and the facts from a place to the end of the text.
 fn look_over_facts(text: &[u8], request: Request, from: u64, to: u64, at: usize) -> Overview
-    ensures { λ r. ⌜ Sees (now (text .entry)) («read-to-the-end» (now (text .entry)) («procap-with» (now (text .entry)) request from to at)) r ⌝ }
+    ensures { λ r. ⌜ Sees (now (text .entry)) («facts-to-the-end» (now (text .entry)) request from to at) r ⌝ }
 {
     let NumberRead::Number(facts, after_count) = line(text, at, b"facts=", MOST_FACTS as u64) else {
         return nothing_seen();

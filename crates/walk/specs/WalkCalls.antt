@@ -5,7 +5,7 @@ use lib.ListN.{getD}
 use Rattle.procap.specs.Lent.{Lent}
 use Rattle.bl.specs.declared.InferTag.{InferTag}
 use Rattle.bl.specs.declared.CheckTag.{CheckTag}
-use Rattle.bl.specs.declared.CheckTag.the-variants.{AtInTag, AtOutTag, SaysInTag, SaysOutTag}
+use Rattle.bl.specs.declared.CheckTag.the-variants.{PairTag, AtInTag, AtOutTag, SaysInTag, SaysOutTag}
 use Rattle.bl.specs.Tags.{infer-tag}
 use Rattle.formula.specs.declared.parts.Judgement.{Judgement}
 use Rattle.judging.specs.declared.judge.Inferred.{Inferred}
@@ -46,6 +46,10 @@ module _ (S : Sources) (facts assumptions : Lent) where
     abbrev pub ChecksTagged : CheckTag → Type 0
     ChecksTagged tag =
         ChecksBy S (assumptions .entry .now) (here .scope) (here .ledger) (facts .entry .now) (here .left - 1) tag (goal-bytes .entry .now) goal (here .at) r (facts .exit .now)
+
+    -- Both sides of a conjunction.
+    abbrev pub ChecksPair : Type 0
+    ChecksPair = ChecksTagged PairTag
 
     -- The step that puts a formula into a shell, and the one that takes it out.
     abbrev pub ChecksPut : Shell → Type 0

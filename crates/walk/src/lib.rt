@@ -33,7 +33,7 @@ use steps::infer_tag_at;
 use steps::term_at;
 ghost use mathlib.Core.Path.{_≡_};
 ghost use Prim.Native.Nat.{_-_, _<_};
-ghost use Rattle.walk.specs.WalkCalls.{sources, Infers, Checks, ChecksTagged, ChecksPut, ChecksTaken, KeepsRows};
+ghost use Rattle.walk.specs.WalkCalls.{sources, Infers, Checks, ChecksPair, ChecksPut, ChecksTaken, KeepsRows};
 
 // Where the walk stands: in which scope, at which step, with what ledger, and how many levels are left there.
 pub struct Here {
@@ -147,7 +147,7 @@ fn pair(
     goal_bytes: &[u8], goal: Judgement, here: Here,
 ) -> Checked
     requires { ⌜ 0 < here .left ⌝ }
-    ensures walks { λ r. ⌜ ChecksTagged (sources buffer proof state certificates ends) facts assumptions «goal_bytes» goal here r CheckTag.PairTag ⌝ }
+    ensures walks { λ r. ⌜ ChecksPair (sources buffer proof state certificates ends) facts assumptions «goal_bytes» goal here r ⌝ }
     ensures keeps { λ _. ⌜ KeepsRows here assumptions ⌝ }
 {
     let at = here.at;
