@@ -307,7 +307,7 @@ pub fn second(buffer: &[u8], offset: usize, inferred: Inferred) -> Inferred
     }
 }
 
-// 26, before its second step: the implication that was inferred is put to use on the times that stand after that step, which ends at a place.
+// 26, before its second step: the implication that was inferred is put to use, where the walk goes on, on the times that stand after that step, which ends at a place.
 pub fn put_to_use(
     buffer: &[u8],
     proof: &[u8],
@@ -329,6 +329,21 @@ pub fn put_to_use(
             next: 0,
         };
     }
+    applied(buffer, proof, offset, inferred, second_end)
+}
+
+// Both sides of the implication that was inferred, on the times that stand at a place, and the two orders that they must be in.
+fn applied(
+    buffer: &[u8],
+    proof: &[u8],
+    offset: usize,
+    inferred: Inferred,
+    second_end: usize,
+) -> Application
+    ensures { λ r. ⌜ PutsToUse (now (buffer .entry)) (now (proof .entry)) offset inferred «second_end» r ⌝ }
+{
+    let ledger = inferred.ledger;
+    let judgement = inferred.judgement;
     let from = judgement.from;
     let to = judgement.to;
     let parts = sides_of(buffer, offset, FormulaTag::ImpliesTag, judgement, ledger);

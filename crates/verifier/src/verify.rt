@@ -225,6 +225,7 @@ fn proof_malformed(proof: &[u8], certificates: usize, ends: &mut [u16]) -> Stop
 }
 
 // The ledger at the end of the walk for what is asked.
+#[rattlefmt::skip]
 fn walked(
     asked: Asked,
     buffer: &[u8],
@@ -252,18 +253,7 @@ fn walked(
         left: MOST_PROOF_LEVELS,
     };
     let mut assumptions = [0u64; ALL_NUMBERS];
-    let checked = check(
-        buffer,
-        proof,
-        state,
-        certificates,
-        ends,
-        facts,
-        &mut assumptions,
-        &bytes,
-        goal,
-        here,
-    );
+    let checked = check(buffer, proof, state, certificates, ends, facts, &mut assumptions, &bytes, goal, here);
     checked.ledger
 }
 

@@ -62,8 +62,7 @@ impl Here {
 // What the step at a place infers, of at most so many levels, by its tag, which was read there.
 #[rattlefmt::skip]
 fn infer(
-    buffer: &[u8], proof: &[u8], state: &[u8], certificates: &[u64], ends: &[u16], facts: &mut [u64], assumptions: &mut [u64],
-    tag: InferTag, here: Here,
+    buffer: &[u8], proof: &[u8], state: &[u8], certificates: &[u64], ends: &[u16], facts: &mut [u64], assumptions: &mut [u64], tag: InferTag, here: Here,
 ) -> Inferred
     ensures walks { λ r. ⌜ Infers (sources buffer proof state certificates ends) facts assumptions tag here r ⌝ }
     ensures keeps { λ _. ⌜ KeepsRows here assumptions ⌝ }
@@ -78,14 +77,8 @@ fn infer(
     match tag {
         InferTag::LocalTag => local(proof, assumptions, scope, at, ledger),
         InferTag::CertificateTag => certificate(proof, certificates, scope, at, ledger),
-        InferTag::FirstTag => {
-            let part = infer(buffer, proof, state, certificates, ends, facts, assumptions, infer_tag_at(proof, begin), here.part(begin, ledger));
-            first(buffer, at, part)
-        }
-        InferTag::SecondTag => {
-            let part = infer(buffer, proof, state, certificates, ends, facts, assumptions, infer_tag_at(proof, begin), here.part(begin, ledger));
-            second(buffer, at, part)
-        }
+        InferTag::FirstTag => first(buffer, at, infer(buffer, proof, state, certificates, ends, facts, assumptions, infer_tag_at(proof, begin), here.part(begin, ledger))),
+        InferTag::SecondTag => second(buffer, at, infer(buffer, proof, state, certificates, ends, facts, assumptions, infer_tag_at(proof, begin), here.part(begin, ledger))),
         InferTag::ApplyTag => {
             let part = infer(buffer, proof, state, certificates, ends, facts, assumptions, infer_tag_at(proof, begin), here.part(begin, ledger));
             let used = put_to_use(buffer, proof, at, part, end_in(ends, part.next));
