@@ -2,8 +2,8 @@
 -- breaks the form.
 use Prim.Native.Nat.{ℕ, suc}
 use mathlib.Core.Path.{_≡_, refl}
-use mathlib.Core.Option.{Option, some, none}
-use Rattle.procap.specs.Outcome.{Outcome, granted, refused, go-on}
+use mathlib.Core.Option.{some, none}
+use Rattle.procap.specs.Outcome.{granted, refused, go-on}
 use Rattle.procap.specs.Bytes.{Reader}
 use Rattle.procap.specs.declared.answer.Answer.{Answer}
 use Rattle.procap.specs.declared.answer.Answer.the-variants.{InputMalformed}

@@ -14,7 +14,7 @@ use Rattle.text.specs.Words.{bytes-of}
 use Rattle.text.specs.Line.{line-to}
 use Rattle.text.specs.RequestLines.{request-lines}
 use Rattle.cases.specs.CaseLines.{hex-line, nothing-more}
-use Rattle.cases.specs.Case.{Group, Case, groups, case-with, case-lines}
+use Rattle.cases.specs.Case.{Group, groups, case-with, case-lines}
 use Rattle.cases.proofs.InARow.{line-reads, line-breaks, lines-read, lines-break}
 
 -- ── From the groups on ──

@@ -15,7 +15,6 @@ use formula::terms::MOST_FORMULA_LEVELS;
 use formula::terms::Place;
 use formula::terms::Terms;
 use ledger::Ledger;
-use ledger::Stop;
 use ledger::ask_fact;
 use ledger::ask_order;
 use procap::bytes::past;

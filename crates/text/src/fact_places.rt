@@ -4,14 +4,11 @@ use procap::fact::Fact;
 use procap::procap::MOST_FACTS;
 ghost use mathlib.Core.Bool.{Bool};
 ghost use mathlib.Core.Path.{_≡_};
-ghost use mathlib.Core.List.{List, map};
-ghost use Prim.Native.Nat.{ℕ, _≤_};
-ghost use lib.ListN.{take};
-ghost use Rattle.procap.specs.Tells.{Tells};
+ghost use Prim.Native.Nat.{_≤_};
 ghost use Rattle.procap.specs.Procaps.{«most-facts»};
 ghost use Rattle.procap.specs.Bytes.{many};
 ghost use Rattle.text.specs.Reader.{«fact-line»};
-ghost use Rattle.text.specs.Places.{OnLines, LinesReads, ReadsAt, StandsBefore, SameLine, FactsOn};
+ghost use Rattle.text.specs.Places.{LinesReads, StandsBefore, SameLine, FactsOn};
 
 // How many bytes the word takes with which every line of a fact begins.
 const WORD_BYTES: usize = 5;

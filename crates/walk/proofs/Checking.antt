@@ -12,20 +12,18 @@ use Rattle.bl.specs.declared.InferTag.the-variants.{NoInferTag}
 use Rattle.bl.specs.declared.CheckTag.{CheckTag}
 use Rattle.bl.specs.declared.CheckTag.the-variants.{PairTag, TopStepTag, AtInTag, AtOutTag, SaysInTag, SaysOutTag, StateTag, OrderStepTag, InferredTag, NoCheckTag}
 use Rattle.bl.specs.declared.FormulaTag.the-variants.{AndTag}
-use Rattle.bl.specs.Trees.{Formula, top, Infer, Check}
+use Rattle.bl.specs.Trees.{Formula, Infer, Check}
 use Rattle.bl.specs.Tags.{infer-tag, check-tag}
 use Rattle.bl.specs.Certificates.{Statement}
-use Rattle.bl.specs.Rules.{Assumption, plain, claim, shut, shut-out, View, view-of}
-use Rattle.bl.specs.Questions.{Walk, Test}
-use Rattle.bl.specs.Steps.{infer-step, check-step, infer-by, check-by}
+use Rattle.bl.specs.Rules.{Assumption, shut, shut-out, View, view-of}
+use Rattle.bl.specs.Questions.{Test}
+use Rattle.bl.specs.Steps.{infer-step, check-step, check-by}
 use Rattle.bl.specs.Walk as walk
 use Rattle.bl.specs.Walk.{infer, check}
 use Rattle.steps.specs.Ends.{Told, ToldChecking}
 use Rattle.ledger.specs.declared.Stop.the-variants.{Going}
 use Rattle.ledger.specs.declared.Ledger.{Ledger}
 use Rattle.formula.specs.declared.parts.Judgement.{Judgement}
-use Rattle.judging.specs.declared.rows.Row.{Row}
-use Rattle.judging.specs.declared.rows.Whose.the-variants.{Plain, Claim}
 use Rattle.judging.specs.declared.judge.Scope.{Scope}
 use Rattle.judging.specs.declared.judge.View.the-variants.{ViewOf}
 use Rattle.judging.specs.declared.judge.Inferred.{Inferred}
@@ -34,7 +32,7 @@ use Rattle.judging.specs.declared.judge.Shell.{Shell}
 use Rattle.judging.specs.declared.judge.Shell.the-variants.{AtShell, SaysShell}
 use Rattle.judging.specs.declared.judge.Sides.{Sides}
 use Rattle.judging.specs.declared.judge.Inside.{Inside}
-use Rattle.ledger.specs.Books.{stop-of, Book, book, Sound, Gives}
+use Rattle.ledger.specs.Books.{stop-of, book, Sound, Gives}
 use Rattle.formula.specs.Meaning.{from-of, to-of, Means, On}
 use Rattle.judging.specs.RowsOf.{RowIs, is-plain, is-claim, is-shut, most-rows, PutsRow}
 use Rattle.judging.specs.Judging.{view-in, scope-inside, part-of, and-then, sides, TwoSided, and-sides, inside, top-goal, fact-goal, order-goal, Passes}

@@ -9,7 +9,7 @@ use Rattle.procap.specs.Bytes.{term}
 use Rattle.procap.specs.declared.fact.Term.{Term}
 use Rattle.bl.specs.declared.InferTag.{InferTag}
 use Rattle.bl.specs.declared.InferTag.the-variants.{LocalTag, CertificateTag, FirstTag, SecondTag, ApplyTag, InstanceTag, NoInferTag}
-use Rattle.bl.specs.Trees.{Formula, top, Infer, Check}
+use Rattle.bl.specs.Trees.{top, Infer}
 use Rattle.bl.specs.Tags.{infer-tag}
 use Rattle.bl.specs.Certificates.{Statement}
 use Rattle.bl.specs.Rules.{Assumption, View}
@@ -24,7 +24,7 @@ use Rattle.judging.specs.declared.judge.Scope.{Scope}
 use Rattle.judging.specs.declared.judge.Inferred.{Inferred}
 use Rattle.judging.specs.declared.judge.Application.{Application}
 use Rattle.judging.specs.declared.judge.Checked.{Checked}
-use Rattle.ledger.specs.Books.{stop-of, Book, book, Sound}
+use Rattle.ledger.specs.Books.{stop-of, book, Sound}
 use Rattle.formula.specs.Meaning.{On}
 use Rattle.judging.specs.Judging.{view-in, part-of, and-then, first-side, second-side, put-in, Yields}
 use Rattle.judging.specs.StepPromises.{UsesLocal, UsesCertificate, Continues, PutsToUse, StaysStopped}

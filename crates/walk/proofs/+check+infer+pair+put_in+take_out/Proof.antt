@@ -48,7 +48,7 @@ use Rattle.walk.proofs.Here.part.Reads as part-reads
 use Rattle.walk.proofs.+check+infer+pair+put_in+take_out.{statement}
 use Rattle.walk.proofs.+check+infer+pair+put_in+take_out.Tie.{close}
 use Prim.Native.Nat.{suc, _+_, _-_}
-use mathlib.Core.Path.{_≡_, refl, sym, _∙_}
+use mathlib.Core.Path.{_≡_, sym, _∙_}
 use native.Mathlib.Omega.{arith}
 use borrow.Author.Needs.{needs}
 use mathlib.Core.List.{List}
