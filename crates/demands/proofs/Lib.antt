@@ -4,3 +4,4 @@ pub mod Opening
 pub mod Printed
 pub mod Demands
 pub mod Presses
+pub mod Tied

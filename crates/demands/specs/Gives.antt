@@ -22,6 +22,9 @@ use Rattle.text.specs.declared.writer.WrittenText.{WrittenText}
 use Rattle.door.specs.Door.{opening, opening-text, packed}
 use Rattle.verifier.specs.declared.verify.Verified.{Verified}
 use Rattle.cases.specs.Calls.{answering}
+use Rattle.from_c.specs.Records.{records-in}
+use Rattle.from_c.specs.Packing.{HandsBack, packed as handed-to-c}
+use Rattle.from_c.specs.Calls.{verifying, rewriting, value-writing, value-opening, opened-of}
 
 -- `verify` gives an answer and a procap.
 pub record VerifyGives (r : Request) (certificates : List Certificate) (buffer proof : List ℕ) (v : Verified) : Type 0 where
@@ -56,6 +59,38 @@ WriteRefusalGives refusal before w after = Wrote (fitting (refusal-text refusal)
 -- `answer_case`, the work of the program, writes what is printed for an input.
 abbrev pub PrintGives : List ℕ → List ℕ → WrittenText → List ℕ → Type 0
 PrintGives input before w after = Wrote (answering input (length before)) before w after
+
+-- ── The calls for C ──
+
+-- `office_verify` hands back a number, and leaves the procap's text in the buffer.
+abbrev pub OfficeVerifyGives : Request → List ℕ → List ℕ → List ℕ → List ℕ → ℕ → List ℕ → Type 0
+OfficeVerifyGives r records buffer proof before number after = HandsBack (verifying r records buffer proof (length before)) before number after
+
+-- `office_direct` hands back a number.
+abbrev pub OfficeDirectGives : Request → List ℕ → List ℕ → List ℕ → ℕ → List ℕ → ℕ → Type 0
+OfficeDirectGives r records buffer proof m state number = number ≡ handed-to-c (answer-of (directly r (records-in records) buffer proof m state)) 0
+
+-- `office_answer_case` hands back a number, and leaves in the buffer what is printed for an input.
+abbrev pub OfficePrintGives : List ℕ → List ℕ → ℕ → List ℕ → Type 0
+OfficePrintGives input before number after = HandsBack (answering input (length before)) before number after
+
+-- `office_rewrite` hands back a number, and leaves in the buffer the text of what it read.
+abbrev pub OfficeRewriteGives : List ℕ → List ℕ → ℕ → List ℕ → Type 0
+OfficeRewriteGives text before number after = HandsBack (rewriting text (length before)) before number after
+
+-- `office_write` hands back a number, and leaves in the buffer the text of a value.
+abbrev pub OfficeWriteGives : List ℕ → List ℕ → ℕ → List ℕ → Type 0
+OfficeWriteGives value before number after = HandsBack (value-writing value (length before)) before number after
+
+-- `desk_door_on_value` hands back a number.
+abbrev pub DeskOpenGives : List ℕ → Request → ℕ → List ℕ → ℕ → Type 0
+DeskOpenGives value r m state number = number ≡ handed-to-c (answer-of (value-opening value r m state)) 0
+
+-- `desk_presses` hands back how many of so many presses went through.
+abbrev pub DeskPressesGives : List ℕ → Request → ℕ → List ℕ → ℕ → ℕ → Type 0
+DeskPressesGives text r m state presses opened = opened ≡ opened-of (opening-text text r m state) presses
+
+-- ── A press that is accepted ──
 
 -- A moment in range and a well-formed state, in bytes, at which `direct` answers 0.
 pub record AnsweredSomewhere (r : Request) (certificates : List Certificate) (buffer proof : List ℕ) : Type 0 where

@@ -11,11 +11,7 @@ use Rattle.procap.proofs.Refused.{IfRefused}
 use Rattle.text.specs.Calls.{length-given, buffer-left, Wrote}
 use Rattle.text.specs.declared.writer.WrittenText.{WrittenText}
 use Rattle.cases.proofs.Refusals.{Refuses}
-use Rattle.from_c.specs.Packing.{packed, packed-text}
-
--- The answer of an outcome with its length as one number, and what it leaves of the buffer.
-abbrev pub HandsBack : Outcome (List ℕ) → List ℕ → ℕ → List ℕ → Type 0
-HandsBack o before number after = (number ≡ packed-text o) × (after ≡ buffer-left o before)
+use Rattle.from_c.specs.Packing.{packed, HandsBack}
 
 module _ (o : Outcome (List ℕ)) (before : List ℕ) (number : ℕ) where
   -- What was written is handed back.

@@ -6,3 +6,4 @@ pub mod ValuesRead
 pub mod Presses
 pub mod HandedBack
 pub mod OfficeCalls
+pub mod Unpacking

@@ -6,7 +6,6 @@ use native.Mathlib.Omega.{arith}
 use Rattle.procap.specs.Answers.{number-of}
 use Rattle.procap.specs.Outcome.{Outcome, granted, refused, answer-of, procap-handed}
 use Rattle.procap.specs.declared.answer.Answer.{Answer}
-use Rattle.procap.specs.declared.answer.Answer.the-variants.{Granted, CertificateMalformed, ProofMalformed, StepUnfit, OrderFalse, NoMomentLeft, StateMalformed, RequestDiffers, MomentOutside, FactMissing, MomentAboveLatest, ProcapMalformed, BufferShort, InputMalformed}
 use Rattle.procap.specs.declared.procap.Request.{Request}
 use Rattle.procap.specs.declared.procap.Procap.{Procap}
 use Rattle.text.specs.Calls.{reading}
@@ -14,23 +13,7 @@ use Rattle.door.specs.Door.{opening, opening-text, packed}
 use Rattle.door.proofs.Answering.{zero-exactly-when-open}
 use Rattle.door.proofs.Texts.{unread, read-opens}
 use Rattle.from_c.specs.Calls.{opened-of}
-
--- Only a grant has the number 0.
-only-granted : (answer : Answer) → number-of answer ≡ 0 → answer ≡ Granted
-only-granted Granted e = refl
-only-granted (CertificateMalformed i) e = absurd (omega arith)
-only-granted ProofMalformed e = absurd (omega arith)
-only-granted (StepUnfit i) e = absurd (omega arith)
-only-granted (OrderFalse i) e = absurd (omega arith)
-only-granted NoMomentLeft e = absurd (omega arith)
-only-granted StateMalformed e = absurd (omega arith)
-only-granted RequestDiffers e = absurd (omega arith)
-only-granted MomentOutside e = absurd (omega arith)
-only-granted (FactMissing i) e = absurd (omega arith)
-only-granted MomentAboveLatest e = absurd (omega arith)
-only-granted ProcapMalformed e = absurd (omega arith)
-only-granted BufferShort e = absurd (omega arith)
-only-granted (InputMalformed i) e = absurd (omega arith)
+use Rattle.from_c.proofs.Unpacking.{zero-exactly-when-granted}
 
 -- Of no presses none goes through, and of any number no more than there are.
 pub none-pressed : (o : Outcome (Unit {0})) → 0 ≡ opened-of o 0
@@ -70,7 +53,7 @@ module _ (text : List ℕ) (answer : Answer) (given : answer ≡ answer-of (read
 
     press-opens : number-of pressed ≡ 0 → opened + 1 ≡ opened-of (opening-text text r m state) (n + 1)
     press-opens e =
-        let opens = zero-exactly-when-open text r m state .0 (ap packed (sym same ∙ only-granted pressed e)) in
+        let opens = zero-exactly-when-open text r m state .0 (ap packed (sym same ∙ zero-exactly-when-granted pressed .0 e)) in
         ap (λ k. k + 1) so-far ∙ one-more (opening-text text r m state) n opens
 
     press-refused : (number-of pressed ≡ 0 → ⊥) → opened ≡ opened-of (opening-text text r m state) (n + 1)
