@@ -1,7 +1,7 @@
 -- An issued procap at the door: it can be written and names the request that it was issued for, so the door passes on to whether it
 -- is satisfied, and that is so exactly where the direct check accepts.
 use Prim.Native.Nat.{ℕ, _≤_}
-use mathlib.Core.Path.{_≡_, refl}
+use mathlib.Core.Path.{_≡_, refl, sym, _∙_}
 use mathlib.Core.List.{List}
 use mathlib.Core.Option.{some}
 use mathlib.Core.Logic.{_↔_}
@@ -19,7 +19,7 @@ use Rattle.bl.specs.declared.Certificate.{Certificate}
 use Rattle.bl.specs.Calls.{verified, directly}
 use Rattle.bl.specs.Accepting.{AreBytes}
 use Rattle.bl.proofs.Called.{verified-from}
-use Rattle.bl.proofs.Theorems.{issued-opens-exactly-where-direct-accepts, issued-can-be-written}
+use Rattle.bl.proofs.Theorems.{direct-accepts-exactly-derivations, issued-opens-exactly-where-direct-accepts, issued-can-be-written}
 use Rattle.text.specs.Text.{text-of}
 use Rattle.text.specs.Buffers.{most-text}
 use Rattle.text.specs.Calls.{reading, writing}
@@ -70,3 +70,17 @@ module _ (r : Request) (records : List Certificate) (buffer proof : List ℕ) (n
   its-text-opens-the-door-exactly-where-direct-accepts p e room text written m in-range state σ reads =
       let same = goes-on (reading text) (λ q. opening q r m state) p (written-is-read p room text written) in
       rw same (issued-opens-the-door-exactly-where-direct-accepts p e m in-range state σ reads)
+
+  -- It does so at every press, whatever the moment and the state: where the moment is out of range, or the state malformed, both refuse.
+  pub its-text-opens-the-door-at-the-same-presses : (p : Procap) → verified r records buffer proof ≡ granted p
+      → (room : ℕ) (text : List ℕ) → writing p room ≡ granted text → (m : ℕ) (state : List ℕ)
+      → (opening-text text r m state ≡ granted tt) ↔ (directly r records buffer proof m state ≡ granted tt)
+  unfolding opening-text
+  its-text-opens-the-door-at-the-same-presses p e room text written m state =
+      let same = goes-on (reading text) (λ q. opening q r m state) p (written-is-read p room text written) in
+      let law = its-text-opens-the-door-exactly-where-direct-accepts p e room text written m in (
+        λ opens. let o = opens-exactly p r m state .0 (sym same ∙ opens) in law (o .moment-in-range) state (o .facts) (o .state-reads) .0 opens,
+        λ accepts.
+            let d = direct-accepts-exactly-derivations r records buffer proof m state .0 accepts in
+            law (d .moment-in-range) state (d .facts) (d .state-reads) .1 accepts,
+      )

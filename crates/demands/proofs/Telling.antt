@@ -39,7 +39,7 @@ use Rattle.demands.specs.Gives.{VerifyGives, DirectGives, OpenGives, Doo
 -- ── Outcomes ──
 
 -- What answers 0 is a grant, and a grant answers 0.
-granted-answer : {A : Type 0} (o : Outcome A) → IfRefused Refuses o → answer-of o ≡ Granted → (a : A) × (o ≡ granted a)
+pub granted-answer : {A : Type 0} (o : Outcome A) → IfRefused Refuses o → answer-of o ≡ Granted → (a : A) × (o ≡ granted a)
 unfolding answer-of
 granted-answer (granted a) h e = (a, refl)
 granted-answer (refused answer) h e = let z : number-of answer ≡ 0 = ap number-of e in absurd (omega arith)
@@ -86,7 +86,7 @@ procap-tells o h answer p told handed = (
 
 module _ (r : Request) (records : List Certificate) (buffer proof : List ℕ) where
   -- No refusal of the direct check has the answer 0.
-  directly-refuses : (m : ℕ) (state : List ℕ) → IfRefused Refuses (directly r records buffer proof m state)
+  pub directly-refuses : (m : ℕ) (state : List ℕ) → IfRefused Refuses (directly r records buffer proof m state)
   unfolding directly
   directly-refuses m state =
       go-on-refused Refuses _ _ (case-refused Refuses (λ i. omega arith) (omega arith) records buffer proof) λ x _.
@@ -132,11 +132,11 @@ module _ (r : Request) (certificates : List Certificate) (buffer proof : List �
 -- ── Texts ──
 
 -- No refusal of the reader or of the writer has the answer 0.
-reading-refuses : (text : List ℕ) → IfRefused Refuses (reading text)
+pub reading-refuses : (text : List ℕ) → IfRefused Refuses (reading text)
 unfolding reading
 reading-refuses text = or-else-refused Refuses ProcapMalformed (text-in text) (omega arith)
 
-writing-refuses : (p : Procap) (room : ℕ) → IfRefused Refuses (writing p room)
+pub writing-refuses : (p : Procap) (room : ℕ) → IfRefused Refuses (writing p room)
 unfolding writing fitting
 writing-refuses p room =
     go-on-refused Refuses _ _ (require-refused Refuses ProcapMalformed (writable? p) (omega arith)) λ _ _.

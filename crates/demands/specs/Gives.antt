@@ -23,7 +23,7 @@ use Rattle.door.specs.Door.{opening, opening-text, packed}
 use Rattle.verifier.specs.declared.verify.Verified.{Verified}
 use Rattle.cases.specs.Calls.{answering}
 use Rattle.from_c.specs.Records.{records-in}
-use Rattle.from_c.specs.Packing.{HandsBack, packed as handed-to-c}
+use Rattle.from_c.specs.Packing.{HandsBack, number-in, packed as handed-to-c}
 use Rattle.from_c.specs.Calls.{verifying, rewriting, value-writing, value-opening, opened-of}
 
 -- `verify` gives an answer and a procap.
@@ -101,3 +101,15 @@ pub record AnsweredSomewhere (r : Request) (certificates : List Certificate) (bu
   pub facts : List Spelled
   pub state-reads : stated state ≡ some facts
   pub accepted : DirectGives r certificates buffer proof moment state Granted
+
+-- The same as C sees it: the number that `office_direct` hands back there has 0 for its answer.
+pub record ZeroSomewhere (r : Request) (records buffer proof : List ℕ) : Type 0 where
+  pub moment : ℕ
+  pub moment-in-range : moment ≤ latest
+  pub state : List ℕ
+  pub state-is-bytes : AreBytes state
+  pub facts : List Spelled
+  pub state-reads : stated state ≡ some facts
+  pub number : ℕ
+  pub handed-back : OfficeDirectGives r records buffer proof moment state number
+  pub zero : number-in number ≡ 0

@@ -1,0 +1,189 @@
+-- The demands once more, in the numbers and places that a caller from C, or who reads what the program prints, sees. 0 is the number of a grant and of
+-- nothing else, so each follows from what the calls come to (`FromC`), and holds at every press, whatever its moment and its state.
+use Prim.Native.Nat.{ℕ, _+_, _/_, _%_, _≤_, _<_}
+use mathlib.Core.Path.{_≡_, refl, sym, ap, _∙_}
+use mathlib.Core.List.{List}
+use mathlib.Core.Option.{some}
+use mathlib.Core.Logic.{_↔_, _⊎_, inl, inr, Iff·symm, Iff·trans}
+use native.Mathlib.Omega.{arith}
+use lib.ListN.{length, take}
+use Rattle.procap.specs.Lists.{In}
+use Rattle.procap.specs.Writable.{RequestInForm}
+use Rattle.procap.specs.Answers.{number-of, place-of, numbers}
+use Rattle.procap.specs.Outcome.{Outcome, granted, refused, answer-of}
+use Rattle.procap.specs.declared.answer.Answer.{Answer}
+use Rattle.procap.specs.declared.procap.Request.{Request}
+use Rattle.procap.specs.declared.procap.Procap.{Procap}
+use Rattle.procap.proofs.AnswerNumbers.{number-is-listed}
+use Rattle.procap.proofs.Granted.{goes-on}
+use Rattle.procap.proofs.Refused.{IfRefused}
+use Rattle.bl.specs.Calls.{verified}
+use Rattle.bl.specs.Accepting.{AreBytes, Derivable}
+use Rattle.bl.proofs.Theorems.{direct-accepts-exactly-derivations, issued-exactly-where-some-press-is-accepted}
+use Rattle.text.specs.Text.{text-of, refusal-text}
+use Rattle.text.specs.Buffers.{most-text}
+use Rattle.text.specs.Calls.{reading, writing}
+use Rattle.text.proofs.Theorems.{written-is-read, read-is-written}
+use Rattle.door.specs.Door.{opening-text, packed}
+use Rattle.door.proofs.Answering.{places-are-small}
+use Rattle.cases.specs.Calls.{checked, printed-of, printed}
+use Rattle.cases.proofs.Refusals.{Refuses}
+use Rattle.from_c.specs.Records.{records-in}
+use Rattle.from_c.specs.Packing.{HandsBack, number-in, length-in}
+use Rattle.from_c.specs.Values.{value-in}
+use Rattle.from_c.specs.Calls.{verifying, rewriting}
+use Rattle.demands.specs.Gives.{DoorGives, OfficeVerifyGives, OfficeDirectGives, OfficeRewriteGives, OfficeWriteGives, ZeroSomewhere}
+use Rattle.demands.proofs.Telling.{lets-in-exactly}
+use Rattle.demands.proofs.Opening.{issued-is-written, its-text-opens-the-door-at-the-same-presses}
+use Rattle.demands.proofs.CaseRefusals.{checked-refuses}
+use Rattle.demands.proofs.FromC.{rewritten-from, value-written-from, rewriting-refuses, value-writing-refuses, number-told, refused-left, zero-is-a-grant, grant-is-zero, length-told, text-in-front, written-is-short, verifying-refuses, issued-for, zero-exactly-when-accepted}
+
+-- ── Demand 1 ──
+
+-- What the firmware sees is one of the numbers that there are, and a place below 16.
+pub the-door-hands-back-a-number : (text : List ℕ) (r : Request) (m : ℕ) (state : List ℕ) (pressed : ℕ) → DoorGives text r m state pressed
+    → In (pressed / 256) numbers × (pressed % 256 < 16)
+the-door-hands-back-a-number text r m state pressed gives =
+    let answer = answer-of (opening-text text r m state) in
+    let small = places-are-small text r m state in
+    let number : pressed / 256 ≡ number-of answer = omega (arith, gives) in
+    (rw number (number-is-listed answer), omega (arith, gives))
+
+-- A call that writes hands back one of the numbers that there are; with any other than 0 it has written nothing.
+pub a-call-that-writes-hands-back-a-number : (o : Outcome (List ℕ)) (before : List ℕ) (number : ℕ) (after : List ℕ) → HandsBack o before number after
+    → In (number-in number) numbers × ((number-in number ≡ 0 → ⊥) → (after ≡ before) × (length-in number ≡ 0))
+a-call-that-writes-hands-back-a-number o before number after hands =
+    (rw (number-told o before number after hands) (number-is-listed (answer-of o)), refused-left o before number after hands)
+
+-- What the program prints for an input is the text of the procap that it comes to, or the number and the place of the answer that refuses it: a number
+-- that there is, and not 0.
+pub record PrintsRefusal (input : List ℕ) : Type 0 where
+  pub answer : Answer
+  pub refuses : checked input ≡ refused answer
+  pub prints : printed input ≡ refusal-text answer
+  pub is-a-number : In (number-of answer) numbers
+  pub not-zero : 0 < number-of answer
+
+pub the-program-prints-a-procap-or-a-refusal : (input : List ℕ)
+    → ((p : Procap) × (checked input ≡ granted p) × (printed input ≡ text-of p)) ⊎ PrintsRefusal input
+unfolding printed printed-of
+the-program-prints-a-procap-or-a-refusal input = by (checked input) refl (checked-refuses input)
+  where
+    by : (o : Outcome Procap) → checked input ≡ o → IfRefused Refuses o
+        → ((p : Procap) × (checked input ≡ granted p) × (printed input ≡ text-of p)) ⊎ PrintsRefusal input
+    by (granted p) e _ = inl (p, e, ap printed-of e)
+    by (refused answer) e not-zero =
+        inr (record { answer = answer; refuses = e; prints = ap printed-of e; is-a-number = number-is-listed answer; not-zero = not-zero })
+
+-- ── Demand 2 ──
+
+-- The number of the direct check is 0 exactly when all that is lent reads and the proof is a derivation, at that moment in that state.
+pub direct-has-0-exactly-when-derived : (r : Request) (records buffer proof : List ℕ) (m : ℕ) (state : List ℕ) (number : ℕ)
+    → OfficeDirectGives r records buffer proof m state number → (number-in number ≡ 0) ↔ Derivable r (records-in records) buffer proof m state
+direct-has-0-exactly-when-derived r records buffer proof m state number gives =
+    Iff·trans (zero-exactly-when-accepted r records buffer proof m state number gives)
+    (direct-accepts-exactly-derivations r (records-in records) buffer proof m state)
+
+-- What reads is what would have been written: bytes that are rewritten with 0 stand in front of the buffer as they were.
+pub what-reads-is-rewritten : (text before : List ℕ) (number : ℕ) (after : List ℕ) → OfficeRewriteGives text before number after → number-in number ≡ 0
+    → take (length-in number) after ≡ text
+what-reads-is-rewritten text before number after gives zero =
+    let (again, grant) = zero-is-a-grant _ before number after gives (rewriting-refuses text (length before)) zero in
+    rewritten-from text (length before) again grant λ p same writes.
+    text-in-front _ before number after gives again grant (written-is-short p (length before) again writes) ∙ same
+
+-- What we write reads back the same: the text that is written of a value with 0 says that value, and is rewritten with 0 where there is room for it.
+module _ (value before : List ℕ) (number : ℕ) (after : List ℕ) (gives : OfficeWriteGives value before number after) (zero : number-in number ≡ 0) where
+  pub what-is-written-says-the-value : reading (take (length-in number) after) ≡ value-in value
+  what-is-written-says-the-value =
+      let (text, grant) = zero-is-a-grant _ before number after gives (value-writing-refuses value (length before)) zero in
+      value-written-from value (length before) text grant λ p is writes.
+      let front = text-in-front _ before number after gives text grant (written-is-short p (length before) text writes) in
+      ap reading front ∙ written-is-read p (length before) text writes ∙ sym is
+
+  pub what-is-written-is-rewritten : (before′ : List ℕ) → length-in number ≤ length before′ → (number′ : ℕ) (after′ : List ℕ)
+      → OfficeRewriteGives (take (length-in number) after) before′ number′ after′ → number-in number′ ≡ 0
+  unfolding rewriting
+  what-is-written-is-rewritten before′ room number′ after′ rewrites =
+      let (text, grant) = zero-is-a-grant _ before number after gives (value-writing-refuses value (length before)) zero in
+      value-written-from value (length before) text grant λ p is writes.
+      let short = written-is-short p (length before) text writes in
+      let front = text-in-front _ before number after gives text grant short in
+      let says = written-is-read p (length before) text writes in
+      let as-long = length-told _ before number after gives text grant short in
+      let again = goes-on _ _ p says ∙ read-is-written text p says (length before′) (omega (arith, as-long)) in
+      grant-is-zero _ before′ number′ after′ (rw front at rewrites) text again short
+
+-- ── Demand 3 ──
+
+module _ (r : Request) (records buffer proof : List ℕ) where
+  -- A press at which the direct check has the number 0 has a moment in range and a state that is well formed, as it must be for a press to be accepted.
+  zero-somewhere : (m : ℕ) (state : List ℕ) → AreBytes state → (number : ℕ) → OfficeDirectGives r records buffer proof m state number
+      → number-in number ≡ 0 → ZeroSomewhere r records buffer proof
+  zero-somewhere m state in-bytes number gives zero =
+      let derived = direct-has-0-exactly-when-derived r records buffer proof m state number gives .0 zero in
+      record {
+        moment = m;
+        moment-in-range = derived .moment-in-range;
+        state = state;
+        state-is-bytes = in-bytes;
+        facts = derived .facts;
+        state-reads = derived .state-reads;
+        number = number;
+        handed-back = gives;
+        zero = zero;
+      }
+
+  module _ (names : RequestInForm r) (in-bytes : AreBytes buffer) (proof-in-bytes : AreBytes proof) (before : List ℕ) (room : most-text ≤ length before)
+      (number : ℕ) (after : List ℕ) (gives : OfficeVerifyGives r records buffer proof before number after) where
+    -- The text of the procap that is issued, where the number is 0.
+    issued-text : {C : Type 0} → number-in number ≡ 0
+        → ((p : Procap) → verified r (records-in records) buffer proof ≡ granted p → (text : List ℕ) → writing p (length before) ≡ granted text
+        → take (length-in number) after ≡ text → C) → C
+    issued-text zero k =
+        let (text, grant) = zero-is-a-grant _ before number after gives (verifying-refuses r records buffer proof (length before)) zero in
+        issued-for r records buffer proof (length before) text grant λ p issued writes.
+        k p issued text writes (text-in-front _ before number after gives text grant (written-is-short p (length before) text writes))
+
+    -- The issuing half: verify's number is 0 exactly when the direct check's is 0 at some moment in range in some well-formed state.
+    pub issued-with-0-exactly-where-some-press-has-0 : (number-in number ≡ 0) ↔ ZeroSomewhere r records buffer proof
+    unfolding verifying
+    issued-with-0-exactly-where-some-press-has-0 =
+        let somewhere = issued-exactly-where-some-press-is-accepted r (records-in records) buffer proof in-bytes proof-in-bytes in (
+          λ zero.
+              issued-text zero λ p issued _ _ _.
+              let s = somewhere .0 (p, issued) in
+              let accepts = zero-exactly-when-accepted r records buffer proof (s .moment) (s .state) _ refl in
+              zero-somewhere (s .moment) (s .state) (s .state-is-bytes) _ refl (accepts .1 (s .accepted)),
+          λ z.
+              let accepts = zero-exactly-when-accepted r records buffer proof (z .moment) (z .state) (z .number) (z .handed-back) in
+              let (p, issued) = somewhere .1 (record {
+                moment = z .moment;
+                moment-in-range = z .moment-in-range;
+                state = z .state;
+                state-is-bytes = z .state-is-bytes;
+                facts = z .facts;
+                state-reads = z .state-reads;
+                accepted = accepts .0 (z .zero);
+              }) in
+              let written = issued-is-written r (records-in records) buffer proof names in-bytes proof-in-bytes p issued (length before) room in
+              grant-is-zero _ before number after gives (text-of p) (goes-on _ _ p issued ∙ written) (written-is-short p (length before) (text-of p) written),
+        )
+
+    -- The opening half: the text that verify leaves with 0, shown for its own request, is answered 0 by the door exactly where the direct check's number
+    -- is 0, at every press.
+    pub opens-with-0-exactly-where-direct-has-0 : number-in number ≡ 0 → (m : ℕ) (state : List ℕ)
+        → (pressed : ℕ) → DoorGives (take (length-in number) after) r m state pressed
+        → (checked : ℕ) → OfficeDirectGives r records buffer proof m state checked
+        → (pressed ≡ 0) ↔ (number-in checked ≡ 0)
+    opens-with-0-exactly-where-direct-has-0 zero m state pressed opens checked checks =
+        issued-text zero λ p issued text writes front.
+        let law = its-text-opens-the-door-at-the-same-presses r (records-in records) buffer proof names in-bytes proof-in-bytes p issued in
+        Iff·trans (lets-in-exactly text r m state pressed (rw front at opens))
+        (Iff·trans (law (length before) text writes m state) (Iff·symm (zero-exactly-when-accepted r records buffer proof m state checked checks)))
+
+    -- Where verify's number is another, nothing is accepted: the direct check's number is never 0.
+    pub refused-has-0-nowhere : (number-in number ≡ 0 → ⊥) → (m : ℕ) (state : List ℕ) → AreBytes state
+        → (checked : ℕ) → OfficeDirectGives r records buffer proof m state checked → number-in checked ≡ 0 → ⊥
+    refused-has-0-nowhere other m state state-in-bytes checked checks zero =
+        other (issued-with-0-exactly-where-some-press-has-0 .1 (zero-somewhere m state state-in-bytes checked checks zero))
