@@ -1,0 +1,3 @@
+-- Laws that the crate's proofs cite.
+pub mod Fronts
+pub mod Pressed
