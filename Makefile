@@ -1,5 +1,5 @@
 # The commands of the project. `make` builds the program bin/check; `make test` is the one test command.
-.PHONY: program run press test layout kit door archives test-check test-c test-c-linked test-c-memory test-stack test-rust soak fuzz bench bench-instructions
+.PHONY: program run press kept test layout kit door archives test-check test-c test-c-linked test-c-memory test-stack test-rust soak fuzz bench bench-instructions
 SHELL := /bin/bash
 .SHELLFLAGS := -euo pipefail -c
 
@@ -15,7 +15,7 @@ BOUND_AT_START := -Wl,-z,now
 STATIC := $(if $(filter /%,$(shell $(C_COMPILER) -print-file-name=libc.a 2> /dev/null)),-static)
 DOOR := target/staticlib/libdoor.a
 
-# Programs of this machine link these: the door, and the crate from_c, which has every call on numbers and byte slices.
+# Programs of this machine link these: the door, the crate from_c, which has every call on numbers and byte slices, and the crate kept, the demands as calls.
 NATIVE := target/native
 CARGO := CARGO_TARGET_DIR=$(CURDIR)/target/rust RATTLE_ARCHIVES=$(CURDIR)/$(NATIVE) cargo
 CARGO_MISSING := $(if $(shell command -v cargo),,yes)
@@ -47,6 +47,13 @@ press: bin/press
 
 bin/press: door examples/press.c include/procap.h
 	@$(call linked,,press,examples/press.c $(DOOR))
+
+# The demands, put to every example: calls that are proved to answer yes.
+kept: bin/kept
+	@bin/kept examples/loaded.state examples/*.case examples/*.procap
+
+bin/kept: $(NATIVE)/libkept.a tests/c/kept.c tests/c/case_bytes.c tests/c/calls.h
+	@$(call linked,,kept,tests/c/kept.c tests/c/case_bytes.c target/staticlib/libkept.a)
 
 # Everything that a landing must pass: the layout of the files, every proof, then the tests that run. The last line is the count that decides.
 test: kit layout
@@ -83,7 +90,7 @@ test-c: archives
 	@$(if $(EMULATED),echo "under an emulator the sanitizers and valgrind are left out",$(MAKE) --no-print-directory test-c-memory)
 endif
 
-# Presses and damaged inputs at the door, its stack, and the stack of the office's calls, linked with LINK.
+# Presses and damaged inputs at the door, its stack, the stack of the office's calls, and the demands put to every example, linked with LINK.
 test-c-linked: archives
 	@echo "linked with $(LINK):"
 	@$(call linked,$(LINK),door_test,tests/c/door_test.c tests/c/model.c $(DOOR))
@@ -92,6 +99,8 @@ test-c-linked: archives
 	@bin/stack
 	@$(call linked,$(LINK),office_stack,tests/c/office_stack.c tests/c/own_stack.c tests/c/case_bytes.c target/staticlib/libfrom_c.a)
 	@bin/office_stack $(DEEPEST:%=%.case)
+	@$(call linked,$(LINK),kept,tests/c/kept.c tests/c/case_bytes.c target/staticlib/libkept.a)
+	@bin/kept examples/loaded.state examples/*.case examples/*.procap
 
 # A program from C that this machine can start: how it is linked, its name in bin/, and what it is made of.
 linked = $(C) $(1) -o bin/$(2) $(3) && tests/run_here.sh bin/$(2)
@@ -107,7 +116,7 @@ test-c-memory: archives
 	else echo "no valgrind on this machine: the reads past a buffer's end that it would see were not looked for"; fi
 
 # The archives of the proved code that programs of this machine can link; and the same with counters, for a fuzzer.
-archives: $(NATIVE)/libfrom_c.a $(NATIVE)/libdoor.a
+archives: $(NATIVE)/libfrom_c.a $(NATIVE)/libdoor.a $(NATIVE)/libkept.a
 
 $(NATIVE)/lib%.a: tests/archive_here.sh $(shell find crates -name '*.rt') | kit
 	@mkdir -p bin
@@ -145,11 +154,11 @@ $(BENCH): archives $(shell find bench tests/rust/src -type f)
 endif
 
 # A fuzzer on the calls as C makes them, started from the examples: clang's libFuzzer, for a bounded time. What it finds stays in target/fuzz.
-fuzz: $(NATIVE)/libfrom_c_covered.a $(NATIVE)/libdoor_covered.a
+fuzz: $(NATIVE)/libfrom_c_covered.a $(NATIVE)/libdoor_covered.a $(NATIVE)/libkept_covered.a
 	@mkdir -p target/fuzz/seeds target/fuzz/corpus
 	@$(CC) -O1 -Wall -Wextra -Werror -o target/fuzz/make_seeds tests/fuzz/seeds.c tests/c/case_bytes.c
 	@target/fuzz/make_seeds target/fuzz/seeds examples/*.case examples/*.procap
-	@clang -g -O1 -Wall -Wextra -Werror -fsanitize=fuzzer -o target/fuzz/fuzz tests/fuzz/fuzz.c $(NATIVE)/libfrom_c_covered.a $(NATIVE)/libdoor_covered.a
+	@clang -g -O1 -Wall -Wextra -Werror -fsanitize=fuzzer -o target/fuzz/fuzz tests/fuzz/fuzz.c $(NATIVE)/libfrom_c_covered.a $(NATIVE)/libdoor_covered.a $(NATIVE)/libkept_covered.a
 	@cd target/fuzz && ./fuzz -max_total_time=$(FUZZ_SECONDS) -max_len=20000 -print_final_stats=1 corpus seeds 2>&1 | grep -E "broken|ERROR|SUMMARY|stat::|^Done|INITED|Test unit written"
 
 # The program on the deepest proofs that the limits allow, with a stack of 2 MiB and less.

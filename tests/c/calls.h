@@ -1,5 +1,6 @@
 /*
- * The calls of the crate from_c, which has every call of the office and the desk on numbers and byte slices, for tests and measuring.
+ * The calls of the crate from_c, which has every call of the office and the desk on numbers and byte slices, for tests and measuring;
+ * and those of the crate kept, which tell whether a demand holds of what these calls answer, and are proved to say yes.
  *
  * Records: 36 bytes each, all numbers highest byte first: principal (2), from and to (a kind, 1 byte, and a number, 8), start (8), length (8).
  * The kinds are 1 a moment, 2 minus infinity, 3 plus infinity; any other is ctime. An incomplete record at the end is one malformed record.
@@ -12,6 +13,7 @@
 #ifndef CALLS_H
 #define CALLS_H
 
+#include <stdbool.h>
 #include <stddef.h>
 #include <stdint.h>
 
@@ -42,5 +44,14 @@ uint64_t desk_door_on_value(const uint8_t *value, size_t value_length, uint16_t 
 /* How many of so many equal presses go through; the text is read once. */
 uint64_t desk_presses(const uint8_t *text, size_t text_length, uint16_t who, uint16_t what, uint16_t right, uint64_t moment,
                       const uint8_t *state, size_t state_length, uint64_t presses);
+
+/* Demand 3 at this press: what verify issues opens the door exactly if the direct check accepts; where it refuses, the check does not accept. */
+bool kept_demand_3(uint16_t who, uint16_t what, uint16_t right, const uint8_t *records, size_t records_length, const uint8_t *buffer,
+                   size_t buffer_length, const uint8_t *proof, size_t proof_length, uint64_t moment, const uint8_t *state,
+                   size_t state_length);
+/* Demand 2: bytes that read as a procap are what is written of it. */
+bool kept_demand_2_reading(const uint8_t *text, size_t text_length);
+/* Demand 2: what is written of a procap value reads back, and is written again as it was. */
+bool kept_demand_2_writing(const uint8_t *value, size_t value_length);
 
 #endif

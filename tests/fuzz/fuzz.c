@@ -85,6 +85,7 @@ static void hold_written(uint64_t answer, struct part out, unsigned most) {
 
 /* A text that reads is the text that is written. */
 static void rewrite(struct part text, size_t room) {
+    hold(kept_demand_2_reading(text.bytes, text.length), "demand 2 says no of a text");
     struct part out = buffer_to_write(room);
     uint64_t answer = office_rewrite(text.bytes, text.length, out.bytes, out.length);
     hold_written(answer, out, 0);
@@ -111,6 +112,9 @@ static void verify(void) {
     uint64_t moment = number(8);
     struct part records = part(RECORDS), buffer = part(BUFFER), proof = part(PROOF), state = part(STATE);
     struct part out = buffer_to_write(MOST_TEXT);
+    hold(kept_demand_3(who, what, right, records.bytes, records.length, buffer.bytes, buffer.length, proof.bytes, proof.length, moment,
+                       state.bytes, state.length),
+         "demand 3 says no");
     uint64_t answer = office_verify(who, what, right, records.bytes, records.length, buffer.bytes, buffer.length, proof.bytes,
                                     proof.length, out.bytes, out.length);
     hold_written(answer, out, 5);
@@ -134,6 +138,7 @@ static void value(void) {
     uint16_t who = number(2), what = number(2), right = number(2);
     uint64_t moment = number(8);
     struct part given = part(BUFFER), state = part(STATE), out = buffer_to_write(MOST_TEXT);
+    hold(kept_demand_2_writing(given.bytes, given.length), "demand 2 says no of a value");
     uint64_t answer = office_write(given.bytes, given.length, out.bytes, out.length);
     hold_written(answer, out, 0);
     uint64_t door = desk_door_on_value(given.bytes, given.length, who, what, right, moment, state.bytes, state.length);

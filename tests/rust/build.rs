@@ -15,7 +15,7 @@ fn directory() -> PathBuf {
 fn main() {
     let directory = directory();
     println!("cargo:rerun-if-env-changed=RATTLE_ARCHIVES");
-    for name in ["libfrom_c.a", "libdoor.a"] {
+    for name in ["libfrom_c.a", "libdoor.a", "libkept.a"] {
         println!("cargo:rerun-if-changed={}", directory.join(name).display());
     }
     println!("cargo:rustc-link-search=native={}", directory.display());

@@ -1,6 +1,6 @@
 -- What a caller takes out of the number that is handed to C tells what the call came to: 0 is a grant, whose text stands in front of the buffer;
 -- with any other number nothing was written.
-use Prim.Native.Nat.{ℕ, _≤_, _<_}
+use Prim.Native.Nat.{ℕ, _≤_}
 use mathlib.Core.Bool.{Bool, true, false}
 use mathlib.Core.Path.{_≡_, refl, sym, ap, _∙_}
 use mathlib.Core.List.{List}

@@ -1,13 +1,13 @@
 -- The demands once more, in the numbers and places that a caller from C, or who reads what the program prints, sees. 0 is the number of a grant and of
 -- nothing else, so each follows from what the calls come to (`FromC`), and holds at every press, whatever its moment and its state.
-use Prim.Native.Nat.{ℕ, _+_, _/_, _%_, _≤_, _<_}
+use Prim.Native.Nat.{ℕ, _/_, _%_, _≤_, _<_}
 use mathlib.Core.Path.{_≡_, refl, sym, ap, _∙_}
 use mathlib.Core.List.{List}
-use mathlib.Core.Option.{some}
 use mathlib.Core.Logic.{_↔_, _⊎_, inl, inr, Iff·symm, Iff·trans}
 use native.Mathlib.Omega.{arith}
 use lib.ListN.{length, take}
 use Rattle.procap.specs.Lists.{In}
+use Rattle.procap.specs.Procaps.{most-facts}
 use Rattle.procap.specs.Writable.{RequestInForm}
 use Rattle.procap.specs.Answers.{number-of, place-of, numbers}
 use Rattle.procap.specs.Outcome.{Outcome, granted, refused, answer-of}
@@ -24,7 +24,7 @@ use Rattle.text.specs.Text.{text-of, refusal-text}
 use Rattle.text.specs.Buffers.{most-text}
 use Rattle.text.specs.Calls.{reading, writing}
 use Rattle.text.proofs.Theorems.{written-is-read, read-is-written}
-use Rattle.door.specs.Door.{opening-text, packed}
+use Rattle.door.specs.Door.{opening-text}
 use Rattle.door.proofs.Answering.{places-are-small}
 use Rattle.cases.specs.Calls.{checked, printed-of, printed}
 use Rattle.cases.proofs.Refusals.{Refuses}
@@ -40,14 +40,18 @@ use Rattle.demands.proofs.FromC.{rewritten-from, value-written-from, re
 
 -- ── Demand 1 ──
 
--- What the firmware sees is one of the numbers that there are, and a place below 16.
-pub the-door-hands-back-a-number : (text : List ℕ) (r : Request) (m : ℕ) (state : List ℕ) (pressed : ℕ) → DoorGives text r m state pressed
-    → In (pressed / 256) numbers × (pressed % 256 < 16)
-the-door-hands-back-a-number text r m state pressed gives =
-    let answer = answer-of (opening-text text r m state) in
-    let small = places-are-small text r m state in
-    let number : pressed / 256 ≡ number-of answer = omega (arith, gives) in
-    (rw number (number-is-listed answer), omega (arith, gives))
+-- What the firmware takes out of what it sees are the number and the place of the door's answer: one of the numbers that there are, and a place below 16.
+module _ (text : List ℕ) (r : Request) (m : ℕ) (state : List ℕ) (pressed : ℕ) (gives : DoorGives text r m state pressed) where
+  pub the-door-hands-back-number-and-place : let answer = answer-of (opening-text text r m state) in
+      (pressed / 256 ≡ number-of answer) × (pressed % 256 ≡ place-of answer)
+  the-door-hands-back-number-and-place =
+      let small = places-are-small text r m state in
+      (omega (arith, gives), omega (arith, gives))
+
+  pub the-door-hands-back-a-number : In (pressed / 256) numbers × (pressed % 256 < most-facts)
+  the-door-hands-back-a-number =
+      let (number, place) = the-door-hands-back-number-and-place in
+      (rw number (number-is-listed (answer-of (opening-text text r m state))), rw place (places-are-small text r m state))
 
 -- A call that writes hands back one of the numbers that there are; with any other than 0 it has written nothing.
 pub a-call-that-writes-hands-back-a-number : (o : Outcome (List ℕ)) (before : List ℕ) (number : ℕ) (after : List ℕ) → HandsBack o before number after

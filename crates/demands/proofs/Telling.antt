@@ -1,6 +1,6 @@
 -- An answer tells what was decided: no refusal has the answer of a grant, so what answers 0 has granted just what it hands over, and
 -- what does not has refused.
-use Prim.Native.Nat.{ℕ, _<_}
+use Prim.Native.Nat.{ℕ}
 use mathlib.Core.Path.{_≡_, refl, sym, ap, _∙_}
 use mathlib.Core.List.{List}
 use mathlib.Core.Logic.{_↔_}

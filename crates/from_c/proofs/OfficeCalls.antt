@@ -1,16 +1,15 @@
 -- What the office's calls for C come to, where the call that they begin with is refused, and where the writer goes on from it.
 use Prim.Native.Nat.{ℕ}
-use mathlib.Core.Path.{_≡_, refl, sym, ap, _∙_}
+use mathlib.Core.Path.{_≡_, sym, ap, _∙_}
 use mathlib.Core.List.{List}
 use native.Mathlib.Omega.{arith}
 use lib.ListN.{length, take}
 use Rattle.procap.specs.Answers.{number-of}
-use Rattle.procap.specs.Outcome.{refused, go-on, answer-of, procap-handed}
+use Rattle.procap.specs.Outcome.{refused, answer-of, procap-handed}
 use Rattle.procap.specs.declared.answer.Answer.{Answer}
 use Rattle.procap.specs.declared.answer.Answer.the-variants.{ProcapMalformed}
 use Rattle.procap.specs.declared.procap.Request.{Request}
 use Rattle.procap.specs.declared.procap.Procap.{Procap}
-use Rattle.procap.proofs.Granted.{goes-on}
 use Rattle.procap.proofs.Refused.{IfRefused, or-else-refused}
 use Rattle.bl.specs.declared.Certificate.{Certificate}
 use Rattle.bl.specs.Calls.{verified, directly}

@@ -1,6 +1,6 @@
 -- Bytes that are rewritten with 0 stand in front of the buffer as they were, so the two are found to be the same.
 use Prim.Native.Nat.{_≤_}
-use mathlib.Core.Path.{_≡_, sym, _∙_}
+use mathlib.Core.Path.{sym, _∙_}
 use native.Mathlib.Omega.{arith}
 use borrow.Author.Needs.{needs}
 use Rattle.text.specs.Buffers.{most-text}

@@ -6,6 +6,7 @@ mod cases;
 mod coverage;
 mod difference;
 mod invented;
+mod kept;
 mod lent;
 mod moments;
 mod options;

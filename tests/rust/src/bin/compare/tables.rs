@@ -1,6 +1,9 @@
 //! The tables at the end of a run, and what is missing in them.
 
 use crate::coverage::{Call, Coverage, Walked};
+use crate::questions::presses::DEMAND_3_WHERE;
+use crate::questions::text::DEMAND_2_OF_A_TEXT;
+use crate::questions::values::DEMAND_2_OF_A_VALUE;
 use second_opinion::second::Clause;
 use std::collections::BTreeMap;
 
@@ -72,6 +75,7 @@ impl Report {
             missing: Vec::new(),
         };
         report.questions(coverage);
+        report.demands(coverage);
         report.answers(coverage);
         report.input_lines(coverage);
         report.facts(coverage);
@@ -106,6 +110,15 @@ impl Report {
         self.line("questions".to_string());
         for (name, count) in &coverage.asked {
             self.line(format!("  {name:<44}{count:>12}"));
+        }
+    }
+
+    /// Each demand must have been asked, demand 3 wherever it can come out in another way.
+    fn demands(&mut self, coverage: &Coverage) {
+        let demands_2 = [DEMAND_2_OF_A_TEXT, DEMAND_2_OF_A_VALUE];
+        for name in DEMAND_3_WHERE.iter().chain(&demands_2) {
+            let count = coverage.asked.get(name).copied().unwrap_or(0);
+            self.expect(true, count, || name.to_string());
         }
     }
 

@@ -4,11 +4,22 @@ use crate::archive::{self, Returned};
 use crate::asking::Asking;
 use crate::coverage::Call;
 use crate::difference::{promised, same, Difference, Outcome};
+use crate::kept;
 use crate::moments::{all_moments, some_moments};
 use crate::states::{all_states, some_states};
 use crate::wire::hex;
 use second_opinion::data::{Answer, Procap, LATEST};
 use second_opinion::second;
+
+/// Of every so many cases one is also put to the call that is demand 3.
+const DEMAND_3_EACH: u64 = 4;
+
+/// Where demand 3 is asked, by the names under which that is counted.
+pub const DEMAND_3_WHERE: [&str; 3] = [
+    "demand 3 where nothing is issued",
+    "demand 3 where the door stays shut",
+    "demand 3 where the door opens",
+];
 
 /// How many moments and states a normal run has for each case.
 const MOMENTS: usize = 10;
@@ -79,6 +90,9 @@ fn edges(issued: &Result<Procap, Answer>) -> Vec<u64> {
 fn press(asking: &mut Asking, press: Press, shown: Option<&Shown>) -> Outcome {
     let direct = direct(asking, press)?;
     let accepted = direct == Answer::GRANTED;
+    if asking.index % DEMAND_3_EACH == 0 {
+        demand_3(asking, press, shown.is_some(), accepted)?;
+    }
     let Some(shown) = shown else {
         let wanted = "no acceptance, as verify refused";
         let question = || press.words("direct check of a refused case");
@@ -89,6 +103,17 @@ fn press(asking: &mut Asking, press: Press, shown: Option<&Shown>) -> Outcome {
     let question = || press.words("direct check and door");
     let joined = accepted == (opened == Answer::GRANTED);
     promised(joined, question, wanted, (direct, opened))
+}
+
+/// Asks the call that is demand 3 whether it is kept at a press.
+fn demand_3(asking: &mut Asking, press: Press, issued: bool, accepted: bool) -> Outcome {
+    let kept = kept::demand_3(&asking.for_archive(), press.moment, press.state);
+    asking.coverage.asked(match (issued, accepted) {
+        (false, _) => DEMAND_3_WHERE[0],
+        (true, false) => DEMAND_3_WHERE[1],
+        (true, true) => DEMAND_3_WHERE[2],
+    });
+    promised(kept, || press.words("demand 3"), "yes", kept)
 }
 
 /// What both direct checks answer.

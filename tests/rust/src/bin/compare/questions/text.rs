@@ -3,13 +3,17 @@
 use crate::archive;
 use crate::asking::Asking;
 use crate::coverage::Call;
-use crate::difference::{same, Outcome};
+use crate::difference::{promised, same, Outcome};
+use crate::kept;
 use crate::lent::written;
 use crate::pressing::{some_asked, some_press};
 use crate::wire::hex;
 use second_opinion::data::{Answer, Procap, Request};
 use second_opinion::generate::damaged_bytes;
 use second_opinion::second;
+
+/// The name under which it is counted that demand 2 is asked of a text.
+pub const DEMAND_2_OF_A_TEXT: &str = "demand 2 of a text";
 
 /// How many equal presses are made in a row at most.
 const MOST_PRESSES: u64 = 5;
@@ -49,7 +53,10 @@ fn rewrite(asking: &mut Asking, text: &[u8]) -> Outcome {
     )?;
     asking.coverage.asked("text read and written again");
     asking.coverage.answered(Call::Rewrite, answer.number);
-    Ok(())
+    let kept = kept::demand_2_reading(text);
+    asking.coverage.asked(DEMAND_2_OF_A_TEXT);
+    let question = || format!("demand 2 of text {}", hex(text));
+    promised(kept, question, "yes", kept)
 }
 
 /// Asks what the door answers to a text.

@@ -3,13 +3,17 @@
 use crate::archive::{self, Returned};
 use crate::asking::Asking;
 use crate::coverage::Call;
-use crate::difference::{same, Outcome};
+use crate::difference::{promised, same, Outcome};
+use crate::kept;
 use crate::lent::written;
 use crate::pressing::{some_press, some_request};
 use crate::spoiled::spoiled;
 use crate::wire::hex;
 use second_opinion::data::Procap;
 use second_opinion::second;
+
+/// The name under which it is counted that demand 2 is asked of a value.
+pub const DEMAND_2_OF_A_VALUE: &str = "demand 2 of a value";
 
 /// Asks about a procap as a value, and about damaged values.
 pub fn ask(asking: &mut Asking, procap: &Procap) -> Outcome {
@@ -35,6 +39,10 @@ fn one_value(asking: &mut Asking, procap: &Procap, value: &[u8]) -> Outcome {
     )?;
     asking.coverage.asked("value written");
     asking.coverage.answered(Call::Write, answer.number);
+    let kept = kept::demand_2_writing(value);
+    asking.coverage.asked(DEMAND_2_OF_A_VALUE);
+    let question = || format!("demand 2 of value {}", hex(value));
+    promised(kept, question, "yes", kept)?;
     let (moment, state) = some_press(&mut asking.random, procap);
     let request = some_request(&mut asking.random, procap.request);
     let answer = match &read {
