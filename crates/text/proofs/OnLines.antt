@@ -71,7 +71,7 @@ read-is o r f e h k = by (r .found) h
   where
     by : (b : Bool) → FactFound o b (r .fact) (r .next) → r .fact ≡ fact-of f
     by true h = h .1 ∙ ap (λ t. fact-of (t .0)) (Option·some-injective (spelled (r .fact), r .next) (f, e) (sym (h .0) ∙ k))
-    by false h = absurd (Option·none-ne-some (f, e) (sym h ∙ k))
+    by false h = absurd (Option·none-ne-some (f, e) (sym (h .0) ∙ k))
 
 -- The same of the first lines of an array of places.
 module _ (text places : List ℕ) (count : ℕ) (room : count ≤ length places) (fs : List Spelled) (h : OnLines text (take count places) fs) where

@@ -1,7 +1,7 @@
 -- Two bytes of predicate and one of count, at most four: else there is no fact, and then it is the one of the terms behind them.
 use borrow.Author.Needs.{needs}
 use native.Mathlib.Omega.{arith}
-use Rattle.procap.proofs.Handed.{number-told, bound-told}
+use Rattle.procap.proofs.Handed.{no-fact-told, number-told, bound-told}
 use Rattle.state.proofs.Terms.{no-predicate, no-count, too-many, with-terms}
 use Rattle.state.proofs.fact_at.Statement.{statement}
 use Rattle.state.proofs.fact_at.Tie as tie
@@ -21,7 +21,7 @@ none-requires c κs = search needs
 returns : tie.Need-returns
 returns c =
     let told = c .before .before .before .two-bytes-at in
-    rw (c .none .ensures) (no-predicate _ _ (number-told _ (c .before .enum-told .given .1) (told .ensures .0)))
+    no-fact-told _ _ (c .none .ensures) (no-predicate _ _ (number-told _ (c .before .enum-told .given .1) (told .ensures .0)))
 
 byte-at-requires : tie.Need-byte-at-requires
 byte-at-requires c κs = search needs
@@ -39,7 +39,7 @@ returns-2 : tie.Need-returns-2
 returns-2 c =
     let one = c .before .before .before .before .before in
     let predicate = number-told _ (one .predicate .given .1) (one .before .before .two-bytes-at .ensures .0) in
-    rw (c .none2 .ensures)
+    no-fact-told _ _ (c .none2 .ensures)
     (no-count _ _ _ _ predicate (number-told _ (c .before .enum-told2 .given .1) (c .before .before .before .byte-at .ensures .0)))
 
 none-requires-3 : tie.Need-none-requires-3
@@ -51,7 +51,7 @@ returns-3 c =
     let one = two .before .before .before .before in
     let predicate = number-told _ (one .predicate .given .1) (one .before .before .two-bytes-at .ensures .0) in
     let count = number-told _ (two .count .given .1) (two .before .before .byte-at .ensures .0) in
-    rw (c .none3 .ensures) (too-many _ _ _ _ predicate _ _ count (c .before .if1 .taken))
+    no-fact-told _ _ (c .none3 .ensures) (too-many _ _ _ _ predicate _ _ count (c .before .if1 .taken))
 
 cast-fact-with : tie.Need-cast-fact-with
 cast-fact-with c =

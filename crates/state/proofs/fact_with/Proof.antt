@@ -7,7 +7,7 @@ use Rattle.procap.specs.Lists.{pad}
 use Rattle.procap.specs.Facts.{most-terms, no-argument, argument-of}
 use Rattle.procap.specs.Reading.{with-predicate}
 use Rattle.procap.specs.States.{settled-term}
-use Rattle.procap.proofs.Handed.{term-told}
+use Rattle.procap.proofs.Handed.{no-fact-told, term-told}
 use Rattle.procap.proofs.ReadSoFar.{ManyRead, none-of-many, one-of-many, none-of-rest, all-of-many}
 use Rattle.procap.proofs.WithPredicate.{fact-with}
 use Rattle.state.proofs.fact_with.Statement.{statement}
@@ -40,7 +40,7 @@ returns : tie.Need-returns Inv-loop μ-loop
 returns c =
     let told = c .before .before .before .settled-term-at in
     let missing = term-told _ (c .before .enum-told .given .1) (told .ensures) in
-    rw (c .none .ensures)
+    no-fact-told _ _ (c .none .ensures)
     (ap (with-predicate _)
     (none-of-rest (c .before .before .before .before .before .loop .inv) (c .before .before .before .before .loop-test .taken) missing))
 

@@ -3,7 +3,7 @@ use mathlib.Core.Path.{_≡_}
 use mathlib.Core.Option.{some}
 use native.Mathlib.Omega.{arith}
 use borrow.Author.Needs.{needs}
-use Rattle.procap.proofs.Handed.{number-told, bound-told}
+use Rattle.procap.proofs.Handed.{no-fact-told, number-told, bound-told}
 use Rattle.text.specs.Words.{bytes-of}
 use Rattle.text.specs.Line.{literal}
 use Rattle.text.proofs.Lines.{place-told}
@@ -34,7 +34,7 @@ none-requires c κs = search needs
 
 returns : tie.Need-returns
 returns c =
-    rw (c .none .ensures) (no-fact-word _ _ (place-told _ (c .before .enum-told .given .1) (c .before .before .before .after .ensures)))
+    no-fact-told _ _ (c .none .ensures) (no-fact-word _ _ (place-told _ (c .before .enum-told .given .1) (c .before .before .before .after .ensures)))
 
 number-requires : tie.Need-number-requires
 number-requires c κs = search needs
@@ -50,7 +50,7 @@ none-requires-2 c κs = search needs
 
 returns-2 : tie.Need-returns-2
 returns-2 c =
-    rw (c .none2 .ensures)
+    no-fact-told _ _ (c .none2 .ensures)
     (no-predicate _ _ _ (word-read (c .before .before .before .before))
     (number-told _ (c .before .enum-told2 .given .1) (c .before .before .before .number .ensures .0)))
 

@@ -8,7 +8,7 @@ use native.Mathlib.Omega.{arith}
 use borrow.Author.Needs.{needs}
 use Rattle.procap.specs.Lists.{pad}
 use Rattle.procap.specs.Facts.{most-terms, no-argument, argument-of}
-use Rattle.procap.proofs.Handed.{term-told}
+use Rattle.procap.proofs.Handed.{no-fact-told, term-told}
 use Rattle.procap.proofs.ReadSoFar.{ReadSoFar, none-yet, one-more, rest-is}
 use Rattle.procap.proofs.WithPredicate.{no-fact-with, fact-with}
 use Rattle.text.specs.Words.{bytes-of}
@@ -78,7 +78,7 @@ returns : tie.Need-returns Inv-loop μ-loop
 returns c =
     let turn = c .before .before .before .before in
     let here = turn .before .before .before .before .before .before .loop in
-    rw (c .none .ensures)
+    no-fact-told _ _ (c .none .ensures)
     (no-fact-with _ (here .inv)
     (no-term-after _ _ (most-terms - 1 - here .count) _ (omega arith) _
     (space-read turn)
@@ -122,7 +122,7 @@ none-requires-2 c κs = search needs
 
 returns-2 : tie.Need-returns-2 Inv-loop μ-loop
 returns-2 c =
-    rw (c .none2 .ensures)
+    no-fact-told _ _ (c .none2 .ensures)
     (no-fact-with _ (only-end (c .before .before .before .before .before))
     (no-line-end _ _ (place-told _ (c .before .enum-told3 .given .1) (c .before .before .before .after2 .ensures))))
 
