@@ -20,3 +20,4 @@ pub mod Readings
 pub mod SameLines
 pub mod OnLines
 pub mod LinesSoFar
+pub mod Overviews

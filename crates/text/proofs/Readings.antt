@@ -2,10 +2,10 @@
 -- there are none where one does not.
 use Prim.Native.Nat.{ℕ, _≤_, _<_}
 use mathlib.Core.Bool.{true, false, not}
-use mathlib.Core.Path.{_≡_, refl, sym}
+use mathlib.Core.Path.{_≡_, refl, sym, ap, _∙_}
 use mathlib.Core.List.{List, map}
 use mathlib.Core.Option.{Option, some, none}
-use lib.ListN.{length, take}
+use lib.ListN.{length}
 use borrow.Author.Tests.{le-leb, lt-leb, eq-eqb, ne-eqb, not-true, not-false}
 use Rattle.procap.specs.Lists.{Distinct, pad}
 use Rattle.procap.specs.Times.{latest}
@@ -18,13 +18,14 @@ use Rattle.procap.specs.declared.answer.Answer.the-variants.{Granted, ProcapMal
 use Rattle.procap.specs.declared.fact.Fact.{Fact}
 use Rattle.procap.specs.declared.procap.Request.{Request}
 use Rattle.procap.specs.declared.procap.Procap.{Procap}
+use Rattle.procap.proofs.Listed.{listed-back}
 use Rattle.procap.proofs.Telling.{so-told, not-told}
 use Rattle.text.specs.Words.{bytes-of}
 use Rattle.text.specs.Line.{line-to}
 use Rattle.text.specs.LinesInARow.{uncounted}
 use Rattle.text.specs.RequestLines.{request-lines}
 use Rattle.text.specs.Reader.{fact-line, moment-lines, procap-with, procap-lines, text-in}
-use Rattle.text.specs.Places.{MomentsReads, OnLines, LinesFound, LinesReads, SeesBy, Sees}
+use Rattle.text.specs.Places.{MomentsReads, LinesFound, LinesReads, places-in, nothing-seen, overview-of}
 use Rattle.text.specs.declared.fact_places.LinesRead.{LinesRead}
 use Rattle.text.specs.declared.reader.MomentsRead.{MomentsRead}
 use Rattle.text.specs.declared.reader.ReadText.{ReadText}
@@ -41,20 +42,12 @@ pub moments-found : (o : Option ((ℕ × ℕ) × ℕ)) (r : MomentsRead) → not
 moments-found o r f h = rw (not-false (r .found) f) at h
 
 -- Where the flag is false there are no such lines, no two of them alike; where it is true, those at the places beside it.
-module _ (text : List ℕ) (o : Option (List Spelled × ℕ)) (count : ℕ) (r : LinesRead) where
-  pub lines-missing : not (r .found) ≡ true → LinesReads text o count r → LinesFound text o count false (r .places) (r .next)
+module _ (o : Option (List Spelled × ℕ)) (at count : ℕ) (r : LinesRead) where
+  pub lines-missing : not (r .found) ≡ true → LinesReads o at count r → LinesFound o at count false (r .places) (r .next)
   lines-missing f h = rw (not-true (r .found) f) at h
 
-  pub lines-found : not (r .found) ≡ false → LinesReads text o count r → LinesFound text o count true (r .places) (r .next)
+  pub lines-found : not (r .found) ≡ false → LinesReads o at count r → LinesFound o at count true (r .places) (r .next)
   lines-found f h = rw (not-false (r .found) f) at h
-
--- The same of a text that was looked over.
-module _ (text : List ℕ) (o : Outcome Procap) (r : Overview) where
-  pub overview-missing : not (r .found) ≡ true → Sees text o r → o ≡ refused ProcapMalformed
-  overview-missing f h = rw (not-true (r .found) f) at h
-
-  pub overview-found : not (r .found) ≡ false → Sees text o r → SeesBy text o true r
-  overview-found f h = rw (not-false (r .found) f) at h
 
 -- ── The moments ──
 
@@ -174,17 +167,25 @@ module _ (text : List ℕ) where
 
 -- ── What is seen ──
 
--- Where there is no procap and nothing was seen, that is so; where there is one, what was seen is enough to make it.
-pub none-seen : (text : List ℕ) (o : Option Procap) (r : Overview) → r .found ≡ false → o ≡ none → Sees text (or-else ProcapMalformed o) r
-unfolding or-else
-none-seen text o r f e = rw (f, e)
+-- Where there is no procap nothing is seen; where there is one, its request, its moments and the places of its facts are.
+pub none-seen : (text : List ℕ) (o : Option Procap) (r : Overview) → r ≡ nothing-seen → o ≡ none → r ≡ overview-of text (or-else ProcapMalformed o)
+unfolding or-else overview-of
+none-seen text o r f e = rw e f
 
 pub some-seen : (text : List ℕ) (o : Option Procap) (request : Request) (from to count : ℕ) (places : List ℕ) (fs : List Spelled)
-    → o ≡ some (procap-of request from to fs) → length fs ≡ count → count ≤ most-facts → OnLines text (take count places) fs
-    → Sees text (or-else ProcapMalformed o)
-    (record { found = true; request = request; from = from; to = to; count = count; places = places })
-unfolding or-else
-some-seen text o request from to count places fs e n l on = (fs, rw e, n, l, on)
+    → o ≡ some (procap-of request from to fs) → length fs ≡ count → places ≡ places-in text fs
+    → _≡_ {A = Overview} (record { found = true; request = request; from = from; to = to; count = count; places = places })
+    (overview-of text (or-else ProcapMalformed o))
+unfolding or-else overview-of procap-of
+some-seen text o request from to count places fs e n on =
+    rw e λ i. record {
+      found = true;
+      request = request;
+      from = from;
+      to = to;
+      count = sym n i;
+      places = (on ∙ ap (places-in text) (sym (listed-back request from to fs))) i;
+    }
 
 -- ── What is handed over ──
 

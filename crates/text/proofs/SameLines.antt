@@ -118,7 +118,7 @@ word-said f h = parted word _ h (λ next said _. (next, said))
 
 module _ (text : List ℕ) (at : ℕ) (f : Spelled) (end : ℕ) (h : ReadsAt text at f end) where
   -- A line that reads as a fact is the fact's spelling.
-  line-said : Takes text at (fact-text f) end × SpelledInForm f
+  pub line-said : Takes text at (fact-text f) end × SpelledInForm f
   line-said = so-read (fact-line text at) h (fact-read at)
 
   module _ (other : ℕ) (g : Spelled) (e : ℕ) (k : ReadsAt text other g e) where

@@ -28,7 +28,7 @@ use Rattle.procap.proofs.Telling.{told-so, so-told}
 use Rattle.procap.proofs.Rebuilt.{SpelledInForm, rebuilt, listed-count, listed-in-form, made-writable}
 
 -- The lines of the moments.
-abbrev moments-text : ℕ × ℕ → List ℕ
+abbrev pub moments-text : ℕ × ℕ → List ℕ
 moments-text m = line (bytes-of "from=") (m .0) ++ line (bytes-of "to=") (m .1)
 
 -- The lines of facts, their count in front.
@@ -36,7 +36,7 @@ abbrev facts-lines : List Spelled → List ℕ
 facts-lines fs = line (bytes-of "facts=") (length fs) ++ facts-text fs
 
 -- The text in these parts.
-text-parts : (p : Procap)
+pub text-parts : (p : Procap)
     → text-of p ≡ line (bytes-of "procap=") (p .version) ++ request-text (p .request) ++ moments-text (p .from, p .to) ++ (line (bytes-of "facts=") (p .count) ++ facts-text (listed p))
 unfolding text-of
 text-parts p = simp append-assoc

@@ -1,20 +1,21 @@
 -- How what the code's readers of the text hand back stands to the readers of these pages. What is promised of reading a text does not rest on this.
-use Prim.Native.Nat.{ℕ, _+_, _≤_, _<_}
+use Prim.Native.Nat.{ℕ, _+_, _-_, _<_}
 use mathlib.Core.Bool.{Bool, true, false}
 use mathlib.Core.Path.{_≡_}
 use mathlib.Core.List.{List, [], _∷_, map}
 use mathlib.Core.Option.{Option, some, none}
-use lib.ListN.{length, take, drop}
+use lib.ListN.{length, take, drop, replicate}
 use Rattle.procap.specs.Lists.{pad, In, Distinct}
 use Rattle.procap.specs.Tells.{Tells}
 use Rattle.procap.specs.Facts.{Spelled, fact-of, no-fact}
-use Rattle.procap.specs.Procaps.{most-facts, procap-of}
+use Rattle.procap.specs.Procaps.{most-facts, listed, no-request}
 use Rattle.procap.specs.Outcome.{Outcome, granted, refused}
-use Rattle.procap.specs.declared.answer.Answer.the-variants.{ProcapMalformed, InputMalformed}
+use Rattle.procap.specs.declared.answer.Answer.the-variants.{InputMalformed}
 use Rattle.procap.specs.declared.fact.Fact.{Fact}
 use Rattle.procap.specs.declared.procap.Procap.{Procap}
 use Rattle.procap.specs.declared.procap.Request.{Request}
 use Rattle.text.specs.Numbers.{digit-zero, leading-digits}
+use Rattle.text.specs.Text.{fact-text, facts-text}
 use Rattle.text.specs.declared.line.Place.{Place}
 use Rattle.text.specs.declared.line.Place.the-variants.{At, Nowhere}
 use Rattle.text.specs.declared.line.Form.{Form}
@@ -43,9 +44,13 @@ abbrev pub Reads : {A : Type 0} → Outcome (A × ℕ × ℕ) → Form → Type 
 Reads o Kept so = so
 Reads o (BrokenAt line) so = o ≡ refused (InputMalformed line)
 
--- The request, where its lines are counted from 1.
+-- The request, where its lines are counted from 1, and the place after them; or the line that breaks their form, and then zeros beside it.
+abbrev pub RequestFound : Outcome (Request × ℕ × ℕ) → Form → Request → ℕ → Type 0
+RequestFound o Kept request next = o ≡ granted (request, 4, next)
+RequestFound o (BrokenAt line) request next = (o ≡ refused (InputMalformed line)) × (request ≡ no-request) × (next ≡ 0)
+
 abbrev pub RequestReads : Outcome (Request × ℕ × ℕ) → RequestRead → Type 0
-RequestReads o r = Reads o (r .form) (o ≡ granted (r .request, 4, r .next))
+RequestReads o r = RequestFound o (r .form) (r .request) (r .next)
 
 -- Two moments that a reader finds and the place after them; or none, by the flag.
 abbrev pub MomentsFound : Option ((ℕ × ℕ) × ℕ) → Bool → ℕ → ℕ → ℕ → Type 0
@@ -79,23 +84,36 @@ SameLine text at end other r = (f g : Spelled) (e : ℕ) → ReadsAt text at f e
 abbrev pub FactsOn : List ℕ → List ℕ → ℕ → List Fact → Type 0
 FactsOn text places count r = (fs : List Spelled) → OnLines text (take count places) fs → r ≡ pad most-facts no-fact (map fact-of fs)
 
--- So many lines of facts that a reader finds, no two alike, by their places, and the place after them; or, by the flag, there are no such lines.
-abbrev pub LinesFound : List ℕ → Option (List Spelled × ℕ) → ℕ → Bool → List ℕ → ℕ → Type 0
-LinesFound text o count true places next = (fs : List Spelled) × (o ≡ some (fs, next)) × Distinct fs × (length fs ≡ count) × OnLines text (take count places) fs
-LinesFound text o count false places next = (fs : List Spelled) (e : ℕ) → o ≡ some (fs, e) → Distinct fs → ⊥
+-- Where the lines of these facts begin, from a place on: each where the one before it ends.
+unfoldable pub line-starts : ℕ → List Spelled → List ℕ
+line-starts at [] = []
+line-starts at (f ∷ fs) = at ∷ line-starts (at + length (fact-text f)) fs
 
-abbrev pub LinesReads : List ℕ → Option (List Spelled × ℕ) → ℕ → LinesRead → Type 0
-LinesReads text o count r = LinesFound text o count (r .found) (r .places) (r .next)
+-- So many lines of facts that a reader finds from a place on, no two alike, by their places, and the place after them; or, by the flag, there are no such lines.
+abbrev pub LinesFound : Option (List Spelled × ℕ) → ℕ → ℕ → Bool → List ℕ → ℕ → Type 0
+LinesFound o at count true places next =
+    (fs : List Spelled) × (o ≡ some (fs, next)) × Distinct fs × (length fs ≡ count) × (places ≡ pad most-facts 0 (line-starts at fs))
+LinesFound o at count false places next = (fs : List Spelled) (e : ℕ) → o ≡ some (fs, e) → Distinct fs → ⊥
 
--- What reading comes to, for a text that was looked over: the procap of what was seen, with the facts on the lines; or no text, by the flag.
-abbrev pub SeesBy : List ℕ → Outcome Procap → Bool → Overview → Type 0
-SeesBy text o true r =
-    (fs : List Spelled)
-    × (o ≡ granted (procap-of (r .request) (r .from) (r .to) fs))
-    × (length fs ≡ r .count)
-    × (r .count ≤ most-facts)
-    × OnLines text (take (r .count) (r .places)) fs
-SeesBy text o false r = o ≡ refused ProcapMalformed
+abbrev pub LinesReads : Option (List Spelled × ℕ) → ℕ → ℕ → LinesRead → Type 0
+LinesReads o at count r = LinesFound o at count (r .found) (r .places) (r .next)
 
-abbrev pub Sees : List ℕ → Outcome Procap → Overview → Type 0
-Sees text o r = SeesBy text o (r .found) r
+-- Where the lines of a text's facts begin, which are its last ones, with zeros past them.
+unfoldable pub places-in : List ℕ → List Spelled → List ℕ
+places-in text fs = pad most-facts 0 (line-starts (length text - length (facts-text fs)) fs)
+
+-- What is seen of bytes that are no text: zeros.
+abbrev pub nothing-seen : Overview
+nothing-seen = record { found = false; request = no-request; from = 0; to = 0; count = 0; places = replicate most-facts 0 }
+
+-- What is seen of a text that reads as a procap: its request, its moments, how many facts it lists and where their lines begin.
+unfoldable pub overview-of : List ℕ → Outcome Procap → Overview
+overview-of text (granted p) = record {
+  found = true;
+  request = p .request;
+  from = p .from;
+  to = p .to;
+  count = p .count;
+  places = places-in text (listed p);
+}
+overview-of text (refused answer) = nothing-seen

@@ -23,7 +23,7 @@ pub struct LinesRead {
 // So many lines of facts at a place.
 pub(crate) fn lines_at(text: &[u8], at: usize, count: usize) -> LinesRead
     requires { ⌜ count ≤ «most-facts» ⌝ }
-    ensures { λ r. ⌜ LinesReads (now (text .entry)) (many («fact-line» (now (text .entry))) count at) count r ⌝ }
+    ensures { λ r. ⌜ LinesReads (many («fact-line» (now (text .entry))) count at) at count r ⌝ }
 {
     let mut places = [0usize; MOST_FACTS];
     let mut next = at;

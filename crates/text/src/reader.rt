@@ -16,7 +16,7 @@ ghost use mathlib.Core.Path.{_≡_};
 ghost use Rattle.procap.specs.Procaps.{«empty-procap»};
 ghost use Rattle.procap.specs.Outcome.{«answer-of», «procap-handed»};
 ghost use Rattle.text.specs.Reader.{«moment-lines»};
-ghost use Rattle.text.specs.Places.{MomentsReads, Sees};
+ghost use Rattle.text.specs.Places.{MomentsReads, «nothing-seen», «overview-of»};
 ghost use Rattle.text.specs.Calls.{«facts-to-the-end», reading};
 
 // The answer of reading a text, and the procap that it says.
@@ -71,7 +71,7 @@ pub fn read_text(text: &[u8]) -> ReadText
 
 // Whether the bytes are a text, and then its request, its moments and where the lines of its facts begin.
 pub fn look_over(text: &[u8]) -> Overview
-    ensures { λ r. ⌜ Sees (now (text .entry)) (reading (now (text .entry))) r ⌝ }
+    ensures { λ r. ⌜ r ≡ «overview-of» (now (text .entry)) (reading (now (text .entry))) ⌝ }
 {
     let NumberRead::Number(version, after_version) = line(text, 0, b"procap=", VERSION as u64)
     else {
@@ -95,7 +95,7 @@ pub fn look_over(text: &[u8]) -> Overview
 
 // The same of a request, two moments and the facts from a place to the end of the text.
 fn look_over_facts(text: &[u8], request: Request, from: u64, to: u64, at: usize) -> Overview
-    ensures { λ r. ⌜ Sees (now (text .entry)) («facts-to-the-end» (now (text .entry)) request from to at) r ⌝ }
+    ensures { λ r. ⌜ r ≡ «overview-of» (now (text .entry)) («facts-to-the-end» (now (text .entry)) request from to at) ⌝ }
 {
     let NumberRead::Number(facts, after_count) = line(text, at, b"facts=", MOST_FACTS as u64) else {
         return nothing_seen();
@@ -121,7 +121,7 @@ fn look_over_facts(text: &[u8], request: Request, from: u64, to: u64, at: usize)
 
 // What is handed back for bytes that are no text.
 fn nothing_seen() -> Overview
-    ensures { λ r. ⌜ r .found ≡ Bool.false ⌝ }
+    ensures { λ r. ⌜ r ≡ «nothing-seen» ⌝ }
 {
     let request = Request::none();
     Overview {

@@ -5,6 +5,7 @@ use procap::bytes::NumberRead;
 use procap::procap::Request;
 use procap::writable::LARGEST_NAME;
 ghost use mathlib.Core.Path.{_≡_};
+ghost use Rattle.procap.specs.Procaps.{«no-request»};
 ghost use Rattle.text.specs.RequestLines.{«request-lines»};
 ghost use Rattle.text.specs.Places.{RequestReads};
 
@@ -42,7 +43,7 @@ pub fn request_at(text: &[u8], at: usize) -> RequestRead
 
 // What is handed back where a line breaks the form of the request.
 fn no_request(broken: usize) -> RequestRead
-    ensures { λ r. ⌜ r .form ≡ Form.BrokenAt broken ⌝ }
+    ensures { λ r. ⌜ r ≡ record { form = Form.BrokenAt broken; request = «no-request»; next = 0 } ⌝ }
 {
     let request = Request::none();
     RequestRead {

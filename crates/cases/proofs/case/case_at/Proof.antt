@@ -9,7 +9,8 @@ use Rattle.bl.specs.Certificates.{most-certificates}
 use Rattle.text.specs.Words.{bytes-of}
 use Rattle.text.specs.Line.{line-to}
 use Rattle.text.specs.RequestLines.{request-lines}
-use Rattle.text.proofs.Forms.{kept-told, broken-told, broken-handed}
+use Rattle.text.proofs.Forms.{broken-handed}
+use Rattle.text.proofs.Requests.{request-kept, request-broken-at}
 use Rattle.cases.proofs.WholeCases.{request-broken, no-certs, case-says}
 use Rattle.cases.proofs.case.case_at.Statement.{statement}
 use Rattle.cases.proofs.case.case_at.Tie as tie
@@ -21,7 +22,7 @@ request-read : (c : tie.After-enum-told)
     request-lines (args .input .now) 1 0 ≡ granted (asked .request, 4, asked .next)
 request-read c =
     let call = c .before .before .request-at in
-    kept-told _ _ (c .enum-told .given .1) (call .ensures)
+    request-kept _ (call .result) (c .enum-told .given .1) (call .ensures)
 
 -- The line of the count stands after them, or does not.
 count-read : (c : tie.After-known-told2)
@@ -51,7 +52,7 @@ returns c =
     let told = c .before .before in
     let call = told .before .before .request-at in
     broken-handed _ _ (c .no-case .ensures)
-    (request-broken _ _ _ _ (broken-told _ _ (told .form .given .1) (call .ensures)))
+    (request-broken _ _ _ _ (request-broken-at _ (call .result) (told .form .given .1) (call .ensures)))
 
 enum-told : tie.Need-enum-told
 enum-told c = search needs

@@ -1,12 +1,9 @@
 -- Bytes that are no text are 12. Of a text, what comes before the facts is the answer where it is no 0, and else the facts on its lines give it.
-use mathlib.Core.Bool.{true}
 use mathlib.Core.Path.{_≡_, sym, ap, _∙_}
 use borrow.Author.Needs.{needs}
 use Rattle.procap.specs.Procaps.{request-of}
 use Rattle.procap.specs.Outcome.{answer-of}
-use Rattle.text.specs.Calls.{reading}
-use Rattle.text.specs.Places.{SeesBy}
-use Rattle.text.proofs.Readings.{overview-missing, overview-found}
+use Rattle.text.proofs.Overviews.{Seen, overview-missing, overview-found}
 use Rattle.door.specs.Door.{opening-text, packed}
 use Rattle.door.proofs.Texts.{no-text, small-place, seen-before, seen-by-the-facts}
 use Rattle.door.proofs.on_text.procap_door.Statement.{statement}
@@ -14,9 +11,8 @@ use Rattle.door.proofs.on_text.procap_door.Tie as tie
 
 -- What was seen of the text.
 seen : (c : tie.Else1)
-    → let text = c .before .before .before .before .before .args .text .now in
-    SeesBy text (reading text) true (c .before .before .look-over .result)
-seen c = overview-found _ _ (c .before .before .look-over .result) (c .if1 .left) (c .before .before .look-over .ensures)
+    → Seen (c .before .before .before .before .before .args .text .now) (c .before .before .look-over .result)
+seen c = let look = c .before .before .look-over in overview-found _ (look .result) (look .ensures) (c .if1 .left)
 
 -- What comes before the facts is the answer.
 refused-early : (c : tie.Then2)
@@ -26,7 +22,7 @@ refused-early : (c : tie.Then2)
 refused-early c =
     let found = seen (c .before .before .before .before) in
     let early = c .before .before .before-facts in
-    seen-before _ _ _ _ _ _ _ (found .0) (found .1) (early .result) (early .ensures) (λ e. c .if2 .taken (c .before .number .ensures ∙ e))
+    seen-before _ _ _ _ _ _ _ (found .facts) (found .says) (early .result) (early .ensures) (λ e. c .if2 .taken (c .before .number .ensures ∙ e))
 
 -- The facts on the lines give it.
 by-its-lines : (c : tie.After-first-line-missing)
@@ -37,8 +33,8 @@ by-its-lines c =
     let found = seen (c .before .before .before .before .before .before) in
     let early = c .before .before .before .before .before-facts in
     let zero = sym (c .before .before .before .number .ensures) ∙ c .before .before .if2 .left in
-    seen-by-the-facts _ _ _ _ _ _ _ (found .0) (found .1) (early .result) (early .ensures) zero _
-    (c .first-line-missing .ensures (found .0) (found .4))
+    seen-by-the-facts _ _ _ _ _ _ _ (found .facts) (found .says) (early .result) (early .ensures) zero _
+    (c .first-line-missing .ensures (found .facts) (found .on))
 
 look-over-requires : tie.Need-look-over-requires
 look-over-requires c κs = search needs
@@ -49,7 +45,7 @@ as-number-requires c κs = search needs
 returns : tie.Need-returns
 returns c =
     let looked = c .before .before .before .look-over in
-    c .as-number .ensures ∙ ap packed (no-text _ _ _ _ (overview-missing _ _ (looked .result) (c .before .if1 .taken) (looked .ensures)))
+    c .as-number .ensures ∙ ap packed (no-text _ _ _ _ (overview-missing _ (looked .result) (looked .ensures) (c .before .if1 .taken)))
 
 before-facts-requires : tie.Need-before-facts-requires
 before-facts-requires c κs = search needs
@@ -64,7 +60,7 @@ returns-2 : tie.Need-returns-2
 returns-2 c = c .as-number2 .ensures ∙ ap packed (refused-early (c .before))
 
 first-line-missing-requires : tie.Need-first-line-missing-requires
-first-line-missing-requires c κs = seen (c .before .before .before .before .before) .3
+first-line-missing-requires c κs = seen (c .before .before .before .before .before) .few
 
 as-number-requires-3 : tie.Need-as-number-requires-3
 as-number-requires-3 c κs = small-place _ _ _ _ _ (by-its-lines c)

@@ -1,7 +1,6 @@
 -- The lines passed are read, no two alike, and their places are kept. A line that is no fact's, or one that was there before, means that there are no
 -- such lines.
 use Prim.Native.Nat.{_-_}
-use mathlib.Core.Path.{refl}
 use native.Mathlib.Omega.{arith}
 use borrow.Author.Needs.{needs}
 use Rattle.procap.proofs.Handed.{fact-found, fact-missing}
@@ -17,7 +16,7 @@ abbrev μ-loop : tie.MeasureT-loop
 μ-loop text at count places₀ next₀ i₀ places next i = count - i
 
 loop-holds : tie.Need-loop-holds Inv-loop μ-loop
-loop-holds c = none-so-far _ _ _ _ refl
+loop-holds c = none-so-far _ _ _
 
 fact-at-requires : tie.Need-fact-at-requires Inv-loop μ-loop
 fact-at-requires c κs = search needs

@@ -12,8 +12,7 @@ use Rattle.text.specs.RequestLines.{request-lines}
 use Rattle.text.specs.LinesInARow.{uncounted}
 use Rattle.text.specs.Reader.{moment-lines}
 use Rattle.text.specs.Calls.{reading}
-use Rattle.text.proofs.Forms.{kept-told, broken-told}
-use Rattle.text.proofs.Requests.{said-granted, said-refused}
+use Rattle.text.proofs.Requests.{request-kept, request-broken-at, said-granted, said-refused}
 use Rattle.text.proofs.Readings.{moments-missing, moments-found, no-version, version-zero, text-no-request, text-no-moments, text-says, none-seen}
 use Rattle.text.proofs.reader.look_over.Statement.{statement}
 use Rattle.text.proofs.reader.look_over.Tie as tie
@@ -35,7 +34,9 @@ request-read : (c : tie.After-enum-told3)
     let args = first .before .before .before .before .before .before .args in
     let asked = c .before .before .request-at .result in
     uncounted (request-lines (args .text .now)) (first .before .version .given .0 .1 .0) ≡ some (asked .request, asked .next)
-request-read c = said-granted _ _ _ _ (kept-told _ _ (c .enum-told3 .given .1) (c .before .before .request-at .ensures))
+request-read c =
+    let call = c .before .before .request-at in
+    said-granted _ _ _ _ (request-kept _ (call .result) (c .enum-told3 .given .1) (call .ensures))
 
 moments-read : (c : tie.Else2)
     → let request = c .before .before .before in
@@ -61,7 +62,7 @@ returns-3 c =
     let asked = c .before .before .before in
     none-seen _ _ _ (c .nothing-seen3 .ensures)
     (text-no-request _ _ _ (version-read (asked .before .before)) (version-known (asked .before))
-    (said-refused _ _ (broken-told _ _ (c .before .enum-told2 .given .1) (asked .request-at .ensures))))
+    (said-refused _ _ (request-broken-at _ (asked .request-at .result) (c .before .enum-told2 .given .1) (asked .request-at .ensures))))
 
 returns-4 : tie.Need-returns-4
 unfolding reading

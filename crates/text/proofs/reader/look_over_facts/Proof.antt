@@ -1,17 +1,25 @@
 -- The count and the lines of facts are read one after another, up to the end of the text. The flag of `lines_at` tells whether so many lines
 -- stand there, no two of them alike, and where it does, their places are what is seen.
-use Prim.Native.Nat.{_≤_}
+use Prim.Native.Nat.{ℕ, _-_, _≤_}
 use mathlib.Core.Bool.{true}
-use mathlib.Core.Path.{_≡_}
+use mathlib.Core.Path.{_≡_, ap, _∙_}
+use mathlib.Core.List.{List}
 use mathlib.Core.Option.{some}
+use native.Mathlib.Omega.{arith}
 use borrow.Author.Needs.{needs}
+use lib.ListN.{length}
+use Rattle.procap.specs.Lists.{pad}
+use Rattle.procap.specs.Facts.{Spelled}
 use Rattle.procap.specs.Procaps.{most-facts}
 use Rattle.procap.specs.Bytes.{many}
 use Rattle.procap.proofs.Handed.{number-told, bound-told}
+use Rattle.procap.proofs.Readers.{so-read}
 use Rattle.text.specs.Words.{bytes-of}
 use Rattle.text.specs.Line.{line-to}
+use Rattle.text.specs.Text.{facts-text}
 use Rattle.text.specs.Reader.{fact-line}
-use Rattle.text.specs.Places.{LinesFound}
+use Rattle.text.specs.Places.{line-starts, places-in, LinesFound}
+use Rattle.text.proofs.Spellings.{facts-read}
 use Rattle.text.proofs.Readings.{lines-missing, lines-found, no-count, no-such-lines, bytes-left, procap-whole, none-whole, none-seen, some-seen}
 use Rattle.text.proofs.reader.look_over_facts.Statement.{statement}
 use Rattle.text.proofs.reader.look_over_facts.Tie as tie
@@ -31,8 +39,18 @@ lines-read : (c : tie.Else1)
     let args = counted .before .before .before .before .before .before .args in
     let count = counted .before .facts .given .0 .0 in
     let read = c .before .before .lines-at .result in
-    LinesFound (args .text .now) (many (fact-line (args .text .now)) count (counted .before .facts .given .0 .1 .0)) count true (read .places) (read .next)
+    let start = counted .before .facts .given .0 .1 .0 in
+    LinesFound (many (fact-line (args .text .now)) count start) start count true (read .places) (read .next)
 lines-read c = lines-found _ _ _ (c .before .before .lines-at .result) (c .if1 .left) (c .before .before .lines-at .ensures)
+
+-- Where the lines of facts from a place on are the last of the text, it is as far before its end as they are long.
+to-the-last : (text : List ℕ) (start count : ℕ) (fs : List Spelled) (end : ℕ) → many (fact-line text) count start ≡ some (fs, end) → end ≡ length text
+    → (places : List ℕ) → places ≡ pad most-facts 0 (line-starts start fs) → places ≡ places-in text fs
+unfolding places-in
+to-the-last text start count fs end reads last places kept =
+    let taken = so-read _ reads (facts-read count start) .0 in
+    let first : start ≡ length text - length (facts-text fs) = omega (arith, taken .place) in
+    kept ∙ ap (λ at. pad most-facts 0 (line-starts at fs)) first
 
 slice-aggregate-line : tie.Need-slice-aggregate-line
 slice-aggregate-line c = search needs
@@ -83,7 +101,7 @@ returns-4 c =
     let found = lines-read read in
     some-seen _ _ _ _ _ _ _ (found .0)
     (procap-whole _ _ _ _ _ _ _ (count-read counted) _ _ (found .1) (found .2) (c .before .if2 .left))
-    (found .3) (count-small counted) (found .4)
+    (found .3) (to-the-last _ _ _ (found .0) _ (found .1) (c .before .if2 .left) _ (found .4))
 
 pub look-over-facts-spec : {M : Type 1} → statement M
 look-over-facts-spec =

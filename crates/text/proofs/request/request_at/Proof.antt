@@ -8,7 +8,7 @@ use Rattle.procap.specs.Writable.{largest-name}
 use Rattle.procap.proofs.Handed.{number-told, bound-told}
 use Rattle.text.specs.Words.{bytes-of}
 use Rattle.text.specs.Line.{line-to}
-use Rattle.text.proofs.Requests.{no-who, no-what, no-right, request-here}
+use Rattle.text.proofs.Requests.{request-refused, no-who, no-what, no-right, request-here}
 use Rattle.text.proofs.request.request_at.Statement.{statement}
 use Rattle.text.proofs.request.request_at.Tie as tie
 
@@ -35,20 +35,20 @@ right-read c = number-told _ (c .before .right .given .1) (c .before .before .be
 -- A line that does not read is the one that is handed back.
 returns : tie.Need-returns
 returns c =
-    rw (c .no-request .ensures)
+    request-refused _ _ (c .no-request .ensures)
     (no-who _ _ (number-told _ (c .before .enum-told .given .1) (c .before .before .before .line .ensures .0)))
 
 returns-2 : tie.Need-returns-2
 returns-2 c =
     let line = c .before .before .before in
-    rw (c .no-request2 .ensures)
+    request-refused _ _ (c .no-request2 .ensures)
     (no-what _ _ _ _ (who-read (line .before .before)) (number-told _ (c .before .enum-told2 .given .1) (line .line2 .ensures .0)))
 
 returns-3 : tie.Need-returns-3
 returns-3 c =
     let line = c .before .before .before in
     let second = line .before .before in
-    rw (c .no-request3 .ensures)
+    request-refused _ _ (c .no-request3 .ensures)
     (no-right _ _ _ _ (who-read (second .before .before .before .before .before)) _ _ (what-read second)
     (number-told _ (c .before .enum-told3 .given .1) (line .line3 .ensures .0)))
 
