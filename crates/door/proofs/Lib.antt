@@ -2,6 +2,8 @@
 pub mod Refusals
 pub mod Answering
 pub mod BeforeFacts
+pub mod Widths
+pub mod NoneBefore
 pub mod Missing
 pub mod Opening
 pub mod Texts

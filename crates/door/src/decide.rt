@@ -1,9 +1,9 @@
 // The door on a procap that can be written.
+use crate::holding::holds_at;
 use procap::answer::Answer;
 use procap::procap::Procap;
 use procap::procap::Request;
 use procap::time::LATEST_SECOND;
-use state::holds_at;
 use state::well_formed;
 ghost use mathlib.Core.Path.{_≡_};
 ghost use Prim.Native.Nat.{_≤_};

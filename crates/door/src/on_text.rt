@@ -1,8 +1,8 @@
 // The door on a procap text: the call of the desk firmware.
 use crate::decide::before_facts;
+use crate::holding::holds_at;
 use procap::answer::Answer;
 use procap::procap::MOST_FACTS;
-use state::holds_at;
 use text::facts::fact_at;
 use text::reader::look_over;
 ghost use mathlib.Core.Path.{_≡_};

@@ -1,14 +1,11 @@
 -- A state that is well formed, and a fact that stands in one.
 use Prim.Native.Nat.{ℕ}
-use mathlib.Core.Bool.{Bool}
 use mathlib.Core.Path.{_≡_}
 use mathlib.Core.List.{List}
 use mathlib.Core.Option.{Option, some, none}
 use Rattle.procap.specs.Lists.{In}
-use Rattle.procap.specs.Tells.{Tells}
-use Rattle.procap.specs.Facts.{Spelled, spelled, spelled-at-moment}
-use Rattle.procap.specs.States.{fact, stated}
-use Rattle.procap.specs.declared.fact.Fact.{Fact}
+use Rattle.procap.specs.Facts.{Spelled}
+use Rattle.procap.specs.States.{stated}
 use Rattle.state.specs.declared.Found.{Found}
 use Rattle.state.specs.declared.Found.the-variants.{Malformed, Absent, Standing}
 
@@ -25,7 +22,3 @@ abbrev pub Finds : Option (List Spelled) → Spelled → Found → Type 0
 Finds o f Malformed = o ≡ none
 Finds o f Absent = (σ : List Spelled) × (o ≡ some σ) × (In f σ → ⊥)
 Finds o f Standing = (σ : List Spelled) × (o ≡ some σ) × In f σ
-
--- The flag tells whether the fact at a place of the bytes is this one with the moment put for ctime.
-abbrev pub StandsAt : List ℕ → ℕ → Fact → ℕ → Bool → Type 0
-StandsAt bytes at wanted m r = (f : Spelled) (e : ℕ) → fact bytes at ≡ some (f, e) → Tells r (spelled-at-moment m (spelled wanted) ≡ f)

@@ -1,4 +1,4 @@
-// The state of the machine: whether its bytes are well formed, and whether a fact stands in it.
+// The state of the machine: whether its bytes are well formed, whether a fact stands in it, and which fact stands at a place.
 use procap::bytes::FactRead;
 use procap::bytes::NumberRead;
 use procap::bytes::TermRead;
@@ -12,15 +12,12 @@ use procap::fact::Term;
 use procap::tag::TermTag;
 ghost use mathlib.Core.Path.{_≡_};
 ghost use Rattle.procap.specs.Tells.{Tells};
-ghost use mathlib.Core.List.{List};
-ghost use mathlib.Core.Option.{some};
-ghost use Prim.Native.Nat.{ℕ, _+_, _≤_};
-ghost use Rattle.procap.specs.Facts.{Spelled, spelled, «most-terms»};
-ghost use Rattle.procap.specs.Procaps.{HoldsAt};
+ghost use Prim.Native.Nat.{_≤_};
+ghost use Rattle.procap.specs.Facts.{spelled, «most-terms»};
 ghost use Rattle.procap.specs.Bytes.{many};
 ghost use Rattle.procap.specs.Reading.{TermReads, FactReads, «with-predicate»};
 ghost use Rattle.procap.specs.States.{settled, «settled-term», fact, stated};
-ghost use Rattle.state.specs.Standing.{WellFormed, Stands, StandsAt, Finds};
+ghost use Rattle.state.specs.Standing.{WellFormed, Stands, Finds};
 
 // How many bytes a state has at the most.
 pub const MOST_STATE_BYTES: usize = 4_096;
@@ -54,73 +51,6 @@ pub fn stands_in(state: &[u8], wanted: Fact) -> bool
     }
 }
 
-// Whether the fact, with the moment put for ctime, stands in a state. Of bytes that are no state the answer says nothing.
-pub fn holds_at(state: &[u8], wanted: Fact, moment: u64) -> bool
-    ensures { λ r. ⌜ ((σ : List Spelled) → stated (now (state .entry)) ≡ some σ → Tells r (HoldsAt moment σ (spelled wanted))) ⌝ }
-{
-    let mut at: usize = 0;
-    while at < state.len() {
-        let NumberRead::Number(predicate, after_predicate) = two_bytes_at(state, at) else {
-            return false;
-        };
-        if predicate as u16 == wanted.predicate {
-            if stands_at(state, at, wanted, moment) {
-                return true;
-            }
-        }
-        at = past_terms(state, after_predicate);
-    }
-    false
-}
-
-// Whether the fact at a place of the state is this one, with the moment put for ctime.
-fn stands_at(state: &[u8], at: usize, wanted: Fact, moment: u64) -> bool
-    ensures { λ r. ⌜ StandsAt (now (state .entry)) at wanted moment r ⌝ }
-{
-    let read = fact_at(state, at);
-    if !read.found {
-        return false;
-    }
-    let fact = read.fact;
-    wanted.same_at(moment, fact)
-}
-
-// Where a fact ends, from the place after its predicate.
-fn past_terms(state: &[u8], at: usize) -> usize
-    ensures ends { λ r. ⌜ ((f : Spelled) (start e : ℕ) → start + 2 ≡ at → fact (now (state .entry)) start ≡ some (f, e) → r ≡ e) ⌝ }
-    ensures onwards { λ r. ⌜ at ≤ r ⌝ }
-{
-    let NumberRead::Number(count, after_count) = byte_at(state, at) else {
-        return at;
-    };
-    let mut next = after_count;
-    let mut i: u64 = 0;
-    while i < count {
-        next = past_term(state, next);
-        i += 1;
-    }
-    next
-}
-
-// Where the term at a place of the state ends.
-fn past_term(state: &[u8], at: usize) -> usize
-    ensures ends { λ r. ⌜ ((t : Term) (e : ℕ) → «settled-term» (now (state .entry)) at ≡ some (t, e) → r ≡ e) ⌝ }
-    ensures onwards { λ r. ⌜ at ≤ r ⌝ }
-{
-    if state.len() <= at {
-        return at;
-    }
-    match TermTag::of(state[at]) {
-        TermTag::NameTag => at + 3,
-        TermTag::MomentTag => at + 6,
-        TermTag::MinusInfinityTag => at + 1,
-        TermTag::PlusInfinityTag => at + 1,
-        TermTag::CtimeTag => at + 1,
-        TermTag::VariableTag => at + 1,
-        TermTag::NoTermTag => at + 1,
-    }
-}
-
 // What the whole state says of the fact.
 fn find(state: &[u8], wanted: Fact) -> Found
     ensures { λ r. ⌜ Finds (stated (now (state .entry))) (spelled wanted) r ⌝ }
@@ -149,7 +79,7 @@ fn find(state: &[u8], wanted: Fact) -> Found
 }
 
 // The fact at a place of the state.
-fn fact_at(state: &[u8], at: usize) -> FactRead
+pub fn fact_at(state: &[u8], at: usize) -> FactRead
     ensures { λ r. ⌜ FactReads (fact (now (state .entry)) at) r ⌝ }
 {
     let NumberRead::Number(predicate, after_predicate) = two_bytes_at(state, at) else {

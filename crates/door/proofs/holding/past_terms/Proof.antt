@@ -3,9 +3,9 @@ use borrow.Author.Needs.{needs}
 use Prim.Native.Nat.{_-_}
 use native.Mathlib.Omega.{arith}
 use Rattle.procap.proofs.Handed.{number-told}
-use Rattle.state.proofs.Widths.{number-width, TermsPassed, no-term-passed, one-term-passed, all-terms-passed, count-there, terms-there}
-use Rattle.state.proofs.past_terms.Statement.{statement}
-use Rattle.state.proofs.past_terms.Tie as tie
+use Rattle.door.proofs.Widths.{number-width, TermsPassed, no-term-passed, one-term-passed, all-terms-passed, count-there, terms-there}
+use Rattle.door.proofs.holding.past_terms.Statement.{statement}
+use Rattle.door.proofs.holding.past_terms.Tie as tie
 
 abbrev Inv-loop : tie.InvT-loop
 Inv-loop state at count after-count next₀ i₀ next i = TermsPassed state count after-count next i

@@ -3,10 +3,10 @@ use borrow.Author.Needs.{needs}
 use native.Mathlib.Omega.{arith}
 use Rattle.procap.specs.declared.tag.TermTag.the-variants.{NameTag, MomentTag, MinusInfinityTag, PlusInfinityTag, CtimeTag, VariableTag, NoTermTag}
 use Rattle.procap.proofs.ReadApart.{not-read}
 use Rattle.state.proofs.Terms.{no-tag}
-use Rattle.state.proofs.Widths.{term-width}
-use Rattle.state.proofs.past_term.Statement.{statement}
-use Rattle.state.proofs.past_term.Tie as tie
+use Rattle.door.proofs.Widths.{term-width}
+use Rattle.door.proofs.holding.past_term.Statement.{statement}
+use Rattle.door.proofs.holding.past_term.Tie as tie
 
 returns : tie.Need-returns
 returns c = (λ t e r. absurd (not-read _ (no-tag _ _ (c .if1 .taken)) r), omega arith)

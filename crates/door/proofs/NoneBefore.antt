@@ -18,9 +18,9 @@ use Rattle.procap.proofs.InMore.{in-more}
 use Rattle.procap.proofs.Spelling.{spelled-put}
 use Rattle.procap.proofs.ReadSoFar.{led-by}
 use Rattle.procap.proofs.ReadApart.{same-read, not-read, at-the-end}
 use Rattle.state.proofs.Terms.{no-predicate}
-use Rattle.state.proofs.Widths.{fact-parts}
+use Rattle.door.proofs.Widths.{fact-parts}
 use Rattle.state.proofs.Passes.{FactsRead, no-facts-read, wanted-read, other-read, fact-missing-read, all-facts-read}
 
 -- If the bytes are a state, none of its facts before a place is the wanted one.
 pub record NoneBefore (bytes : List ℕ) (wanted : Spelled) (at : ℕ) : Type 0 where

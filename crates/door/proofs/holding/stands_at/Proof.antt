@@ -2,9 +2,9 @@
 use borrow.Author.Needs.{needs}
 use Rattle.procap.proofs.Handed.{fact-found, fact-missing}
 use Rattle.procap.proofs.ReadApart.{not-read}
-use Rattle.state.proofs.Holding.{same-there}
-use Rattle.state.proofs.stands_at.Statement.{statement}
-use Rattle.state.proofs.stands_at.Tie as tie
+use Rattle.door.proofs.NoneBefore.{same-there}
+use Rattle.door.proofs.holding.stands_at.Statement.{statement}
+use Rattle.door.proofs.holding.stands_at.Tie as tie
 
 fact-at-requires : tie.Need-fact-at-requires
 fact-at-requires c κs = search needs

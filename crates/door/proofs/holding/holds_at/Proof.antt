@@ -7,10 +7,10 @@ use lib.ListN.{length}
 use Rattle.procap.specs.Facts.{spelled, spelled-at-moment}
 use Rattle.procap.proofs.Telling.{holds, fails}
 use Rattle.procap.proofs.Handed.{number-told, bound-told}
-use Rattle.state.proofs.Widths.{number-width}
-use Rattle.state.proofs.Holding.{NoneBefore, none-before, predicate-there, next-is-wanted, next-is-another, not-there, other-predicate}
-use Rattle.state.proofs.holds_at.Statement.{statement}
-use Rattle.state.proofs.holds_at.Tie as tie
+use Rattle.door.proofs.Widths.{number-width}
+use Rattle.door.proofs.NoneBefore.{NoneBefore, none-before, predicate-there, next-is-wanted, next-is-another, not-there, other-predicate}
+use Rattle.door.proofs.holding.holds_at.Statement.{statement}
+use Rattle.door.proofs.holding.holds_at.Tie as tie
 
 abbrev Inv-loop : tie.InvT-loop
 Inv-loop state wanted moment at₀ at = NoneBefore state (spelled-at-moment moment (spelled wanted)) at
