@@ -1,4 +1,4 @@
-// Whether a fact holds in a state: one pass over it, up to the fact that is asked. A fact with another predicate is passed by its width, unread.
+// Whether a fact holds in a state: a pass that ends at the fact that is asked. One with another predicate is passed by its width, unread.
 use procap::bytes::NumberRead;
 use procap::bytes::byte_at;
 use procap::bytes::two_bytes_at;

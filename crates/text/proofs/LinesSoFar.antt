@@ -19,7 +19,8 @@ use Rattle.procap.proofs.InMore.{in-more, in-last, one-more-distinct}
 use Rattle.procap.proofs.ReadSoFar.{led-by, led-by-nothing, led-by-one, led-more, led-none, led-all}
 use Rattle.text.specs.Reader.{fact-line}
 use Rattle.text.specs.Text.{fact-text, facts-text}
-use Rattle.text.specs.Places.{ReadsAt, OnLines, line-starts, LinesFound, LinesReads}
+use Rattle.text.specs.Overviews.{line-starts}
+use Rattle.text.specs.Places.{ReadsAt, OnLines, LinesFound, LinesReads}
 use Rattle.text.specs.declared.fact_places.LinesRead.{LinesRead}
 use Rattle.text.proofs.SameLines.{line-said}
 use Rattle.text.proofs.OnLines.{on-more}

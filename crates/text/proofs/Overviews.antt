@@ -1,5 +1,5 @@
--- What an overview of a text says: the procap that the text reads as is the one of what was seen, and the lines of its facts begin at the places
--- that were seen. The text is just the procap's spelling, so its last bytes are the lines of the facts, each from the place where the one before ends.
+-- What an overview of a text says: the text reads as the procap of what was seen, and the lines of its facts begin at the places that were
+-- seen. The text is just the procap's spelling, so its last bytes are the lines of the facts, each from the end of the one before.
 use Prim.Native.Nat.{ℕ, _+_, _-_, _≤_}
 use mathlib.Core.Bool.{true, false, not}
 use mathlib.Core.Path.{_≡_, refl, sym, ap, subst, _∙_}
@@ -18,7 +18,8 @@ use Rattle.procap.proofs.Rebuilt.{SpelledInForm, rebuilt, listed-count, listed-
 use Rattle.text.specs.Words.{bytes-of}
 use Rattle.text.specs.Text.{line, fact-text, facts-text, text-of}
 use Rattle.text.specs.Reader.{text-in}
-use Rattle.text.specs.Places.{OnLines, line-starts, places-in, overview-of}
+use Rattle.text.specs.Overviews.{line-starts, places-in, overview-of}
+use Rattle.text.specs.Places.{OnLines}
 use Rattle.text.specs.Calls.{reading}
 use Rattle.text.specs.declared.reader.Overview.{Overview}
 use Rattle.text.proofs.Readers.{Takes, takes-all, parted}

@@ -25,7 +25,8 @@ use Rattle.text.specs.Line.{line-to}
 use Rattle.text.specs.LinesInARow.{uncounted}
 use Rattle.text.specs.RequestLines.{request-lines}
 use Rattle.text.specs.Reader.{fact-line, moment-lines, procap-with, procap-lines, text-in}
-use Rattle.text.specs.Places.{MomentsReads, LinesFound, LinesReads, places-in, nothing-seen, overview-of}
+use Rattle.text.specs.Overviews.{places-in, nothing-seen, overview-of}
+use Rattle.text.specs.Places.{MomentsReads, LinesFound, LinesReads}
 use Rattle.text.specs.declared.fact_places.LinesRead.{LinesRead}
 use Rattle.text.specs.declared.reader.MomentsRead.{MomentsRead}
 use Rattle.text.specs.declared.reader.ReadText.{ReadText}

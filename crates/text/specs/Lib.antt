@@ -6,6 +6,7 @@ pub mod Line
 pub mod LinesInARow
 pub mod RequestLines
 pub mod Reader
+pub mod Overviews
 pub mod Places
 pub mod Buffers
 pub mod Calls

@@ -1,21 +1,19 @@
 -- How what the code's readers of the text hand back stands to the readers of these pages. What is promised of reading a text does not rest on this.
-use Prim.Native.Nat.{ℕ, _+_, _-_, _<_}
+use Prim.Native.Nat.{ℕ, _+_, _<_}
 use mathlib.Core.Bool.{Bool, true, false}
 use mathlib.Core.Path.{_≡_}
 use mathlib.Core.List.{List, [], _∷_, map}
 use mathlib.Core.Option.{Option, some, none}
-use lib.ListN.{length, take, drop, replicate}
+use lib.ListN.{length, take, drop}
 use Rattle.procap.specs.Lists.{pad, In, Distinct}
 use Rattle.procap.specs.Tells.{Tells}
 use Rattle.procap.specs.Facts.{Spelled, fact-of, no-fact}
-use Rattle.procap.specs.Procaps.{most-facts, listed, no-request}
+use Rattle.procap.specs.Procaps.{most-facts, no-request}
 use Rattle.procap.specs.Outcome.{Outcome, granted, refused}
 use Rattle.procap.specs.declared.answer.Answer.the-variants.{InputMalformed}
 use Rattle.procap.specs.declared.fact.Fact.{Fact}
-use Rattle.procap.specs.declared.procap.Procap.{Procap}
 use Rattle.procap.specs.declared.procap.Request.{Request}
 use Rattle.text.specs.Numbers.{digit-zero, leading-digits}
-use Rattle.text.specs.Text.{fact-text, facts-text}
 use Rattle.text.specs.declared.line.Place.{Place}
 use Rattle.text.specs.declared.line.Place.the-variants.{At, Nowhere}
 use Rattle.text.specs.declared.line.Form.{Form}
@@ -23,8 +21,8 @@ use Rattle.text.specs.declared.line.Form.the-variants.{Kept, BrokenAt}
 use Rattle.text.specs.declared.line.Digit.{Digit}
 use Rattle.text.specs.declared.line.Digit.the-variants.{Value, NoDigit}
 use Rattle.text.specs.Reader.{fact-line}
+use Rattle.text.specs.Overviews.{line-starts}
 use Rattle.text.specs.declared.fact_places.LinesRead.{LinesRead}
-use Rattle.text.specs.declared.reader.Overview.{Overview}
 use Rattle.text.specs.declared.request.RequestRead.{RequestRead}
 use Rattle.text.specs.declared.reader.MomentsRead.{MomentsRead}
 
@@ -84,12 +82,8 @@ SameLine text at end other r = (f g : Spelled) (e : ℕ) → ReadsAt text at f e
 abbrev pub FactsOn : List ℕ → List ℕ → ℕ → List Fact → Type 0
 FactsOn text places count r = (fs : List Spelled) → OnLines text (take count places) fs → r ≡ pad most-facts no-fact (map fact-of fs)
 
--- Where the lines of these facts begin, from a place on: each where the one before it ends.
-unfoldable pub line-starts : ℕ → List Spelled → List ℕ
-line-starts at [] = []
-line-starts at (f ∷ fs) = at ∷ line-starts (at + length (fact-text f)) fs
-
--- So many lines of facts that a reader finds from a place on, no two alike, by their places, and the place after them; or, by the flag, there are no such lines.
+-- So many lines of facts that a reader finds from a place on, no two alike, by their places with zeros past them, and the place after them;
+-- or, by the flag, there are no such lines.
 abbrev pub LinesFound : Option (List Spelled × ℕ) → ℕ → ℕ → Bool → List ℕ → ℕ → Type 0
 LinesFound o at count true places next =
     (fs : List Spelled) × (o ≡ some (fs, next)) × Distinct fs × (length fs ≡ count) × (places ≡ pad most-facts 0 (line-starts at fs))
@@ -97,23 +91,3 @@ LinesFound o at count false places next = (fs : List Spelled) (e : ℕ) → o �
 
 abbrev pub LinesReads : Option (List Spelled × ℕ) → ℕ → ℕ → LinesRead → Type 0
 LinesReads o at count r = LinesFound o at count (r .found) (r .places) (r .next)
-
--- Where the lines of a text's facts begin, which are its last ones, with zeros past them.
-unfoldable pub places-in : List ℕ → List Spelled → List ℕ
-places-in text fs = pad most-facts 0 (line-starts (length text - length (facts-text fs)) fs)
-
--- What is seen of bytes that are no text: zeros.
-abbrev pub nothing-seen : Overview
-nothing-seen = record { found = false; request = no-request; from = 0; to = 0; count = 0; places = replicate most-facts 0 }
-
--- What is seen of a text that reads as a procap: its request, its moments, how many facts it lists and where their lines begin.
-unfoldable pub overview-of : List ℕ → Outcome Procap → Overview
-overview-of text (granted p) = record {
-  found = true;
-  request = p .request;
-  from = p .from;
-  to = p .to;
-  count = p .count;
-  places = places-in text (listed p);
-}
-overview-of text (refused answer) = nothing-seen

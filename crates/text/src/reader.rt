@@ -16,7 +16,8 @@ ghost use mathlib.Core.Path.{_≡_};
 ghost use Rattle.procap.specs.Procaps.{«empty-procap»};
 ghost use Rattle.procap.specs.Outcome.{«answer-of», «procap-handed»};
 ghost use Rattle.text.specs.Reader.{«moment-lines»};
-ghost use Rattle.text.specs.Places.{MomentsReads, «nothing-seen», «overview-of»};
+ghost use Rattle.text.specs.Overviews.{«nothing-seen», «overview-of»};
+ghost use Rattle.text.specs.Places.{MomentsReads};
 ghost use Rattle.text.specs.Calls.{«facts-to-the-end», reading};
 
 // The answer of reading a text, and the procap that it says.

@@ -18,7 +18,8 @@ use Rattle.text.specs.Words.{bytes-of}
 use Rattle.text.specs.Line.{line-to}
 use Rattle.text.specs.Text.{facts-text}
 use Rattle.text.specs.Reader.{fact-line}
-use Rattle.text.specs.Places.{line-starts, places-in, LinesFound}
+use Rattle.text.specs.Overviews.{line-starts, places-in}
+use Rattle.text.specs.Places.{LinesFound}
 use Rattle.text.proofs.Spellings.{facts-read}
 use Rattle.text.proofs.Readings.{lines-missing, lines-found, no-count, no-such-lines, bytes-left, procap-whole, none-whole, none-seen, some-seen}
 use Rattle.text.proofs.reader.look_over_facts.Statement.{statement}
