@@ -21,3 +21,4 @@ pub mod SameLines
 pub mod OnLines
 pub mod LinesSoFar
 pub mod Overviews
+pub mod Fixed

@@ -1,7 +1,7 @@
 -- What an overview of a text says: the text reads as the procap of what was seen, and the lines of its facts begin at the places that were
 -- seen. The text is just the procap's spelling, so its last bytes are the lines of the facts, each from the end of the one before.
 use Prim.Native.Nat.{ℕ, _+_, _-_, _≤_}
-use mathlib.Core.Bool.{true, false, not}
+use mathlib.Core.Bool.{true, false, not, false≢true}
 use mathlib.Core.Path.{_≡_, refl, sym, ap, subst, _∙_}
 use mathlib.Core.List.{List, [], _∷_, _++_}
 use mathlib.Core.Option.{Option, some, none}
@@ -11,7 +11,7 @@ use lib.Seq.{take-at}
 use Rattle.procap.specs.Lists.{All, pad}
 use Rattle.procap.specs.Facts.{Spelled}
 use Rattle.procap.specs.Procaps.{most-facts, listed, procap-of}
-use Rattle.procap.specs.Outcome.{Outcome, granted, refused, or-else}
+use Rattle.procap.specs.Outcome.{granted, refused, or-else}
 use Rattle.procap.specs.declared.answer.Answer.the-variants.{ProcapMalformed}
 use Rattle.procap.specs.declared.procap.Procap.{Procap}
 use Rattle.procap.proofs.Rebuilt.{SpelledInForm, rebuilt, listed-count, listed-in-form}
@@ -83,12 +83,12 @@ module _ (text : List ℕ) (r : Overview) (e : r ≡ overview-of text (reading t
     where
       by : (o : Option Procap) → r ≡ overview-of text (or-else ProcapMalformed o) → or-else ProcapMalformed o ≡ refused ProcapMalformed
       by none e = refl
-      by (some p) e = let wrong = sym f ∙ ap (λ s. not (s .found)) e in let z : _≡_ {A = ℕ} 0 1 = cc in absurd (omega arith)
+      by (some p) e = absurd (false≢true (sym (ap (λ s. not (s .found)) e) ∙ f))
 
   pub overview-found : not (r .found) ≡ false → Seen text r
   unfolding reading or-else overview-of
   overview-found f = by (text-in text) refl e
     where
       by : (o : Option Procap) → text-in text ≡ o → r ≡ overview-of text (or-else ProcapMalformed o) → Seen text r
-      by none t e = let wrong = sym f ∙ ap (λ s. not (s .found)) e in let z : _≡_ {A = ℕ} 0 1 = cc in absurd (omega arith)
+      by none t e = absurd (false≢true (sym f ∙ ap (λ s. not (s .found)) e))
       by (some p) t e = subst (Seen text) (sym e) (procap-seen text p t)

@@ -12,7 +12,7 @@ use Rattle.procap.specs.Times.{latest}
 use Rattle.procap.specs.Facts.{Spelled, fact-of, no-fact}
 use Rattle.procap.specs.Procaps.{most-facts, version-one, empty-procap, procap-of}
 use Rattle.procap.specs.Outcome.{Outcome, granted, refused, or-else, answer-of, procap-handed}
-use Rattle.procap.specs.Bytes.{Reader, then, ensure, many, to-the-end, whole}
+use Rattle.procap.specs.Bytes.{then, ensure, many, to-the-end, whole}
 use Rattle.procap.specs.Deciding.{distinct?, spelled?}
 use Rattle.procap.specs.declared.answer.Answer.the-variants.{Granted, ProcapMalformed}
 use Rattle.procap.specs.declared.fact.Fact.{Fact}

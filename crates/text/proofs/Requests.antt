@@ -1,7 +1,7 @@
 -- The three lines of a request: which of them breaks the form, and what they say together; that they are read from just the bytes that spell a
 -- request of three names, and that those bytes read as it.
 use Prim.Native.Nat.{ℕ, suc}
-use mathlib.Core.Path.{_≡_, refl, sym, subst, _∙_}
+use mathlib.Core.Path.{_≡_, refl, subst}
 use mathlib.Core.List.{List, _++_}
 use mathlib.Core.Option.{Option, some, none}
 use native.Mathlib.Omega.{arith}
@@ -10,7 +10,6 @@ use Rattle.procap.specs.Procaps.{no-request}
 use Rattle.procap.specs.Writable.{largest-name, RequestInForm}
 use Rattle.procap.specs.declared.answer.Answer.the-variants.{InputMalformed}
 use Rattle.procap.specs.declared.procap.Request.{Request}
-use Rattle.procap.proofs.Granted.{same-grant, no-grant}
 use Rattle.procap.proofs.Readers.{unread, read, so-read}
 use Rattle.text.specs.Words.{bytes-of}
 use Rattle.text.specs.Text.{line}
@@ -18,7 +17,6 @@ use Rattle.text.specs.Line.{line-to}
 use Rattle.text.specs.LinesInARow.{at-line, said}
 use Rattle.text.specs.RequestLines.{request-lines}
 use Rattle.text.specs.Places.{RequestFound, RequestReads}
-use Rattle.text.specs.declared.line.Form.{Form}
 use Rattle.text.specs.declared.line.Form.the-variants.{Kept, BrokenAt}
 use Rattle.text.specs.declared.request.RequestRead.{RequestRead}
 use Rattle.text.proofs.Readers.{Takes, joined, parted, TextRead}
@@ -38,19 +36,6 @@ module _ (o : Outcome (Request × ℕ × ℕ)) (r : RequestRead) where
   pub request-refused : {line : ℕ} → r ≡ record { form = BrokenAt line; request = no-request; next = 0 } → o ≡ refused (InputMalformed line)
       → RequestReads o r
   request-refused e h = rw e (h, refl, refl)
-
--- What is handed back for the lines of a request is fixed by them.
-pub one-request-read : (o : Outcome (Request × ℕ × ℕ)) (r s : RequestRead) → RequestReads o r → RequestReads o s → r ≡ s
-one-request-read o r s h k = by (r .form) (s .form) (r .request) (s .request) (r .next) (s .next) h k
-  where
-    by : (f g : Form) (a b : Request) (m n : ℕ) → RequestFound o f a m → RequestFound o g b n
-        → _≡_ {A = RequestRead} (record { form = f; request = a; next = m }) (record { form = g; request = b; next = n })
-    by Kept Kept a b m n h k = let e = same-grant (sym h ∙ k) in λ i. record { form = Kept; request = e i .0; next = e i .2 }
-    by Kept (BrokenAt l) a b m n h k = no-grant (sym (k .0) ∙ h)
-    by (BrokenAt l) Kept a b m n h k = no-grant (sym (h .0) ∙ k)
-    by (BrokenAt l) (BrokenAt j) a b m n h k =
-        let e : l ≡ j = cc (h .0, k .0) in
-        λ i. record { form = BrokenAt (e i); request = (h .1 ∙ sym (k .1)) i; next = (h .2 ∙ sym (k .2)) i }
 
 -- ── Line by line ──
 
