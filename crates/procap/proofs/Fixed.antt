@@ -1,5 +1,5 @@
--- What is promised of a call fixes what it hands back, for every input. Most promises are equations; these are the others: a flag that tells a
--- fact, and what is handed back for what a reader finds, which is a function of that.
+-- What is promised of a call fixes what it hands back, for every input. Most promises are equations; these are the others: a flag that
+-- tells a fact, and what is handed back for what a reader finds, which is a function of that.
 use Prim.Native.Nat.{ℕ}
 use mathlib.Core.Bool.{Bool, true, false}
 use mathlib.Core.Path.{_≡_, refl, sym, ap, _∙_}

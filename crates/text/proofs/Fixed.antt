@@ -1,5 +1,5 @@
--- What is promised of a call fixes what it hands back, for every input. Most promises are equations; these are the others: what is handed back
--- for what a reader finds is a function of that.
+-- What is promised of a call fixes what it hands back, for every input. Most promises are equations; these are the others: what is handed
+-- back for what a reader finds is a function of that.
 use Prim.Native.Nat.{ℕ}
 use mathlib.Core.Path.{_≡_, sym, ap, _∙_}
 use mathlib.Core.Option.{Option, some, none}
