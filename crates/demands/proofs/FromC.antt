@@ -16,6 +16,7 @@ use Rattle.procap.specs.Deciding.{writable?}
 use Rattle.procap.specs.declared.answer.Answer.the-variants.{ProcapMalformed}
 use Rattle.procap.specs.declared.procap.Request.{Request}
 use Rattle.procap.specs.declared.procap.Procap.{Procap}
+use Rattle.procap.proofs.AnswerNumbers.{zero-exactly-when-granted}
 use Rattle.procap.proofs.Granted.{went-on, was-there, was-so}
 use Rattle.procap.proofs.Refused.{IfRefused, go-on-refused}
 use Rattle.bl.specs.Calls.{verified, directly}
@@ -30,7 +31,7 @@ use Rattle.from_c.specs.Records.{records-in}
 use Rattle.from_c.specs.Packing.{packed, HandsBack, number-in, length-in}
 use Rattle.from_c.specs.Values.{value-bytes, value-of, value-in}
 use Rattle.from_c.specs.Calls.{verifying, rewriting, value-writing}
-use Rattle.from_c.proofs.Unpacking.{unpacked-number, unpacked-length, zero-exactly-when-granted}
+use Rattle.from_c.proofs.Unpacking.{unpacked-number, unpacked-length}
 use Rattle.demands.specs.Gives.{OfficeDirectGives}
 use Rattle.demands.proofs.Telling.{granted-answer, answer-granted, left-of-refusal, directly-refuses, reading-refuses, writing-refuses}
 

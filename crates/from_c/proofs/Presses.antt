@@ -8,12 +8,12 @@ use Rattle.procap.specs.Outcome.{Outcome, granted, refused, answer-of, procap-h
 use Rattle.procap.specs.declared.answer.Answer.{Answer}
 use Rattle.procap.specs.declared.procap.Request.{Request}
 use Rattle.procap.specs.declared.procap.Procap.{Procap}
+use Rattle.procap.proofs.AnswerNumbers.{zero-exactly-when-granted}
 use Rattle.text.specs.Calls.{reading}
 use Rattle.door.specs.Door.{opening, opening-text, packed}
 use Rattle.door.proofs.Answering.{zero-exactly-when-open}
 use Rattle.door.proofs.Texts.{unread, read-opens}
 use Rattle.from_c.specs.Calls.{opened-of}
-use Rattle.from_c.proofs.Unpacking.{zero-exactly-when-granted}
 
 -- Of no presses none goes through, and of any number no more than there are.
 pub none-pressed : (o : Outcome (Unit {0})) → 0 ≡ opened-of o 0

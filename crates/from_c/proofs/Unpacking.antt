@@ -1,12 +1,9 @@
 -- What a caller takes out of the number that is handed back: number, length and place stand beside each other, each below the room that it has.
 use Prim.Native.Nat.{ℕ, _<_}
-use mathlib.Core.Path.{_≡_, sym, ap, _∙_}
-use mathlib.Core.Logic.{_↔_}
+use mathlib.Core.Path.{_≡_}
 use native.Mathlib.Omega.{arith}
-use Rattle.procap.specs.Answers.{number-of, place-of, answer-with}
+use Rattle.procap.specs.Answers.{number-of, place-of}
 use Rattle.procap.specs.declared.answer.Answer.{Answer}
-use Rattle.procap.specs.declared.answer.Answer.the-variants.{Granted}
-use Rattle.procap.proofs.AnswerNumbers.{answer-reads-back}
 use Rattle.from_c.specs.Packing.{packed, number-in, length-in, place-in}
 
 module _ (answer : Answer) (length : ℕ) where
@@ -20,11 +17,3 @@ module _ (answer : Answer) (length : ℕ) where
 
   pub unpacked-place : place-of answer < 4294967296 → place-in (packed answer length) ≡ place-of answer
   unpacked-place small = omega arith
-
--- TEMP
-pub zero-exactly-when-granted : (answer : Answer) → (number-of answer ≡ 0) ↔ (answer ≡ Granted)
-unfolding answer-with
-zero-exactly-when-granted answer = (
-  λ zero. sym (answer-reads-back answer) ∙ ap (λ n. answer-with n (place-of answer)) zero,
-  λ grant. ap number-of grant,
-)
