@@ -1,17 +1,23 @@
--- What the code hands back for a term and for a time of a proof: where one is read at a place, that one and the place after it.
+-- What the code hands back for a term and for a time of a proof, from what is read at a place.
 use Prim.Native.Nat.{ℕ}
-use mathlib.Core.Path.{_≡_}
-use mathlib.Core.Option.{some}
-use Rattle.procap.specs.Bytes.{term}
+use mathlib.Core.Option.{Option, some, none}
 use Rattle.procap.specs.declared.fact.Term.{Term}
+use Rattle.procap.specs.declared.fact.Term.the-variants.{Name, When}
 use Rattle.procap.specs.declared.time.Time.{Time}
-use Rattle.bl.specs.Steps.{time}
-use Rattle.procap.specs.Lent.{Lent}
+use Rattle.procap.specs.declared.time.Time.the-variants.{Ctime}
 use Rattle.steps.specs.declared.TermAt.{TermAt}
 use Rattle.steps.specs.declared.TimeAt.{TimeAt}
 
-abbrev pub TermAsRead : Lent → ℕ → TermAt → Type 0
-TermAsRead proof at r = (t : Term) (e : ℕ) → term (proof .entry .now) at ≡ some (t, e) → (r .term ≡ t) × (r .next ≡ e)
+-- The term that is read and the place after it; where none is, name 0 and the same place.
+unfoldable pub term-given : Option (Term × ℕ) → ℕ → TermAt
+term-given none at = record { term = Name 0; next = at }
+term-given (some r) at = record { term = r .0; next = r .1 }
 
-abbrev pub TimeAsRead : Lent → ℕ → TimeAt → Type 0
-TimeAsRead proof at r = (c : ℕ) (t : Time) (e : ℕ) → time (proof .entry .now) c at ≡ some (t, e) → (r .time ≡ t) × (r .next ≡ e)
+-- The time that a term is; a name is none, and gives ctime.
+unfoldable pub time-or-ctime : Term → Time
+time-or-ctime (Name n) = Ctime
+time-or-ctime (When t) = t
+
+-- The time that is read and the place after what is read; ctime where a name is read, or nothing.
+abbrev pub time-given : Option (Term × ℕ) → ℕ → TimeAt
+time-given o at = let given = term-given o at in record { time = time-or-ctime (given .term); next = given .next }

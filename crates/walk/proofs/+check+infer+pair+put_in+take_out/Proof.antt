@@ -54,6 +54,7 @@ use borrow.Author.Needs.{needs}
 use mathlib.Core.List.{List}
 use lib.ListN.{length, getD}
 use Rattle.procap.proofs.Telling.{holds-else, fails-where}
+use Rattle.steps.proofs.TermsGiven.{term-found}
 use Rattle.bl.specs.declared.CheckTag.the-variants.{AtInTag, AtOutTag, SaysInTag, SaysOutTag}
 use Rattle.bl.specs.declared.CheckTag.{CheckTag}
 use Rattle.bl.specs.Tags.{check-tag}
@@ -446,7 +447,7 @@ infer-returns-8 t c =
     let after-past = after-enum-told6 .before .before in
     let after-if1 = after-past .before in
     let start = after-if1 .before .before .before .before .before .before .before .before .before .before .before in (
-      λ is. infer-tagged _ _ _ _ _ _ (start .args .here .left - 1) _ _ (omega (arith, after-if1 .if1 .left)) (sym is ∙ after-enum-told6 .enum-told6 .given .1) (infer-instance _ _ _ _ _ _ _ (after-past .past .ensures .0) (after-term-at .term-at .ensures .0) ((rw (after-part5 .part5 .ensures) at (after-infer4 .infer4 .ensures .0)) (after-infer-tag-at4 .infer-tag-at4 .ensures)) (c .instance .ensures (after-term-at .term-at .ensures .1))),
+      λ is. infer-tagged _ _ _ _ _ _ (start .args .here .left - 1) _ _ (omega (arith, after-if1 .if1 .left)) (sym is ∙ after-enum-told6 .enum-told6 .given .1) (infer-instance _ _ _ _ _ _ _ (after-past .past .ensures .0) (term-found _ _ (after-term-at .term-at .ensures .0)) ((rw (after-part5 .part5 .ensures) at (after-infer4 .infer4 .ensures .0)) (after-infer-tag-at4 .infer-tag-at4 .ensures)) (c .instance .ensures (after-term-at .term-at .ensures .1))),
       (rw (after-part5 .part5 .ensures) at (after-infer4 .infer4 .ensures .1)),
     )
 

@@ -1,6 +1,7 @@
 -- The two sides of the implication, the two times after the second step, and then the two orders, which a stopped ledger goes through unchanged.
 use borrow.Author.Needs.{needs}
 use mathlib.Core.Path.{refl}
+use Rattle.steps.proofs.TermsGiven.{time-found}
 use Rattle.judging.specs.Judging.{sides, TwoSided}
 use Rattle.judging.proofs.JudgingLaws.{both-orders, put-to-use}
 use Rattle.judging.proofs.judge.applied.Statement.{statement}
@@ -18,8 +19,8 @@ returns c =
     let one = read .before .time-at .ensures in
     let other = read .time-at2 .ensures in
     λ state list F a b t1 t2 k e₃ e₄ going s on time₁ time₂.
-    let begins = one k t1 e₃ time₁ in
-    let ends = other k t2 e₄ (rw (begins .1) time₂) in
+    let begins = time-found _ _ one k t1 e₃ time₁ in
+    let ends = time-found _ _ other k t2 e₄ (rw (begins .1) time₂) in
     put-to-use (start .args .inferred .judgement) (sided .sides-of .result .first) (sided .sides-of .result .second) _ (on .from) (on .to) (begins .0) (ends .0) s
     (sided .sides-of .ensures F tt (on .means))
     (λ sound. let asked = rw (first .before .time .ensures) at (first .ask-order .ensures state list sound) in
