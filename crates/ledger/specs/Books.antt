@@ -4,7 +4,7 @@ use mathlib.Core.Path.{_≡_}
 use mathlib.Core.List.{List, [], _∷_, _++_}
 use mathlib.Core.Option.{Option, some, none}
 use lib.ListN.{length, getD}
-use lib.Dec.{eqb}
+use lib.Dec.{leb, eqb}
 use Rattle.procap.specs.Tells.{pick}
 use Rattle.procap.specs.Times.{earliest, latest}
 use Rattle.procap.specs.Answers.{number-of, place-of, answer-with}
@@ -14,7 +14,7 @@ use Rattle.procap.specs.Procaps.{most-facts}
 use Rattle.procap.specs.States.{stated}
 use Rattle.procap.specs.Outcome.{Outcome, refused}
 use Rattle.procap.specs.declared.answer.Answer.{Answer}
-use Rattle.procap.specs.declared.answer.Answer.the-variants.{StepUnfit}
+use Rattle.procap.specs.declared.answer.Answer.the-variants.{MomentAboveLatest, StepUnfit}
 use Rattle.procap.specs.declared.fact.Argument.{Argument}
 use Rattle.procap.specs.declared.fact.Fact.{Fact}
 use Rattle.bl.specs.Questions.{Walk, done, asks, Test}
@@ -43,15 +43,17 @@ pub record Book : Type 0 where
 abbrev pub opened : ℕ → Ledger
 opened n = record { number = 0; place = 0; press = n; from = earliest; to = latest; count = 0 }
 
--- The ledger at the start of a walk.
+-- The ledger stopped by an answer, unless it was before.
+unfoldable pub stopped-by : Answer → Ledger → Ledger
+stopped-by answer l =
+    pick (eqb (l .number) 0)
+    (record { number = number-of answer; place = place-of answer; press = l .press; from = l .from; to = l .to; count = l .count })
+    l
+
+-- The ledger at the start of a walk. Above the latest moment it has stopped by 11, with no press to read at.
 unfoldable pub begun : Reading → Ledger
 begun Office = opened 0
-begun (Press m) = opened (m + 1)
-
--- A moment of the clock, if the reading has one.
-unfoldable pub OnClock : Reading → Type 0
-OnClock Office = Unit {0}
-OnClock (Press m) = m ≤ latest
+begun (Press m) = pick (leb m latest) (opened (m + 1)) (stopped-by MomentAboveLatest (opened 0))
 
 -- What stopped a walk, by the number and the place of the answer; 0 while it goes on.
 unfoldable pub stop-by : ℕ → ℕ → Stop
@@ -133,13 +135,6 @@ pub record Gives {A : Type 0} (state : List ℕ) (b : Book) (w : Walk A) (b′ :
   pub same-reading : reading-in (b′ .ledger) ≡ reading-in (b .ledger)
   pub sound : Sound b′
   pub resumed : HasRoom b w → resume state b′ (done a) ≡ resume state b w
-
--- The ledger stopped by an answer, unless it was before.
-unfoldable pub stopped-by : Answer → Ledger → Ledger
-stopped-by answer l =
-    pick (eqb (l .number) 0)
-    (record { number = number-of answer; place = place-of answer; press = l .press; from = l .from; to = l .to; count = l .count })
-    l
 
 -- The ledger after a step that does not fit.
 abbrev pub misfitted : Ledger → ℕ → Ledger

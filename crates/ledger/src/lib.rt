@@ -11,7 +11,6 @@ use procap::procap::MOST_FACTS;
 use procap::procap::Procap;
 use procap::procap::Request;
 use procap::procap::VERSION;
-use procap::time::CLOCK_SECONDS;
 use procap::time::LATEST_SECOND;
 use procap::time::Time;
 use state::stands_in;
@@ -23,7 +22,7 @@ ghost use Rattle.procap.specs.Tells.{Tells};
 ghost use Rattle.procap.specs.Facts.{spelled, «argument-of»};
 ghost use Rattle.procap.specs.Procaps.{«most-facts»};
 ghost use Rattle.bl.specs.Questions.{«ask-order»};
-ghost use Rattle.ledger.specs.Books.{OnClock, begun, opened, keeping, «stop-of», book, Sound, Leads, «list-numbers», «fact-numbers», «argument-in», «facts-in», «fact-in», «stopped-by», misfitted};
+ghost use Rattle.ledger.specs.Books.{begun, opened, keeping, «stop-of», book, Sound, Leads, «list-numbers», «fact-numbers», «argument-in», «facts-in», «fact-in», «stopped-by», misfitted};
 ghost use Rattle.ledger.specs.Asking.{Narrows, AsksFact, ListsFact, «kept-procap»};
 ghost use Rattle.ledger.specs.Putting.{ArgumentsPut, KeptBefore};
 
@@ -55,13 +54,18 @@ pub struct Ledger {
 }
 
 impl Ledger {
-    // The ledger at the start of a walk, at the office or at a moment of the clock.
+    // The ledger at the start of a walk, at the office or at a press; a moment above the latest has stopped it.
     pub fn begin(reading: Reading) -> Ledger
-        ensures { λ r. ⌜ (OnClock reading → r ≡ begun reading) ⌝ }
+        ensures { λ r. ⌜ r ≡ begun reading ⌝ }
     {
         match reading {
             Reading::Office => Ledger::open(0),
-            Reading::Press(moment) => Ledger::open(moment % CLOCK_SECONDS + 1),
+            Reading::Press(moment) => {
+                if LATEST_SECOND < moment {
+                    return Ledger::open(0).stopped(Answer::MomentAboveLatest);
+                }
+                Ledger::open(moment + 1)
+            }
         }
     }
 

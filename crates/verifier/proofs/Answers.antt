@@ -24,7 +24,7 @@ use Rattle.bl.specs.Certificates.{Statement, statements}
 use Rattle.bl.specs.Questions.{done}
 use Rattle.bl.specs.Steps.{proof-in}
 use Rattle.bl.specs.Walk.{walk}
-use Rattle.bl.specs.Readings.{start, office, press, run}
+use Rattle.bl.specs.Readings.{Kept, start, office, press, run}
 use Rattle.bl.specs.Calls.{read-case, issue, verified, directly}
 use Rattle.bl.proofs.Called.{case-read}
 use Rattle.ledger.specs.declared.Reading.{Reading}
@@ -33,11 +33,12 @@ use Rattle.ledger.specs.declared.Stop.{Stop}
 use Rattle.ledger.specs.declared.Stop.the-variants.{Going, Stopped}
 use Rattle.ledger.specs.declared.Ledger.{Ledger}
 use Rattle.verifier.specs.declared.verify.Verified.{Verified}
-use Rattle.ledger.specs.Books.{OnClock, stop-of, Book, book, list-numbers, Sound, facts-in, kept-of, facts-said, reading-of, resume}
+use Rattle.ledger.specs.Books.{begun, stop-of, Book, book, list-numbers, Sound, facts-in, kept-of, facts-said, resume}
 use Rattle.ledger.proofs.Giving.{stop-refused, stop-going}
 use Rattle.verifier.specs.Verifying.{Taken, Walked, Stops, CaseReads, verified-case, checked-case, HandsOver}
 use Rattle.steps.specs.Ends.{ToldChecking}
 use Rattle.verifier.proofs.CertificateLaws.{statements-count}
+use Rattle.verifier.proofs.WalkBegins.{office-begins, press-begins}
 
 -- ── Outcomes that are handed over ──
 
@@ -154,21 +155,24 @@ unfolding resume run
 resume-going state b e = stop-going _ _ e
 
 module _ (r : Request) (buffer proof state rows ends : List ℕ) (reading : Reading) (list : List ℕ) (l : Ledger) (list′ : List ℕ)
-    (on-clock : OnClock reading) (room : length list ≡ list-numbers) (walked : Walked (record { request = r; reading = reading }) buffer proof state rows ends list l list′)
+    (room : length list ≡ list-numbers) (walked : Walked (record { request = r; reading = reading }) buffer proof state rows ends list l list′)
     (cs : List Statement) (N : Check) (reads : CaseReads rows ends buffer proof cs N) where
-  came : Sound (book l list′) × (resume state (book l list′) (done (tt {0})) ≡ run (reading-of state reading) (walk r cs N) start)
-  came = walked cs N on-clock room reads
+  -- What the walk comes to, from the ledger at its start.
+  abbrev begins : Outcome (Unit {0} × Kept)
+  begins = resume state (book (begun reading) list) (walk r cs N)
 
-  walk-stopped : (answer : Answer) → stop-of l ≡ Stopped answer → run (reading-of state reading) (walk r cs N) start ≡ refused answer
+  came : Sound (book l list′) × (resume state (book l list′) (done (tt {0})) ≡ begins)
+  came = walked cs N room reads
+
+  walk-stopped : (answer : Answer) → stop-of l ≡ Stopped answer → begins ≡ refused answer
   walk-stopped answer e = sym (came .1) ∙ resume-stopped state (book l list′) answer e
 
-  walk-done : stop-of l ≡ Going → run (reading-of state reading) (walk r cs N) start ≡ granted (tt, kept-of (book l list′))
+  walk-done : stop-of l ≡ Going → begins ≡ granted (tt, kept-of (book l list′))
   walk-done e = sym (came .1) ∙ resume-going state (book l list′) e
 
   module _ (at-office : reading ≡ Office) (v : Verified) where
-    office-run : run (reading-of state reading) (walk r cs N) start ≡ run office (walk r cs N) start
-    unfolding reading-of
-    office-run = rw at-office refl
+    office-run : begins ≡ run office (walk r cs N) start
+    office-run = rw at-office (office-begins state list (walk r cs N))
 
     pub verify-stopped : (answer : Answer) → stop-of l ≡ Stopped answer → v ≡ record { answer = answer; procap = empty-procap } → HandsOver (verified-case r cs N) v
     unfolding verified-case
@@ -180,9 +184,9 @@ module _ (r : Request) (buffer proof state rows ends : List ℕ) (reading : Read
         rw (goes-on (run office (walk r cs N) start) (λ w. issue r (w .1)) (tt, kept-of (book l list′)) (sym office-run ∙ walk-done e)) (k (came .0))
 
   module _ (m : ℕ) (at-press : reading ≡ Press m) (in-range : m ≤ latest) (σ : List Spelled) (says : stated state ≡ some σ) where
-    press-run : run (reading-of state reading) (walk r cs N) start ≡ run (press m σ) (walk r cs N) start
-    unfolding reading-of facts-said
-    press-run = rw (at-press, says) refl
+    press-run : begins ≡ run (press m σ) (walk r cs N) start
+    unfolding facts-said
+    press-run = rw at-press (press-begins state list (walk r cs N) m in-range ∙ rw says)
 
     press-reads : read-press m state ≡ granted σ
     press-reads = reads-press m state σ in-range says

@@ -27,7 +27,7 @@ use Rattle.verifier.specs.declared.verify.Verified.{Verified}
 use Rattle.verifier.specs.declared.verify.Asked.{Asked}
 use Rattle.steps.specs.Ends.{ToldChecking, EndsTold}
 use Rattle.ledger.specs.declared.Ledger.{Ledger}
-use Rattle.ledger.specs.Books.{OnClock, book, list-numbers, Sound, reading-of, resume}
+use Rattle.ledger.specs.Books.{begun, book, list-numbers, Sound, resume}
 use Rattle.judging.specs.declared.rows.Row.{Row}
 use Rattle.judging.specs.declared.rows.Whose.the-variants.{Claim}
 use Rattle.formula.specs.PutIn.{no-terms}
@@ -58,11 +58,11 @@ pub record CaseReads (rows ends buffer proof : List ℕ) (cs : List Statement) (
   pub proof-reads : proof-in (length cs) proof ≡ some N
   pub told : ToldChecking ends N
 
--- The ledger and the list at the end are what the walk of the proof comes to.
+-- The ledger and the list at the end are what the walk of the proof comes to, from the ledger at its start.
 abbrev pub Walked : Asked → List ℕ → List ℕ → List ℕ → List ℕ → List ℕ → List ℕ → Ledger → List ℕ → Type 0
 Walked asked buffer proof state rows ends list l list′ =
-    (cs : List Statement) (N : Check) → OnClock (asked .reading) → length list ≡ list-numbers → CaseReads rows ends buffer proof cs N
-    → Sound (book l list′) × (resume state (book l list′) (done (tt {0})) ≡ run (reading-of state (asked .reading)) (walk (asked .request) cs N) start)
+    (cs : List Statement) (N : Check) → length list ≡ list-numbers → CaseReads rows ends buffer proof cs N
+    → Sound (book l list′) × (resume state (book l list′) (done (tt {0})) ≡ resume state (book (begun (asked .reading)) list) (walk (asked .request) cs N))
 
 -- The same of what is lent, where r is the ledger at the end.
 abbrev pub WalkedOver : Asked → Lent → Lent → Lent → Lent → Lent → Lent → Ledger → Type 0

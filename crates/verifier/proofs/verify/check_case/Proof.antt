@@ -5,7 +5,6 @@ use Rattle.procap.proofs.Telling.{holds-else, fails-where}
 use mathlib.Core.Path.{refl, sym, _∙_}
 use lib.ListN.{replicate}
 use Rattle.state.specs.Standing.{WellFormed}
-use Rattle.ledger.specs.Books.{OnClock}
 use Rattle.verifier.proofs.verify.check_case.Statement.{statement}
 use Rattle.verifier.proofs.verify.check_case.Tie as tie
 
@@ -21,7 +20,6 @@ returns-2 c =
     state-says-nothing _ cs N _ _ (moment .if1 .left) (fails-where (told .result) {P = WellFormed state} (c .if2 .taken) (told .ensures))
 
 returns-3 : tie.Need-returns-3
-unfolding OnClock
 returns-3 c =
     let walk = c .before .before .before .before .before in
     let formed = walk .before .before in
@@ -30,11 +28,10 @@ returns-3 c =
     let state = moment .before .before .before .before .before .before .args .state .now in
     let says : WellFormed state = holds-else (told .result) (formed .if2 .left) (told .ensures) in
     λ cs N reads.
-    check-stopped _ _ _ _ _ _ _ (replicate 160 0) _ _ (moment .if1 .left) refl (walk .walked .ensures) cs N reads _ refl (moment .if1 .left)
+    check-stopped _ _ _ _ _ _ _ (replicate 160 0) _ _ refl (walk .walked .ensures) cs N reads _ refl (moment .if1 .left)
     (says .0) (says .1) _ (sym (c .before .before .before .stop .ensures) ∙ c .before .stop2 .given .1)
 
 returns-4 : tie.Need-returns-4
-unfolding OnClock
 returns-4 c =
     let walk = c .before .before .before .before in
     let formed = walk .before .before in
@@ -43,7 +40,7 @@ returns-4 c =
     let state = moment .before .before .before .before .before .before .args .state .now in
     let says : WellFormed state = holds-else (told .result) (formed .if2 .left) (told .ensures) in
     λ cs N reads.
-    check-accepted _ _ _ _ _ _ _ (replicate 160 0) _ _ (moment .if1 .left) refl (walk .walked .ensures) cs N reads _ refl (moment .if1 .left)
+    check-accepted _ _ _ _ _ _ _ (replicate 160 0) _ _ refl (walk .walked .ensures) cs N reads _ refl (moment .if1 .left)
     (says .0) (says .1) (sym (c .before .before .stop .ensures) ∙ c .enum-told .given .1)
 
 pub check-case-spec : {M : Type 1} → statement M

@@ -3,26 +3,23 @@ use borrow.Author.Needs.{needs}
 use Rattle.verifier.proofs.Answers.{verify-stopped, verify-issued}
 use mathlib.Core.Path.{refl, sym, _∙_}
 use lib.ListN.{replicate}
-use Rattle.ledger.specs.Books.{OnClock}
 use Rattle.verifier.proofs.verify.verify_case.Statement.{statement}
 use Rattle.verifier.proofs.verify.verify_case.Tie as tie
 
 returns : tie.Need-returns
-unfolding OnClock
 returns c =
     let stopped = c .before .before in
     let walk = stopped .before .before .before .before in
     λ cs N reads.
-    verify-stopped _ _ _ _ _ _ _ (replicate 160 0) _ _ tt refl (walk .walked .ensures) cs N reads refl _ _
+    verify-stopped _ _ _ _ _ _ _ (replicate 160 0) _ _ refl (walk .walked .ensures) cs N reads refl _ _
     (sym (stopped .before .before .stop .ensures) ∙ stopped .stop2 .given .1) (c .refused .ensures)
 
 returns-2 : tie.Need-returns-2
-unfolding OnClock
 returns-2 c =
     let going = c .before .before in
     let walk = going .before .before .before .before in
     λ cs N reads.
-    verify-issued _ _ _ _ _ _ _ (replicate 160 0) _ _ tt refl (walk .walked .ensures) cs N reads refl _
+    verify-issued _ _ _ _ _ _ _ (replicate 160 0) _ _ refl (walk .walked .ensures) cs N reads refl _
     (sym (going .before .before .stop .ensures) ∙ going .enum-told .given .1) (c .issued .ensures)
 
 pub verify-case-spec : {M : Type 1} → statement M
