@@ -1,16 +1,17 @@
 -- Laws of rows: numbers stored one after another stand where they were stored and leave the others, a row goes by its own 24 numbers, and the
 -- numbers that a row is put as are read back as that row.
 use Prim.Native.Nat.{ℕ, zero, suc, _+_, _*_, _≤_, _<_}
+use mathlib.Core.Bool.{Bool, true, false}
 use mathlib.Core.Path.{_≡_, refl, sym, ap, ap₂, _∙_}
 use mathlib.Core.List.{List, [], _∷_, _++_}
 use native.Mathlib.Nat.{add-zero, zero-add, add-suc, suc-add, add-assoc}
 use native.Mathlib.Numerals.{add-one, towards-suc}
 use native.Mathlib.Omega.{arith}
-use borrow.Author.Tests.{ne-eqb}
+use borrow.Author.Tests.{eq-eqb, ne-eqb, lt-ltb, le-ltb}
 use borrow.Author.Count.{below-more}
 use lib.ListN.{length, getD, take, set, length-set}
 use lib.Seq.{sets, getD-set-same, getD-set-other, getD-append-add, length-take-le, take-suc, ext-getD}
-use lib.Dec.{eqb}
+use lib.Dec.{ltb, eqb}
 use Rattle.procap.specs.Tells.{pick}
 use Rattle.procap.specs.declared.time.Time.{Time}
 use Rattle.procap.specs.declared.fact.Term.the-variants.{When}
@@ -19,8 +20,8 @@ use Rattle.judging.specs.declared.rows.Row.{Row}
 use Rattle.judging.specs.declared.rows.Whose.{Whose}
 use Rattle.judging.specs.declared.rows.Whose.the-variants.{Plain, Claim}
 use Rattle.formula.specs.PutIn.{terms-numbers}
-use Rattle.judging.specs.RowsOf.{numbers-in, time-in, whose-in, row-in, row-numbers}
-use Rattle.judging.specs.RowNumbers.{whose-kind, whose-value}
+use Rattle.judging.specs.RowsOf.{numbers-in, time-in, whose-in, row-in, most-rows, row-numbers, all-numbers}
+use Rattle.judging.specs.RowNumbers.{whose-kind, whose-value, numbers-of, rows-with}
 
 -- ── Numbers stored one after another ──
 
@@ -153,19 +154,6 @@ module _ (rows : List ℕ) (at : ℕ) {kind : ℕ} (e : kind ≡ getD rows at 0)
 
 -- ── A row that is put ──
 
--- The numbers that a row is put as.
-abbrev numbers-of : Row → List ℕ
-numbers-of row =
-    whose-kind (row .whose)
-    ∷ whose-value (row .whose)
-    ∷ row .judgement .from .kind
-    ∷ row .judgement .from .second
-    ∷ row .judgement .to .kind
-    ∷ row .judgement .to .second
-    ∷ row .judgement .formula .at
-    ∷ row .judgement .formula .terms .count
-    ∷ row .judgement .formula .terms .numbers
-
 -- Its parts put one after another are all of them.
 pub row-put : (before : List ℕ) (start : ℕ) {first second third fourth after : List ℕ} {k₁ v₁ : ℕ} (row : Row)
     → k₁ ≡ whose-kind (row .whose) → v₁ ≡ whose-value (row .whose) → first ≡ sets before start (k₁ ∷ v₁ ∷ [])
@@ -201,16 +189,51 @@ row-back row e = λ d. record {
     numbers-back : numbers ≡ numbers-in (numbers-of row) 8 terms-numbers
     numbers-back = numbers-are numbers (numbers-of row) 8 terms-numbers e (λ k inside. sym (getD-append-add (take 8 (numbers-of row)) numbers k 0))
 
-module _ (before : List ℕ) (index : ℕ) (row : Row) (full : length (row .judgement .formula .terms .numbers) ≡ terms-numbers) {after : List ℕ}
-    (put : after ≡ sets before (index * row-numbers) (numbers-of row)) where
-  -- It stands there, and the others stay.
-  pub row-there : index * row-numbers + row-numbers ≤ length before → row-in after index ≡ row
-  row-there room =
+-- The rows with a row put among them, by cases of whether they are all there and have such an index.
+module _ (rows : List ℕ) (index : ℕ) (row : Row) where
+  pub not-all-there : (length rows ≡ all-numbers → ⊥) → rows ≡ rows-with rows index row
+  unfolding rows-with
+  not-all-there apart = rw (ne-eqb (length rows) all-numbers apart)
+
+  module _ (all : length rows ≡ all-numbers) where
+    pub no-such-row : most-rows ≤ index → rows ≡ rows-with rows index row
+    unfolding rows-with
+    no-such-row above = rw (eq-eqb (length rows) all-numbers all, le-ltb index most-rows above)
+
+    pub put-there : index < most-rows → rows-with rows index row ≡ sets rows (index * row-numbers) (numbers-of row)
+    unfolding rows-with
+    put-there below = rw (eq-eqb (length rows) all-numbers all, lt-ltb index most-rows below)
+
+-- What is so of the rows as they were and of those with the numbers of a row stored is so of the rows with the row.
+with-either : (P : List ℕ → Type 0) (rows : List ℕ) (index : ℕ) (row : Row)
+    → P rows → P (sets rows (index * row-numbers) (numbers-of row)) → P (rows-with rows index row)
+unfolding rows-with
+with-either P rows index row same put = either (eqb (length rows) all-numbers) (either (ltb index most-rows) put same) same
+  where
+    either : (b : Bool) {xs ys : List ℕ} → P xs → P ys → P (pick b xs ys)
+    either true p q = p
+    either false p q = q
+
+module _ (rows : List ℕ) (index : ℕ) (row : Row) {after : List ℕ} (put : after ≡ rows-with rows index row) where
+  -- The row stands there, where all rows are there and it is one of theirs, and it has all its numbers.
+  pub row-there : length rows ≡ all-numbers → index < most-rows → length (row .judgement .formula .terms .numbers) ≡ terms-numbers → row-in after index ≡ row
+  row-there all below full =
       rows-alike after (numbers-of row) index 0
-      (λ k inside. rw (put, zero-add) (stands before (index * row-numbers) (numbers-of row) k (omega arith) (omega arith)))
+      (λ k inside. rw (put ∙ put-there rows index row all below, zero-add) (stands rows (index * row-numbers) (numbers-of row) k (omega arith) (omega arith)))
       ∙ row-back row full
 
-  pub row-elsewhere : (i : ℕ) → (i ≡ index → ⊥) → row-in after i ≡ row-in before i
-  row-elsewhere i other =
-      rows-alike after before i i
-      (λ k inside. rw put (stays before (index * row-numbers) (numbers-of row) (i * row-numbers + k) (λ l. omega arith)))
+  -- A row stays that none of its numbers are stored in,
+  stays-outside : (i : ℕ) → ((k : ℕ) → k < row-numbers → index * row-numbers ≤ i * row-numbers + k → index * row-numbers + length (numbers-of row) ≤ i * row-numbers + k)
+      → row-in after i ≡ row-in rows i
+  stays-outside i outside =
+      rw put
+      (with-either (λ after. row-in after i ≡ row-in rows i) rows index row refl
+      (rows-alike (sets rows (index * row-numbers) (numbers-of row)) rows i i
+      (λ k inside. stays rows (index * row-numbers) (numbers-of row) (i * row-numbers + k) (outside k inside))))
+
+  -- as each before it does, and, where it has all its numbers, every other.
+  pub earlier-stay : (i : ℕ) → i < index → row-in after i ≡ row-in rows i
+  earlier-stay i before = stays-outside i (λ k inside l. absurd (omega arith))
+
+  pub others-stay : length (row .judgement .formula .terms .numbers) ≡ terms-numbers → (i : ℕ) → (i ≡ index → ⊥) → row-in after i ≡ row-in rows i
+  others-stay full i other = stays-outside i (λ k inside l. omega arith)

@@ -81,12 +81,3 @@ pub record Certifies (buffer : List ℕ) (row : Row) (s : Statement) : Type 0 wh
 pub record Certified (buffer rows : List ℕ) (cs : List Statement) : Type 0 where
   pub few : length cs ≤ most-certificates
   pub each : (i : ℕ) (s : Statement) → nth cs i ≡ some s → Certifies buffer (row-in rows i) s
-
--- A row is put at its index, where the rows are all there and it has all its numbers.
-abbrev pub PutsRow : List ℕ → ℕ → Row → List ℕ → Type 0
-PutsRow rows index row rows′ =
-    length rows ≡ all-numbers → index < most-rows → length (row .judgement .formula .terms .numbers) ≡ terms-numbers → row-in rows′ index ≡ row
-
--- The other rows stay.
-abbrev pub OthersStay : List ℕ → ℕ → List ℕ → Type 0
-OthersStay rows index rows′ = (i : ℕ) → (i ≡ index → ⊥) → row-in rows′ i ≡ row-in rows i

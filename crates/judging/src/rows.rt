@@ -11,8 +11,8 @@ ghost use Prim.Native.Nat.{_+_, _≤_, _<_};
 ghost use lib.ListN.{length};
 ghost use lib.Seq.{sets};
 ghost use Rattle.formula.specs.PutIn.{«terms-numbers»};
-ghost use Rattle.judging.specs.RowsOf.{«row-in», «whose-in», «time-in», «numbers-in», «most-rows», PutsRow, OthersStay};
-ghost use Rattle.judging.specs.RowNumbers.{«whose-kind», «whose-value»};
+ghost use Rattle.judging.specs.RowsOf.{«row-in», «whose-in», «time-in», «numbers-in», «most-rows»};
+ghost use Rattle.judging.specs.RowNumbers.{«whose-kind», «whose-value», «rows-with»};
 
 // How many rows there are at the most.
 pub const MOST_ROWS: usize = 32;
@@ -138,10 +138,9 @@ fn put_numbers(rows: &mut [u64], at: usize, numbers: [u64; TERMS_NUMBERS])
     }
 }
 
-// Puts a row at an index; where the rows have none, nothing.
+// Puts a row at an index; where the rows are not all there, or have no such index, nothing.
 pub fn put_row(rows: &mut [u64], index: usize, row: Row)
-    ensures there { λ _. ⌜ PutsRow (now (rows .entry)) index row (now (rows .exit)) ⌝ }
-    ensures others { λ _. ⌜ OthersStay (now (rows .entry)) index (now (rows .exit)) ⌝ }
+    ensures { λ _. ⌜ now (rows .exit) ≡ «rows-with» (now (rows .entry)) index row ⌝ }
 {
     if rows.len() != ALL_NUMBERS {
         return;

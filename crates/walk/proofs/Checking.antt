@@ -34,7 +34,8 @@ use Rattle.judging.specs.declared.judge.Sides.{Sides}
 use Rattle.judging.specs.declared.judge.Inside.{Inside}
 use Rattle.ledger.specs.Books.{stop-of, book, Sound, Gives}
 use Rattle.formula.specs.Meaning.{from-of, to-of, Means, On}
-use Rattle.judging.specs.RowsOf.{RowIs, is-plain, is-claim, is-shut, most-rows, PutsRow}
+use Rattle.judging.specs.RowsOf.{RowIs, is-plain, is-claim, is-shut, most-rows}
+use Rattle.judging.specs.RowNumbers.{rows-with}
 use Rattle.judging.specs.Judging.{view-in, scope-inside, part-of, and-then, sides, TwoSided, and-sides, inside, top-goal, fact-goal, order-goal, Passes}
 use Rattle.judging.specs.StepPromises.{TakesSides, TakesInside, TakesInsideInferred, StaysStopped, ChecksInferred}
 use Rattle.walk.specs.Walking.{Sources, Around, Keeps, InfersAt, ChecksAt, ChecksBy}
@@ -333,14 +334,14 @@ module _ (S : Sources) (rows : List ℕ) (scope : Scope) (ledger : Ledger) (list
         check-take-full full tag is cs Γ N e sound around reads told G means = let room = around .room in absurd (omega arith)
 
         pub check-take : stop-of (held .ledger) ≡ Going → {between more : List ℕ} → Keeps (scope .count) rows between
-            → PutsRow between (scope .count) (held .row) more → Keeps (scope .count) between more
+            → more ≡ rows-with between (scope .count) (held .row) → Keeps (scope .count) between more
             → {r : Checked} {list₂ : List ℕ}
             → ChecksAt S more (record { count = scope .count + 1; shut = scope .shut; view = scope .view }) (held .ledger) list₁ left goal-bytes goal (inferred .next) r list₂
             → (tag : CheckTag) → TakesOut tag shell → By tag r list₂
-        check-take going {between} {more} kept there keeps {r} {list₂} checks tag is cs Γ N e sound around reads told G means =
+        check-take going {between} {more} kept put keeps {r} {list₂} checks tag is cs Γ N e sound around reads told G means =
             let found = take-read (S .proof) (S .ends) (length cs) left (scope .count) at tag shell N e is reads told in
             let around′ = around-kept S rows between scope (suc left) cs Γ kept around in
             rw (found .walks cs Γ view (G, from-of goal, to-of goal))
             (passes-then (S .state) (book ledger list) _ (held .ledger) list₁ (taken-comes cs Γ N e sound around found) _ e going r list₂
-            (λ sound x so. checks cs (x ∷ Γ) (found .other) e sound (around-more S between scope left cs Γ around′ more (held .row) x (so .0) there keeps)
+            (λ sound x so. checks cs (x ∷ Γ) (found .other) e sound (around-more S between scope left cs Γ around′ more (held .row) x (so .0) put keeps)
             (rw (add-one (scope .count), so .1) (found .other-reads)) (found .other-told) G means))

@@ -18,7 +18,9 @@ use Rattle.formula.specs.PutIn.{terms-numbers}
 use Rattle.judging.specs.declared.rows.Whose.{Whose}
 use Rattle.judging.specs.declared.rows.Whose.the-variants.{Plain, Claim}
 use Rattle.judging.specs.Judging.{scope-inside}
-use Rattle.judging.specs.RowsOf.{row-in, RowIs, is-plain, is-claim, is-shut, Assumed, PutsRow, OthersStay}
+use Rattle.judging.specs.RowsOf.{row-in, RowIs, is-plain, is-claim, is-shut, Assumed}
+use Rattle.judging.specs.RowNumbers.{rows-with}
+use Rattle.judging.proofs.RowLaws.{row-there, earlier-stay}
 use Rattle.walk.specs.Walking.{Sources, Around, Keeps, ChecksAt}
 
 -- A row inside of a says-in: a plain one is shut out, a claim stays.
@@ -65,8 +67,8 @@ pub keeps-then : {count : ℕ} {before between after : List ℕ} → Keeps count
 keeps-then first second = record { rows = λ i below. second .rows i below ∙ first .rows i below; all = second .all ∙ first .all }
 
 -- A row that is put at the count leaves those below it.
-pub keeps-others : (count : ℕ) (before after : List ℕ) → OthersStay before count after → length after ≡ length before → Keeps count before after
-keeps-others count before after others all = record { rows = λ i below. others i (λ same. omega arith); all = all }
+pub keeps-others : (count : ℕ) (before : List ℕ) (row : Row) {after : List ℕ} → after ≡ rows-with before count row → length after ≡ length before → Keeps count before after
+keeps-others count before row put all = record { rows = earlier-stay before count row put; all = all }
 
 -- The scope inside of a shell has as many rows.
 pub keeps-inside : (scope : Scope) (whose : Whose) {before after : List ℕ} → Keeps (scope-inside scope whose .count) before after → Keeps (scope .count) before after
@@ -103,10 +105,10 @@ module _ (S : Sources) (rows : List ℕ) (scope : Scope) (left : ℕ) (cs : List
       }
 
   -- The second part of an at-out or a says-out: the row is put past those that are there.
-  pub around-more : (more : List ℕ) (row : Row) (x : Assumption) → RowIs (S .buffer) row 0 0 x → PutsRow rows (scope .count) row more → Keeps (scope .count) rows more
+  pub around-more : (more : List ℕ) (row : Row) (x : Assumption) → RowIs (S .buffer) row 0 0 x → more ≡ rows-with rows (scope .count) row → Keeps (scope .count) rows more
       → Around S more (record { count = scope .count + 1; shut = scope .shut; view = scope .view }) left cs (x ∷ Γ)
   unfolding Assumed
-  around-more more row x usable there keeps =
+  around-more more row x usable put keeps =
       let room = around .room in
       let inside = around .shut-inside in
       let is = row-usable (S .buffer) row (scope .count) (scope .shut) x inside usable in
@@ -114,7 +116,7 @@ module _ (S : Sources) (rows : List ℕ) (scope : Scope) (left : ℕ) (cs : List
         certified = around .certified;
         assumed =
             rw (add-one (scope .count)) (
-              rw (there (around .all-there) (omega arith) (row-whole (S .buffer) row (scope .count) (scope .shut) x inside is)) is,
+              rw (row-there rows (scope .count) row put (around .all-there) (omega arith) (row-whole (S .buffer) row (scope .count) (scope .shut) x inside is)) is,
               assumed-in (S .buffer) rows more (scope .shut) (scope .count) Γ (keeps .rows) (around .assumed),
             );
         shut-inside = omega arith;

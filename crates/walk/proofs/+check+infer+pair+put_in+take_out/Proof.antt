@@ -637,8 +637,8 @@ take-out-returns-3 t c =
     let after-part = after-infer .before in
     let after-infer-tag-at = after-part .before in
     let after-past = after-infer-tag-at .before .before .before in (
-      check-take _ _ _ _ _ _ _ _ _ _ (after-past .past .ensures .0) ((rw (after-part .part .ensures) at (after-infer .infer .ensures .0)) (after-infer-tag-at .infer-tag-at .ensures)) (after-inside-inferred .inside-inferred .ensures .0) (after-inside-inferred .inside-inferred .ensures .1) (holds-else (after-goes-on .goes-on .result) (after-if1 .if1 .left) (after-goes-on .goes-on .ensures)) (rw (after-part .part .ensures) at (after-infer .infer .ensures .1)) (after-put-row .put-row .ensures .0) (keeps-others _ _ _ (after-put-row .put-row .ensures .1) (after-put-row .put-row .kept .0)) (after-check .check .ensures .0),
-      keeps-then (rw (after-part .part .ensures) at (after-infer .infer .ensures .1)) (keeps-put (keeps-others _ _ _ (after-put-row .put-row .ensures .1) (after-put-row .put-row .kept .0)) (after-check .check .ensures .1)),
+      check-take _ _ _ _ _ _ _ _ _ _ (after-past .past .ensures .0) ((rw (after-part .part .ensures) at (after-infer .infer .ensures .0)) (after-infer-tag-at .infer-tag-at .ensures)) (after-inside-inferred .inside-inferred .ensures .0) (after-inside-inferred .inside-inferred .ensures .1) (holds-else (after-goes-on .goes-on .result) (after-if1 .if1 .left) (after-goes-on .goes-on .ensures)) (rw (after-part .part .ensures) at (after-infer .infer .ensures .1)) (after-put-row .put-row .ensures) (keeps-others _ _ _ (after-put-row .put-row .ensures) (after-put-row .put-row .kept .0)) (after-check .check .ensures .0),
+      keeps-then (rw (after-part .part .ensures) at (after-infer .infer .ensures .1)) (keeps-put (keeps-others _ _ _ (after-put-row .put-row .ensures) (after-put-row .put-row .kept .0)) (after-check .check .ensures .1)),
     )
 
 pub +check+infer+pair+put-in+take-out-spec : {M : Type 1} → statement M

@@ -4,6 +4,7 @@ use mathlib.Core.Path.{refl, sym, ap, _∙_}
 use lib.ListN.{length}
 use native.Mathlib.Omega.{arith}
 use Rattle.procap.proofs.Telling.{holds-else, fails-where}
+use Rattle.judging.proofs.RowLaws.{row-there, others-stay}
 use Rattle.verifier.specs.Verifying.{row-of}
 use Rattle.verifier.proofs.CertificateLaws.{stays-refused, taken-going, taken-malformed, one-taken}
 use Rattle.verifier.proofs.certificates.take_record.Statement.{statement}
@@ -27,9 +28,10 @@ returns-3 c =
     let told = formed .before .well-formed in
     λ records l here room so-far.
     let going = taken-going records _ _ _ l _ (formed .before .before .enum-told .given .1) so-far in
+    let full = ap (λ r. length (r .judgement .formula .terms .numbers)) (row .ensures) in
     one-taken records _ _ _ l going (rw here (holds-else (told .result) (formed .if1 .left) (told .ensures)))
-    (put .ensures .0 room (omega (arith, going .few)) (ap (λ r. length (r .judgement .formula .terms .numbers)) (row .ensures)) ∙ row .ensures ∙ ap row-of (sym here))
-    (put .ensures .1)
+    (row-there _ _ _ (put .ensures) room (omega (arith, going .few)) full ∙ row .ensures ∙ ap row-of (sym here))
+    (others-stay _ _ _ (put .ensures) full)
 
 pub take-record-spec : {M : Type 1} → statement M
 take-record-spec =
