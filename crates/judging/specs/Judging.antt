@@ -30,6 +30,7 @@ use Rattle.judging.specs.declared.judge.Checked.{Checked}
 use Rattle.judging.specs.declared.judge.Application.{Application}
 use Rattle.ledger.specs.Books.{stop-of, Book, book, Gives, misfitted}
 use Rattle.formula.specs.Meaning.{begin, On}
+use Rattle.formula.specs.PartPromises.{front-on-ctime}
 
 -- One walk, and then another.
 abbrev pub and-then : {A B : Type 0} → Walk A → (A → Walk B) → Walk B
@@ -60,6 +61,10 @@ use-certificate q v cs i = do
 -- The part of a judgement that begins at another place, on the same interval.
 abbrev pub part-of : Judgement → ℕ → Judgement
 part-of j at = record { formula = begin (j .formula) at; from = j .from; to = j .to }
+
+-- Nothing is inferred: beside the ledger stand the front of the bytes on [ctime,ctime] and the place 0, which say nothing.
+abbrev pub nothing-inferred : Ledger → Inferred
+nothing-inferred l = record { ledger = l; judgement = front-on-ctime; next = 0 }
 
 -- Both sides of a conjunction, of an implication.
 unfoldable pub and-sides : ℕ → Formula → Walk (Formula × Formula)

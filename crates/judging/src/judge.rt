@@ -27,7 +27,7 @@ ghost use mathlib.Core.Path.{_≡_};
 ghost use Rattle.procap.specs.Writable.{TermInForm};
 ghost use Rattle.bl.specs.Walk as walk;
 ghost use Rattle.ledger.specs.Books.{misfitted, Leads};
-ghost use Rattle.judging.specs.Judging.{«view-in», «scope-inside», «part-of», «top-goal», «order-goal», «first-side», «second-side», «put-in»};
+ghost use Rattle.judging.specs.Judging.{«view-in», «scope-inside», «part-of», «nothing-inferred», «top-goal», «order-goal», «first-side», «second-side», «put-in»};
 ghost use Rattle.judging.specs.StepPromises.{UsesRow, UsesLocal, UsesCertificate, TakesSides, TakesConjuncts, StaysStopped, TakesTimes, TakesAt, TakesSays, TakesInside, TakesInsideInferred, Continues, PutsToUse, MeetsGoal, MeetsFact, FitsGoal, ChecksInferred};
 ghost use Rattle.judging.specs.Pieces.{«binder-of»};
 
@@ -121,7 +121,7 @@ pub fn part_at(judgement: Judgement, at: usize) -> Judgement
 
 // Nothing is inferred: the ledger has stopped, and the judgement says nothing.
 pub fn nothing(ledger: Ledger) -> Inferred
-    ensures { λ r. ⌜ r .ledger ≡ ledger ⌝ }
+    ensures { λ r. ⌜ r ≡ «nothing-inferred» ledger ⌝ }
 {
     let judgement = Judgement::front_on_ctime();
     Inferred {

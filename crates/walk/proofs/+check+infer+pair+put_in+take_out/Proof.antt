@@ -48,7 +48,7 @@ use Rattle.walk.proofs.Here.part.Reads as part-reads
 use Rattle.walk.proofs.+check+infer+pair+put_in+take_out.{statement}
 use Rattle.walk.proofs.+check+infer+pair+put_in+take_out.Tie.{close}
 use Prim.Native.Nat.{suc, _+_, _-_}
-use mathlib.Core.Path.{_≡_, sym, _∙_}
+use mathlib.Core.Path.{_≡_, sym, ap, _∙_}
 use native.Mathlib.Omega.{arith}
 use borrow.Author.Needs.{needs}
 use mathlib.Core.List.{List}
@@ -336,7 +336,7 @@ infer-returns-2 t c =
     let after-past = after-enum-told5 .before .before in
     let after-if1 = after-past .before in
     let start = after-if1 .before .before .before .before .before .before .before .before .before .before .before in (
-      λ is. infer-tagged _ _ _ _ _ _ (start .args .here .left - 1) _ _ (omega (arith, after-if1 .if1 .left)) (sym is ∙ after-enum-told5 .enum-told5 .given .1) (infer-apply-stopped _ _ _ _ _ _ _ (after-past .past .ensures .0) ((rw (after-part3 .part3 .ensures) at (after-infer3 .infer3 .ensures .0)) (after-infer-tag-at3 .infer-tag-at3 .ensures)) (after-end-in .end-in .ensures) (after-put-to-use .put-to-use .ensures .0) (after-put-to-use .put-to-use .ensures .1) (c .nothing2 .ensures) (fails-where (after-goes-on .goes-on .result) (after-if2 .if2 .taken) (after-goes-on .goes-on .ensures))),
+      λ is. infer-tagged _ _ _ _ _ _ (start .args .here .left - 1) _ _ (omega (arith, after-if1 .if1 .left)) (sym is ∙ after-enum-told5 .enum-told5 .given .1) (infer-apply-stopped _ _ _ _ _ _ _ (after-past .past .ensures .0) ((rw (after-part3 .part3 .ensures) at (after-infer3 .infer3 .ensures .0)) (after-infer-tag-at3 .infer-tag-at3 .ensures)) (after-end-in .end-in .ensures) (after-put-to-use .put-to-use .ensures .0) (after-put-to-use .put-to-use .ensures .1) (ap (λ r. r .ledger) (c .nothing2 .ensures)) (fails-where (after-goes-on .goes-on .result) (after-if2 .if2 .taken) (after-goes-on .goes-on .ensures))),
       (rw (after-part3 .part3 .ensures) at (after-infer3 .infer3 .ensures .1)),
     )
 

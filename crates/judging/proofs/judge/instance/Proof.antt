@@ -1,6 +1,6 @@
 -- A walk that has stopped stays; else the tag of the term's binder tells whether the term may be put in.
 use borrow.Author.Needs.{needs}
-use mathlib.Core.Path.{refl, sym, _∙_}
+use mathlib.Core.Path.{refl, sym, ap, _∙_}
 use Rattle.procap.proofs.Telling.{holds-else, fails-where}
 use Rattle.judging.proofs.JudgingLaws.{yields-nothing, halts, goes-on, takes-yields}
 use Rattle.judging.proofs.InstancesTaken.{instance-missing, instance-there}
@@ -38,7 +38,7 @@ returns-2 c =
     (yields-nothing _ (y .gives .sound)
     (instance-missing (y .on going .means) _ _ _ _
     (λ tag. fails-where (told .before .is-a .result) (told .if2 .taken) (told .before .is-a .ensures) (tag ∙ sym (bound .binder-of .ensures))))
-    (c .nothing .ensures ∙ c .before .misfit .ensures))
+    (ap (λ r. r .ledger) (c .nothing .ensures) ∙ c .before .misfit .ensures))
 
 with-requires : tie.Need-with-requires
 with-requires c κs = search needs

@@ -1,7 +1,7 @@
 -- A plain row is used unless it is shut out, and a claim in the view of its principal.
 use borrow.Author.Needs.{needs}
 use native.Mathlib.Omega.{arith}
-use mathlib.Core.Path.{refl, _∙_}
+use mathlib.Core.Path.{refl, ap, _∙_}
 use Rattle.judging.proofs.RowsUsed.{shut-row, plain-row, claim-row}
 use Rattle.judging.proofs.judge.row_used.Statement.{statement}
 use Rattle.judging.proofs.judge.row_used.Tie as tie
@@ -32,7 +32,7 @@ returns-2 c =
     let whose = c .before .before .before .before .enum-told .given .1 in
     λ state buffer list x s few row.
     shut-row _ _ _ s (rw (← c .before .before .before .before .before .before .before .row-at .ensures) at row) whose (c .before .before .if2 .taken)
-    (c .nothing2 .ensures ∙ c .before .misfit2 .ensures)
+    (ap (λ r. r .ledger) (c .nothing2 .ensures) ∙ c .before .misfit2 .ensures)
 
 enum-known-whose : tie.Need-enum-known-whose
 enum-known-whose c = search needs
