@@ -1,10 +1,11 @@
 -- A for-all that a term is put in for: of its sort, of another sort, or no for-all.
-use Prim.Native.Nat.{ℕ, suc, _<_}
+use Prim.Native.Nat.{ℕ, _<_}
 use mathlib.Core.Path.{_≡_, refl, _∙_}
-use mathlib.Core.List.{List, _∷_}
+use mathlib.Core.List.{List}
 use mathlib.Core.Option.{Option, some, none}
 use mathlib.Core.Logic.{_⊎_, inl, inr}
 use native.Mathlib.Omega.{arith}
+use Rattle.procap.specs.Writable.{TermInForm}
 use Rattle.procap.specs.declared.time.Time.{Time}
 use Rattle.procap.specs.declared.fact.Term.{Term}
 use Rattle.procap.specs.declared.fact.Term.the-variants.{Name, When}
@@ -17,10 +18,11 @@ use Rattle.ledger.specs.declared.Ledger.{Ledger}
 use Rattle.formula.specs.declared.terms.Terms.{Terms}
 use Rattle.formula.specs.declared.parts.FormulaAt.{FormulaAt}
 use Rattle.formula.specs.declared.parts.Judgement.{Judgement}
-use Rattle.formula.specs.PutIn.{terms-of, FewTerms}
+use Rattle.formula.specs.PutIn.{terms-with}
 use Rattle.formula.specs.Meaning.{tag-of, Means, On}
 use Rattle.judging.specs.Judging.{put-in, Takes, takes}
 use Rattle.judging.specs.Pieces.{binder-of}
+use Rattle.formula.proofs.PuttingIn.{with-few, with-count, with-terms}
 use Rattle.formula.proofs.Shapes.{binder-tag, inside, all-shape, not-all, instance-means}
 use Rattle.judging.proofs.WalkParts.{all-there, other-sort, no-all}
 use Rattle.judging.proofs.PartsTaken.{After}
@@ -47,13 +49,6 @@ its-sort q names (Name n) = inr refl
 its-sort q names (When t) = inl refl
 its-sort q times (Name n) = inl refl
 its-sort q times (When t) = inr refl
-
--- What putting in one more term tells.
-abbrev OneMore : Terms → Term → Terms → Type 0
-OneMore terms t more =
-    (FewTerms terms → terms .count < most-binders → FewTerms more)
-    × ((terms .count < most-binders → more .count ≡ suc (terms .count))
-    × (FewTerms terms → terms .count < most-binders → terms-of more ≡ (t ∷ terms-of terms)))
 
 -- A for-all is one, and of one sort.
 is-an-all : {F A : Formula} {s : Sort} → F ≡ all s A → as-all F ≡ none → ⊥
@@ -85,15 +80,15 @@ module _ {bytes : List ℕ} {f : FormulaAt} {F : Formula} (m : Means bytes 0 f F
 -- The tag of the term's binder: the body, with the term put in.
 pub instance-there : {bytes : List ℕ} (j : Judgement) {F : Formula} {a b : Time} {l : Ledger} {at : ℕ} {more : Terms} {body : Judgement}
     (o : On bytes j F a b) (q : ℕ) (t : Term) → tag-of bytes (j .formula .at) ≡ binder-of t
-    → After bytes (j .formula .at) at → OneMore (j .formula .terms) t more
+    → After bytes (j .formula .at) at → TermInForm t → more ≡ terms-with (j .formula .terms) t
     → body ≡ record { formula = record { at = at; terms = more }; from = j .from; to = j .to }
     → Takes (put-in q t (F, a, b)) q l l (λ x. On bytes body (x .0) (x .1) (x .2))
-instance-there {bytes} j {F} {a} {b} {l} {at} {more} {body} o q t tag next with-one e =
+instance-there {bytes} j {F} {a} {b} {l} {at} {more} {body} o q t tag next form more-is e =
     let m = o .means in
     let s = all-shape bytes 0 (j .formula) m (sort-of t) (tag ∙ own-binder t) in
     let n = next (inside bytes 0 (j .formula) m) in
     let room : j .formula .terms .count < most-binders = omega (arith, s .room) in
     let means =
-    instance-means bytes (j .formula) m (sort-of t) s t more (with-one .0 (m .few) room) (with-one .1 .0 room) (with-one .1 .1 (m .few) room) in
+    instance-means bytes (j .formula) m (sort-of t) s t more (with-few _ t more-is room (m .few)) (with-count _ t more-is room) (with-terms _ t more-is room form (m .few)) in
     takes (put 0 t (s .body), a, b) (all-there q t a b (s .is) (own-sort q t)) refl
     (rw (e, n) (record { means = means; from = o .from; to = o .to }))

@@ -13,9 +13,7 @@ use lib.ListN.{length, getD, take, set, length-set}
 use lib.Seq.{sets, getD-set-same, getD-set-other, getD-append-add, length-take-le, take-suc, ext-getD}
 use lib.Dec.{ltb, eqb}
 use Rattle.procap.specs.Tells.{pick}
-use Rattle.procap.specs.declared.time.Time.{Time}
-use Rattle.procap.specs.declared.fact.Term.the-variants.{When}
-use Rattle.procap.proofs.Numbered.{time-numbered}
+use Rattle.ledger.proofs.Stored.{sets-after}
 use Rattle.judging.specs.declared.rows.Row.{Row}
 use Rattle.judging.specs.declared.rows.Whose.{Whose}
 use Rattle.judging.specs.declared.rows.Whose.the-variants.{Plain, Claim}
@@ -24,11 +22,6 @@ use Rattle.judging.specs.RowsOf.{numbers-in, time-in, whose-in, row-in, 
 use Rattle.judging.specs.RowNumbers.{whose-kind, whose-value, numbers-of, rows-with}
 
 -- ── Numbers stored one after another ──
-
--- Numbers stored right after others are stored with them.
-sets-after : (l : List ℕ) (at : ℕ) (xs ys : List ℕ) → sets (sets l at xs) (at + length xs) ys ≡ sets l at (xs ++ ys)
-sets-after l at [] ys = rw add-zero
-sets-after l at (x ∷ xs) ys = rw (add-suc, ← suc-add) (sets-after (set l at x) (suc at) xs ys)
 
 -- One number more of a list.
 pub sets-more : (l : List ℕ) (at : ℕ) (xs : List ℕ) (i : ℕ) → i < length xs → set (sets l at (take i xs)) (at + i) (getD xs i 0) ≡ sets l at (take (i + 1) xs)

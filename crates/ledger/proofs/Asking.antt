@@ -9,7 +9,7 @@ use lib.ListN.{length}
 use Rattle.procap.specs.Lists.{In}
 use Rattle.procap.specs.Order.{AtMost, decided}
 use Rattle.procap.specs.Facts.{Spelled, spelled, fact-of, fact-at-moment, spelled-at-moment}
-use Rattle.procap.specs.Procaps.{most-facts}
+use Rattle.procap.specs.Procaps.{most-facts, HoldsAt}
 use Rattle.procap.specs.States.{stated}
 use Rattle.procap.specs.Outcome.{granted, refused, go-on}
 use Rattle.procap.specs.Deciding.{in?, spelled?}
@@ -156,15 +156,23 @@ said-stands bytes f h = by (stated bytes) refl h
     by (some σ) e h = (σ, e, h)
 
 -- A fact at a press is looked for with the moment put in.
-module _ (state list : List ℕ) (l : Ledger) (m q : ℕ) (f put : Fact) (s : Sound (book l list)) (o : reading-in l ≡ Press m) (e : put ≡ fact-at-moment m f) where
+module _ (state : List ℕ) (m : ℕ) (f put : Fact) (e : put ≡ fact-at-moment m f) where
   -- It is spelled as it is asked for.
   as-asked : spelled put ≡ spelled-at-moment m (spelled f)
   as-asked = ap spelled e ∙ spelled-put m f
 
-  pub fact-stands : Stands state (spelled put) → Gives state (book l list) (ask-fact q (spelled f)) (book l list) tt
-  unfolding True
-  fact-stands h = true-at-press state list l m (holds (spelled f)) q s o (rw as-asked at (stands-said state _ h))
+  -- It holds there where it so stands in the state, and only there.
+  pub holds-there : Stands state (spelled put) → HoldsAt m (facts-said (stated state)) (spelled f)
+  holds-there h = rw as-asked at (stands-said state _ h)
 
-  pub fact-misses : (Stands state (spelled put) → ⊥) → Gives state (book l list) (ask-fact q (spelled f)) (book (stopped-by (FactMissing q) l) list) tt
-  unfolding True fault
-  fact-misses n = false-at-press state list l m (holds (spelled f)) q s o (λ h. n (said-stands state _ (rw as-asked h)))
+  pub holds-not : (Stands state (spelled put) → ⊥) → HoldsAt m (facts-said (stated state)) (spelled f) → ⊥
+  holds-not n h = n (said-stands state _ (rw as-asked h))
+
+  module _ (list : List ℕ) (l : Ledger) (q : ℕ) (s : Sound (book l list)) (o : reading-in l ≡ Press m) where
+    pub fact-stands : Stands state (spelled put) → Gives state (book l list) (ask-fact q (spelled f)) (book l list) tt
+    unfolding True
+    fact-stands h = true-at-press state list l m (holds (spelled f)) q s o (holds-there h)
+
+    pub fact-misses : (Stands state (spelled put) → ⊥) → Gives state (book l list) (ask-fact q (spelled f)) (book (stopped-by (FactMissing q) l) list) tt
+    unfolding True fault
+    fact-misses n = false-at-press state list l m (holds (spelled f)) q s o (holds-not n)

@@ -2,5 +2,6 @@
 pub mod Stopping
 pub mod Giving
 pub mod Asking
+pub mod Asked
 pub mod Stored
 pub mod Listing

@@ -6,12 +6,14 @@ use native.Mathlib.Decide.{ℕ-discrete}
 use native.Mathlib.Nat.{mod-eq-of-lt}
 use native.Mathlib.Numerals.{add-one}
 use native.Mathlib.Omega.{arith}
-use lib.ListN.{length, getD, set, replicate, length-append, length-map}
+use lib.ListN.{length, getD, set, take, replicate, length-append}
+use lib.Seq.{sets, length-take-le, take-suc, take-all}
 use borrow.Author.Count.{below-none, below-more}
 use Rattle.procap.specs.Lists.{In, pad}
 use Rattle.procap.specs.Facts.{Spelled, spelled, fact-of, argument-of, no-fact, no-argument, most-terms}
 use Rattle.procap.specs.Numbered.{of-numbers, kind-of, value-of}
 use Rattle.procap.specs.Procaps.{most-facts, version-one, procap-of}
+use Rattle.procap.specs.declared.fact.Argument.{Argument}
 use Rattle.procap.specs.declared.fact.Fact.{Fact}
 use Rattle.procap.specs.declared.fact.Term.{Term}
 use Rattle.procap.specs.declared.fact.Term.the-variants.{Name}
@@ -22,8 +24,9 @@ use Rattle.procap.proofs.Numbered.{term-numbered}
 use Rattle.procap.proofs.Spelling.{argument-at}
 use Rattle.ledger.specs.declared.Ledger.{Ledger}
 use Rattle.ledger.specs.Books.{book, Sound, fact-numbers, list-numbers, argument-in, fact-in, facts-in}
-use Rattle.ledger.specs.Putting.{KeptBefore}
-use Rattle.ledger.proofs.Stored.{with-two, first-stored, second-stored, stored-after}
+use Rattle.ledger.specs.Putting.{argument-numbers, KeptBefore}
+use Rattle.ledger.specs.Asking.{facts-listed, held-procap}
+use Rattle.ledger.proofs.Stored.{sets-after, with-two, first-stored, second-stored, stored-after}
 
 -- ── What stands in the list ──
 
@@ -99,29 +102,62 @@ module _ (l : List ℕ) (at : ℕ) (t : Term) where
   pub term-kept : KeptBefore at l (with-term l at t)
   term-kept = record { same = stored-after l at (kind-of t) (value-of t) }
 
+-- The numbers of terms, said by how many they are.
+numbers-counted : (xs : List Argument) → length (argument-numbers xs) ≡ 2 * length xs
+unfolding argument-numbers
+numbers-counted [] = refl
+numbers-counted (x ∷ xs) = omega (arith, numbers-counted xs)
+
+numbers-joined : (xs ys : List Argument) → argument-numbers (xs ++ ys) ≡ argument-numbers xs ++ argument-numbers ys
+unfolding argument-numbers
+numbers-joined [] ys = refl
+numbers-joined (x ∷ xs) ys = ap (λ ns. kind-of (x .term) ∷ value-of (x .term) ∷ ns) (numbers-joined xs ys)
+
+-- The numbers of one term more.
+stored-more : (l : List ℕ) (at : ℕ) (xs : List Argument) (i : ℕ) → i < length xs
+    → let t = getD xs i no-argument .term in
+    sets (sets l at (argument-numbers (take i xs))) (at + 2 * i) (kind-of t ∷ value-of t ∷ []) ≡ sets l at (argument-numbers (take (i + 1) xs))
+unfolding argument-numbers
+stored-more l at xs i inside =
+    let few = length-take-le i xs (omega arith) in
+    let n : length (argument-numbers (take i xs)) ≡ 2 * i = omega (arith, numbers-counted (take i xs)) in
+    let one : take (i + 1) xs ≡ take i xs ++ (getD xs i no-argument ∷ []) = rw add-one (take-suc xs i no-argument inside) in
+    ap (λ k. sets (sets l at (argument-numbers (take i xs))) (at + k) (argument-numbers (getD xs i no-argument ∷ []))) (sym n)
+    ∙ sets-after l at (argument-numbers (take i xs)) (argument-numbers (getD xs i no-argument ∷ []))
+    ∙ ap (sets l at) (sym (ap argument-numbers one ∙ numbers-joined (take i xs) (getD xs i no-argument ∷ [])))
+
 -- The first terms of a fact, put from a place on.
 pub record TermsPut (f : Fact) (at : ℕ) (before after : List ℕ) (i : ℕ) : Type 0 where
   pub few : i ≤ most-terms
   pub room : length after ≡ length before
   pub terms : (k : ℕ) → k < i → argument-in after (at + 2 * k) ≡ argument-at f k
   pub kept : KeptBefore at before after
+  pub stored : length (f .arguments) ≡ most-terms → after ≡ sets before at (argument-numbers (take i (f .arguments)))
 
 -- With none.
 pub none-put : (f : Fact) (at : ℕ) (l : List ℕ) → TermsPut f at l l 0
-none-put f at l = record { few = omega arith; room = refl; terms = below-none _; kept = record { same = λ k b. refl } }
+unfolding argument-numbers
+none-put f at l = record { few = omega arith; room = refl; terms = below-none _; kept = record { same = λ k b. refl }; stored = λ full. refl }
 
 -- With one term more.
 pub one-put : {f : Fact} {at : ℕ} {before after : List ℕ} {i : ℕ} (more : List ℕ) → TermsPut f at before after i → i < most-terms
     → length more ≡ length after
     → argument-in more (at + 2 * i) ≡ argument-at f i
     → KeptBefore (at + 2 * i) after more
+    → more ≡ sets after (at + 2 * i) (kind-of (argument-at f i .term) ∷ value-of (argument-at f i .term) ∷ [])
     → TermsPut f at before more (i + 1)
-one-put {at} {i} more p l e t k = record {
+one-put {f} {at} {before} {after} {i} more p l e t k put = record {
   few = omega arith;
   room = e ∙ p .room;
   terms = below-more _ i (λ j b. argument-kept k (at + 2 * j) (omega arith) ∙ p .terms j b) t;
   kept = record { same = λ j b. k .same j (omega arith) ∙ p .kept .same j b };
+  stored = λ full. put ∙ rw (p .stored full) (stored-more before at (f .arguments) i (omega arith));
 }
+
+-- With all.
+pub all-put : {f : Fact} {at : ℕ} {before after : List ℕ} {i : ℕ} → TermsPut f at before after i → most-terms ≤ i → length (f .arguments) ≡ most-terms
+    → after ≡ sets before at (argument-numbers (f .arguments))
+all-put {f} {at} {before} {i} p all full = p .stored full ∙ ap (λ xs. sets before at (argument-numbers xs)) (take-all i (f .arguments) (omega arith))
 
 -- A list of four.
 four : {A : Type 0} (d : A) (xs : List A) → length xs ≡ 4 → xs ≡ getD xs 0 d ∷ getD xs 1 d ∷ getD xs 2 d ∷ getD xs 3 d ∷ []
@@ -189,51 +225,77 @@ module _ (list more : List ℕ) (l : Ledger) (f : Fact) (put : fact-in more (l .
 
 -- ── What a procap takes from the list ──
 
--- The first facts of the list, with zeros past them.
+-- As many facts are listed as are counted, and one more after them.
+listed-counted : (list : List ℕ) (n : ℕ) → length (facts-listed list n) ≡ n
+unfolding facts-listed
+listed-counted list zero = refl
+listed-counted list (suc n) = rw length-append (omega (arith, listed-counted list n))
+
+one-listed-more : (list : List ℕ) (n : ℕ) → facts-listed list (n + 1) ≡ facts-listed list n ++ (fact-in list n ∷ [])
+unfolding facts-listed
+one-listed-more list n = rw add-one
+
+-- The first facts of the list, with no facts past them.
 abbrev filled : List ℕ → ℕ → List Fact
-filled list n = pad most-facts no-fact (map fact-of (facts-in list n))
+filled list n = pad most-facts no-fact (facts-listed list n)
 
--- One fact more, that is in form.
-filled-more : (list : List ℕ) (n : ℕ) → n < most-facts → fact-in list n ≡ fact-of (spelled (fact-in list n))
-    → set (filled list n) n (fact-in list n) ≡ filled list (n + 1)
-filled-more list n h form =
-    let count : length (map fact-of (facts-in list n)) ≡ n = length-map (facts-in list n) fact-of ∙ facts-counted list n in
-    ap₂ (set (filled list n)) (sym count) form
-    ∙ pad-more most-facts no-fact (map fact-of (facts-in list n)) (fact-of (spelled (fact-in list n))) (omega arith)
-    ∙ ap (pad most-facts no-fact) (sym (map-append fact-of (facts-in list n) (spelled (fact-in list n) ∷ [])))
-    ∙ ap (λ fs. pad most-facts no-fact (map fact-of fs)) (sym (one-fact-more list n))
+-- One fact more.
+filled-more : (list : List ℕ) (n : ℕ) → n < most-facts → set (filled list n) n (fact-in list n) ≡ filled list (n + 1)
+filled-more list n h =
+    let count = listed-counted list n in
+    ap (λ k. set (filled list n) k (fact-in list n)) (sym count)
+    ∙ pad-more most-facts no-fact (facts-listed list n) (fact-in list n) (omega arith)
+    ∙ ap (pad most-facts no-fact) (sym (one-listed-more list n))
 
--- So many facts are taken of a sound book: all that are counted among the first i.
+-- So many facts are taken: all that are counted among the first i.
 pub record Taken (l : Ledger) (list : List ℕ) (taken : List Fact) (i : ℕ) : Type 0 where
   pub few : i ≤ most-facts
-  pub first : Sound (book l list) → (n : ℕ) → n ≡ min i (l .count) → taken ≡ filled list n
+  pub first : (n : ℕ) → n ≡ min i (l .count) → taken ≡ filled list n
 
 -- None at first; one more where it is counted, and else none; in the end all.
 module _ (l : Ledger) (list : List ℕ) where
   pub none-taken : (f : Fact) → f ≡ no-fact → Taken l list (replicate most-facts f) 0
-  unfolding facts-in pad
-  none-taken f e = record { few = omega arith; first = λ s n h. let none : n ≡ 0 = omega arith in rw (none, e) }
+  unfolding facts-listed pad
+  none-taken f e = record { few = omega arith; first = λ n h. let none : n ≡ 0 = omega arith in rw (none, e) }
 
   module _ (taken : List Fact) (i : ℕ) (t : Taken l list taken i) (b : i < most-facts) where
     pub one-taken : (f : Fact) → f ≡ fact-in list i → i < l .count → Taken l list (set taken i f) (i + 1)
     one-taken f e h = record {
       few = omega arith;
-      first = λ s n g.
+      first = λ n g.
           let next : n ≡ i + 1 = omega arith in
-          ap₂ (λ fs x. set fs i x) (t .first s i (omega arith)) e ∙ filled-more list i b (s .in-form i h) ∙ ap (filled list) (sym next);
+          ap₂ (λ fs x. set fs i x) (t .first i (omega arith)) e ∙ filled-more list i b ∙ ap (filled list) (sym next);
     }
 
     pub none-left : l .count ≤ i → Taken l list taken (i + 1)
-    none-left h = record { few = omega arith; first = λ s n g. t .first s n (omega arith) }
+    none-left h = record { few = omega arith; first = λ n g. t .first n (omega arith) }
 
-  pub all-taken : (taken : List Fact) (i : ℕ) (r : Request) → Taken l list taken i → most-facts ≤ i → Sound (book l list)
-      → record { version = version-one; request = r; from = l .from; to = l .to; count = l .count; facts = taken } ≡ procap-of r (l .from) (l .to) (facts-in list (l .count))
-  unfolding procap-of
-  all-taken taken i r t h s = λ j. record {
-    version = version-one;
-    request = r;
-    from = l .from;
-    to = l .to;
-    count = sym (facts-counted list (l .count)) j;
-    facts = t .first s (l .count) (omega (arith, s .few)) j;
-  }
+  pub all-taken : (taken : List Fact) (i : ℕ) (r : Request) → Taken l list taken i → most-facts ≤ i
+      → record { version = version-one; request = r; from = l .from; to = l .to; count = l .count; facts = taken } ≡ held-procap r l list
+  all-taken taken i r t h =
+      let few = t .few in
+      ap (λ fs. record { version = version-one; request = r; from = l .from; to = l .to; count = l .count; facts = fs }) (t .first _ (omega arith))
+
+-- Facts that are in form are what they spell.
+listed-spelled : (list : List ℕ) (n : ℕ) → ((i : ℕ) → i < n → fact-in list i ≡ fact-of (spelled (fact-in list i)))
+    → facts-listed list n ≡ map fact-of (facts-in list n)
+unfolding facts-listed facts-in
+listed-spelled list zero form = refl
+listed-spelled list (suc n) form =
+    ap₂ (λ fs f. fs ++ (f ∷ [])) (listed-spelled list n (λ i b. form i (omega arith))) (form n (omega arith))
+    ∙ sym (map-append fact-of (facts-in list n) (spelled (fact-in list n) ∷ []))
+
+-- So of a sound book the procap is that of what it keeps.
+pub held-kept : (r : Request) (l : Ledger) (list : List ℕ) → Sound (book l list)
+    → held-procap r l list ≡ procap-of r (l .from) (l .to) (facts-in list (l .count))
+unfolding procap-of
+held-kept r l list s =
+    let all : min most-facts (l .count) ≡ l .count = omega (arith, s .few) in
+    λ j. record {
+      version = version-one;
+      request = r;
+      from = l .from;
+      to = l .to;
+      count = sym (facts-counted list (l .count)) j;
+      facts = pad most-facts no-fact ((ap (facts-listed list) all ∙ listed-spelled list (l .count) (s .in-form)) j);
+    }

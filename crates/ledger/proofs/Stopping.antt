@@ -14,7 +14,6 @@ use Rattle.procap.proofs.AnswerNumbers.{answer-reads-back}
 use Rattle.bl.specs.Questions.{Question, at-most, holds}
 use Rattle.bl.specs.Readings.{fault}
 use Rattle.ledger.specs.declared.Reading.the-variants.{Office, Press}
-use Rattle.ledger.specs.declared.Stop.{Stop}
 use Rattle.ledger.specs.declared.Stop.the-variants.{Going, Stopped}
 use Rattle.ledger.specs.declared.Ledger.{Ledger}
 use Rattle.ledger.specs.Books.{stop-by, stop-of, reading-by, reading-in, stopped-by}
@@ -26,11 +25,11 @@ stopped-apart : (answer : Answer) → Stopped answer ≡ Going → ⊥
 stopped-apart answer e = let z : _≡_ {A = ℕ} 0 1 = cc in omega arith
 
 -- A walk goes on where the number is 0, and only there.
-number-going : (l : Ledger) → l .number ≡ 0 → stop-of l ≡ Going
+pub number-going : (l : Ledger) → l .number ≡ 0 → stop-of l ≡ Going
 unfolding stop-by
 number-going l e = rw (eq-eqb (l .number) 0 e)
 
-going-number : (l : Ledger) → stop-of l ≡ Going → l .number ≡ 0
+pub going-number : (l : Ledger) → stop-of l ≡ Going → l .number ≡ 0
 unfolding stop-by
 going-number l e = picked (eqb (l .number) 0) _ _ _ (stopped-apart _) e (λ t same. eqb-true (l .number) 0 t)
 

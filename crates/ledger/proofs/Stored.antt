@@ -1,10 +1,16 @@
--- Two numbers that are stored one after the other stand there, and those before them stay.
-use Prim.Native.Nat.{ℕ, _+_, _<_}
+-- Numbers stored one after the other stand there, and those before them stay; those stored right after others are stored with them.
+use Prim.Native.Nat.{ℕ, suc, _+_, _<_}
 use mathlib.Core.Path.{_≡_, _∙_}
-use mathlib.Core.List.{List}
+use mathlib.Core.List.{List, [], _∷_, _++_}
 use native.Mathlib.Omega.{arith}
 use lib.ListN.{length, getD, set, length-set}
-use lib.Seq.{getD-set-same, getD-set-other}
+use lib.Seq.{sets, getD-set-same, getD-set-other}
+use native.Mathlib.Nat.{add-zero, add-suc, suc-add}
+
+-- Numbers stored right after others are stored with them.
+pub sets-after : (l : List ℕ) (at : ℕ) (xs ys : List ℕ) → sets (sets l at xs) (at + length xs) ys ≡ sets l at (xs ++ ys)
+sets-after l at [] ys = rw add-zero
+sets-after l at (x ∷ xs) ys = rw (add-suc, ← suc-add) (sets-after (set l at x) (suc at) xs ys)
 
 -- The list with two numbers at a place and after it.
 abbrev pub with-two : List ℕ → ℕ → ℕ → ℕ → List ℕ

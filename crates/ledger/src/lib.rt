@@ -16,15 +16,17 @@ use procap::time::Time;
 use state::stands_in;
 ghost use mathlib.Core.Path.{_≡_};
 ghost use Prim.Native.Nat.{_+_, _*_, _≤_, _<_, min, max};
+ghost use mathlib.Core.List.{[], _∷_};
 ghost use lib.ListN.{length, getD};
+ghost use lib.Seq.{sets};
 ghost use Rattle.procap.specs.Lists.{In};
 ghost use Rattle.procap.specs.Tells.{Tells};
 ghost use Rattle.procap.specs.Facts.{spelled, «argument-of»};
+ghost use Rattle.procap.specs.Numbered.{«kind-of», «value-of»};
 ghost use Rattle.procap.specs.Procaps.{«most-facts»};
-ghost use Rattle.bl.specs.Questions.{«ask-order»};
-ghost use Rattle.ledger.specs.Books.{begun, opened, keeping, «stop-of», book, Sound, Leads, «list-numbers», «fact-numbers», «argument-in», «facts-in», «fact-in», «stopped-by», misfitted};
-ghost use Rattle.ledger.specs.Asking.{Narrows, AsksFact, ListsFact, «kept-procap»};
-ghost use Rattle.ledger.specs.Putting.{ArgumentsPut, KeptBefore};
+ghost use Rattle.ledger.specs.Books.{begun, opened, keeping, «stop-of», book, «list-numbers», «fact-numbers», «argument-in», «facts-in», «fact-in», «stopped-by», misfitted};
+ghost use Rattle.ledger.specs.Asking.{«narrowed-by», «order-asked», «fact-listed», «fact-asked», AsksFact, ListsFact, «held-procap»};
+ghost use Rattle.ledger.specs.Putting.{«argument-numbers», «numbers-of-fact», ArgumentsPut, KeptBefore};
 
 // How many numbers a listed fact takes: its predicate, its count, and two for each term.
 pub const FACT_NUMBERS: usize = 10;
@@ -140,7 +142,7 @@ impl Ledger {
 
     // The ledger with what the office's decision about an order leaves of its moments.
     fn narrowed(self, offset: usize, decision: Decision) -> Ledger
-        ensures { λ r. ⌜ Narrows self offset decision r ⌝ }
+        ensures { λ r. ⌜ r ≡ «narrowed-by» self offset decision ⌝ }
     {
         match decision {
             Decision::Holds => self,
@@ -171,7 +173,7 @@ fn smaller(one: u64, other: u64) -> u64
 
 // Is left <= right?
 pub fn ask_order(ledger: Ledger, offset: usize, left: Time, right: Time) -> Ledger
-    ensures { λ r. ⌜ Leads ledger («ask-order» offset left right) r ⌝ }
+    ensures { λ r. ⌜ r ≡ «order-asked» ledger offset left right ⌝ }
 {
     if !ledger.goes_on() {
         return ledger;
@@ -194,7 +196,8 @@ pub fn ask_fact(
     offset: usize,
     fact: Fact,
 ) -> Ledger
-    ensures { λ r. ⌜ AsksFact state facts ledger offset fact r ⌝ }
+    ensures leads { λ r. ⌜ AsksFact state facts ledger offset fact r ⌝ }
+    ensures leaves { λ r. ⌜ book r (now (facts .exit)) ≡ «fact-asked» (now (state .entry)) (now (facts .entry)) ledger offset fact ⌝ }
 {
     if !ledger.goes_on() {
         return ledger;
@@ -211,7 +214,8 @@ pub fn ask_fact(
 
 // The fact goes to the end of the office's list, unless it stands there.
 fn list_fact(facts: &mut [u64], ledger: Ledger, fact: Fact) -> Ledger
-    ensures { λ r. ⌜ ListsFact facts ledger fact r ⌝ }
+    ensures leads { λ r. ⌜ ListsFact facts ledger fact r ⌝ }
+    ensures leaves { λ r. ⌜ book r (now (facts .exit)) ≡ «fact-listed» (now (facts .entry)) ledger fact ⌝ }
 {
     let count = ledger.count;
     // The walk of a proof that reads has room for each fact that it asks for (`HasRoom`): the test only keeps the index below within the list.
@@ -291,6 +295,7 @@ fn put_fact(facts: &mut [u64], index: usize, fact: Fact)
     requires few { ⌜ index < «most-facts» ⌝ }
     ensures put { λ _. ⌜ «fact-in» (now (facts .exit)) index ≡ fact ⌝ }
     ensures kept { λ _. ⌜ KeptBefore (index * «fact-numbers») (now (facts .entry)) (now (facts .exit)) ⌝ }
+    ensures stored { λ _. ⌜ now (facts .exit) ≡ sets (now (facts .entry)) (index * «fact-numbers») («numbers-of-fact» fact) ⌝ }
 {
     let start = index * FACT_NUMBERS;
     facts[start] = fact.predicate as u64;
@@ -303,6 +308,7 @@ fn put_terms(facts: &mut [u64], at: usize, fact: Fact)
     requires { ⌜ at + 8 ≤ length (now facts) ⌝ }
     ensures put { λ _. ⌜ ArgumentsPut fact at (now (facts .exit)) ⌝ }
     ensures kept { λ _. ⌜ KeptBefore at (now (facts .entry)) (now (facts .exit)) ⌝ }
+    ensures stored { λ _. ⌜ now (facts .exit) ≡ sets (now (facts .entry)) at («argument-numbers» (fact .arguments)) ⌝ }
 {
     let mut i: usize = 0;
     while i < MOST_TERMS {
@@ -318,14 +324,15 @@ fn put_term(facts: &mut [u64], at: usize, term: Term)
     requires { ⌜ at + 1 < length (now facts) ⌝ }
     ensures put { λ _. ⌜ «argument-in» (now (facts .exit)) at ≡ «argument-of» term ⌝ }
     ensures kept { λ _. ⌜ KeptBefore at (now (facts .entry)) (now (facts .exit)) ⌝ }
+    ensures stored { λ _. ⌜ now (facts .exit) ≡ sets (now (facts .entry)) at («kind-of» term ∷ «value-of» term ∷ []) ⌝ }
 {
     facts[at] = term.kind();
     facts[at + 1] = term.value();
 }
 
-// The procap for a request of what the ledger and the list keep.
+// The procap for a request of what the ledger and the list keep; past the ledger's count it holds no facts.
 pub fn procap_of(request: Request, ledger: Ledger, facts: &[u64]) -> Procap
-    ensures { λ r. ⌜ (Sound (book ledger (now (facts .entry))) → r ≡ «kept-procap» request ledger (now (facts .entry))) ⌝ }
+    ensures { λ r. ⌜ r ≡ «held-procap» request ledger (now (facts .entry)) ⌝ }
 {
     let count = ledger.count;
     let none = Fact::none();

@@ -44,7 +44,7 @@ loop-again c =
     (c .if1 .came)
 
 returns : tie.Need-returns Inv-loop μ-loop
-returns c = λ s. all-taken _ _ _ _ _ (c .before .loop .inv) (c .loop-test .left) s
+returns c = all-taken _ _ _ _ _ (c .before .loop .inv) (c .loop-test .left)
 
 pub procap-of-spec : {M : Type 1} → statement M
 procap-of-spec =

@@ -1,6 +1,7 @@
 -- The predicate, the count and the terms are put one after the other, each leaving what stands before it.
 use borrow.Author.Needs.{needs}
 use mathlib.Core.Path.{_∙_}
+use native.Mathlib.Numerals.{towards-suc}
 use native.Mathlib.Omega.{arith}
 use lib.ListN.{length-set}
 use Rattle.procap.proofs.Indices.{mapped}
@@ -42,8 +43,8 @@ returns : tie.Need-returns
 returns c =
     let put = c .before .before .put-terms in
     let args = c .before .before .before .before .before .before .args in (
-      fact-put (args .facts .now) _ (args .index) (args .fact) (omega arith) (put .ensures .1) (put .ensures .0) (search mapped) (omega arith),
-      before-fact (args .facts .now) _ (args .index) (args .fact) (omega arith) (put .ensures .1),
+      fact-put (args .facts .now) _ (args .index) (args .fact) (omega arith) (put .ensures .1 .0) (put .ensures .0) (search mapped) (omega arith),
+      (before-fact (args .facts .now) _ (args .index) (args .fact) (omega arith) (put .ensures .1 .0), put .ensures .1 .1 ∙ simp towards-suc),
     )
 
 pub put-fact-spec : {M : Type 1} → statement M

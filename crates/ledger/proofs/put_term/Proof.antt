@@ -2,6 +2,7 @@
 use borrow.Author.Needs.{needs}
 use Prim.Native.Nat.{ℕ, _<_}
 use mathlib.Core.Path.{_≡_}
+use native.Mathlib.Numerals.{add-one}
 use native.Mathlib.Omega.{arith}
 use Rattle.procap.specs.declared.fact.Term.the-variants.{Name}
 use Rattle.ledger.proofs.Listing.{term-put, term-kept}
@@ -37,7 +38,7 @@ returns c =
     let start = c .before .before .before in
     let facts = start .args .facts .now in
     let fits : (n : ℕ) → start .args .term ≡ Name n → n < 65536 = λ n e. let h = rw e at (start .good .1 .1 .0) in omega arith in
-    rw (c .before .kind .ensures, c .value .ensures) (term-put facts _ _ (start .pre) fits, term-kept facts _ (start .args .term))
+    rw (c .before .kind .ensures, c .value .ensures) (term-put facts _ _ (start .pre) fits, (term-kept facts _ (start .args .term), rw add-one))
 
 pub put-term-spec : {M : Type 1} → statement M
 put-term-spec =

@@ -1,8 +1,11 @@
 -- The loop has put the terms passed, and left what stands before them.
 use Prim.Native.Nat.{_-_}
+use mathlib.Core.Path.{_≡_}
 use native.Mathlib.Omega.{arith}
+use lib.ListN.{length}
+use Rattle.procap.proofs.Indices.{mapped}
 use Rattle.procap.specs.Facts.{most-terms}
-use Rattle.ledger.proofs.Listing.{TermsPut, none-put, one-put}
+use Rattle.ledger.proofs.Listing.{TermsPut, none-put, one-put, all-put}
 use Rattle.ledger.proofs.put_terms.Statement.{statement}
 use Rattle.ledger.proofs.put_terms.Tie as tie
 
@@ -11,6 +14,10 @@ Inv-loop facts₀ at fact i₀ facts i = TermsPut fact at facts₀ facts i
 
 abbrev μ-loop : tie.MeasureT-loop
 μ-loop facts₀ at fact i₀ facts i = most-terms - i
+
+-- The fact has all its terms.
+full : (c : tie.Start Inv-loop μ-loop) → length (c .args .t3 .arguments) ≡ most-terms
+full c = search mapped
 
 loop-holds : tie.Need-loop-holds Inv-loop μ-loop
 loop-holds c = none-put _ _ _
@@ -40,13 +47,15 @@ loop-again : tie.Need-loop-again Inv-loop μ-loop
 loop-again c =
     let put = c .before .before .put-term in
     let turn = c .before .before .before .before .before in
-    one-put _ (turn .before .loop .inv) (turn .loop-test .taken) (put .kept .0) (put .ensures .0) (put .ensures .1)
+    one-put _ (turn .before .loop .inv) (turn .loop-test .taken) (put .kept .0) (put .ensures .0) (put .ensures .1 .0) (put .ensures .1 .1)
 
 same-length : tie.Need-same-length Inv-loop μ-loop
 same-length c = c .before .loop .inv .room
 
 returns : tie.Need-returns Inv-loop μ-loop
-returns c = (λ k l. c .before .loop .inv .terms k (omega (arith, c .loop-test .left)), c .before .loop .inv .kept)
+returns c =
+    let inv = c .before .loop .inv in
+    (λ k l. inv .terms k (omega (arith, c .loop-test .left)), (inv .kept, all-put inv (c .loop-test .left) (full (c .before .before .before))))
 
 pub put-terms-spec : {M : Type 1} → statement M
 put-terms-spec =

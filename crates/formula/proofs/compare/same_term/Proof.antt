@@ -1,5 +1,6 @@
 -- Each pair of kinds is one law: names by their numbers, times by two questions, and what is of another kind does not fit.
 use borrow.Author.Needs.{needs}
+use Rattle.ledger.proofs.Asked.{order-leads}
 use Rattle.formula.proofs.ComparingPlaces.{names-same, name-no-time, time-no-name, times-same}
 use Rattle.formula.proofs.compare.same_term.Statement.{statement}
 use Rattle.formula.proofs.compare.same_term.Tie as tie
@@ -69,8 +70,8 @@ returns-4 c =
     times-same _ _ _ _ _ _ _ (c .before .ask-order .result)
     (c .before .before .before .before .before .before .one2 .given .1)
     (c .before .before .before .other2 .given .1)
-    (c .before .ask-order .ensures)
-    (c .ask-order2 .ensures)
+    (order-leads _ _ _ _ (c .before .ask-order .ensures))
+    (order-leads _ _ _ _ (c .ask-order2 .ensures))
 
 pub same-term-spec : {M : Type 1} → statement M
 same-term-spec =

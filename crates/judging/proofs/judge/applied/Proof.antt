@@ -1,6 +1,7 @@
 -- The two sides of the implication, the two times after the second step, and then the two orders, which a stopped ledger goes through unchanged.
 use borrow.Author.Needs.{needs}
 use mathlib.Core.Path.{refl}
+use Rattle.ledger.proofs.Asked.{order-leads}
 use Rattle.steps.proofs.TermsGiven.{time-found}
 use Rattle.judging.specs.Judging.{sides, TwoSided}
 use Rattle.judging.proofs.JudgingLaws.{both-orders, put-to-use}
@@ -23,8 +24,8 @@ returns c =
     let ends = time-found _ _ other k t2 e₄ (rw (begins .1) time₂) in
     put-to-use (start .args .inferred .judgement) (sided .sides-of .result .first) (sided .sides-of .result .second) _ (on .from) (on .to) (begins .0) (ends .0) s
     (sided .sides-of .ensures F tt (on .means))
-    (λ sound. let asked = rw (first .before .time .ensures) at (first .ask-order .ensures state list sound) in
-    both-orders asked (rw (second .before .time2 .ensures) at (second .ask-order2 .ensures state list (asked .sound))))
+    (λ sound. let asked = rw (first .before .time .ensures) at (order-leads _ _ _ _ (first .ask-order .ensures) state list sound) in
+    both-orders asked (rw (second .before .time2 .ensures) at (order-leads _ _ _ _ (second .ask-order2 .ensures) state list (asked .sound))))
     (rw (stored .before .numbers .ensures, stored .numbers2 .ensures) at (c .on-interval .ensures))
     refl
     refl

@@ -55,14 +55,14 @@ returns-3 c =
     let bound = told .before .before in
     let entered = bound .before in
     let going = holds-else (entered .before .goes-on .result) (entered .if1 .left) (entered .before .goes-on .ensures) in
-    let put = c .before .before .with .ensures in
     λ form state b w e list y.
     goes-on y _ _
     (takes-yields _ (y .gives .sound) (y .ends going)
     (instance-there _ (y .on going) _ _
     (holds-else (told .before .is-a .result) (told .if2 .left) (told .before .is-a .ensures) ∙ bound .binder-of .ensures)
     (c .before .past .ensures .0)
-    (put .0, (put .1 .0, put .1 .1 form))
+    form
+    (c .before .before .with .ensures)
     (c .on-interval .ensures)))
 
 pub instance-spec : {M : Type 1} → statement M

@@ -1,6 +1,7 @@
 -- With its tag an order has two times, which are asked; a stopped ledger goes through the asking unchanged.
 use borrow.Author.Needs.{needs}
 use Rattle.procap.proofs.Telling.{holds-else, fails-where}
+use Rattle.ledger.proofs.Asked.{order-leads}
 use Rattle.formula.proofs.Shapes.{not-order}
 use Rattle.judging.proofs.Coming.{stops}
 use Rattle.judging.proofs.WalkParts.{no-order}
@@ -42,7 +43,7 @@ returns-2 c =
     order-taken m (span .before .past .ensures .0) _ (holds-else (told .before .is-a .result) (told .if1 .left) (told .before .is-a .ensures))
     (span .span-at .ensures)
     s
-    (rw (c .before .before .time .ensures, c .before .time2 .ensures) at (c .ask-order .ensures state list))
+    (rw (c .before .before .time .ensures, c .before .time2 .ensures) at (order-leads _ _ _ _ (c .ask-order .ensures) state list))
 
 pub order-spec : {M : Type 1} → statement M
 order-spec =

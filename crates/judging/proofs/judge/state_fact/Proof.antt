@@ -47,7 +47,7 @@ returns-3 c =
     λ G s m.
     let tag = holds-else (told .before .is-a .result) (told .if1 .left) (told .before .is-a .ensures) in
     fact-taken m _ tag (read .result) (read .ensures .0) (not-false (read .result .found) (c .before .before .before .before .before .if2 .left))
-    (λ in-form. c .before .before .ask-fact .ensures s in-form (read .ensures .1))
+    (λ in-form. c .before .before .ask-fact .ensures .0 s in-form (read .ensures .1))
 
 pub state-fact-spec : {M : Type 1} → statement M
 state-fact-spec =

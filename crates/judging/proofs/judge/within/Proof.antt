@@ -1,6 +1,7 @@
 -- The comparison and the two orders, one after the other.
 use borrow.Author.Needs.{needs}
 use mathlib.Core.Path.{_∙_}
+use Rattle.ledger.proofs.Asked.{order-leads}
 use Rattle.judging.proofs.JudgingLaws.{fits}
 use Rattle.judging.proofs.judge.within.Statement.{statement}
 use Rattle.judging.proofs.judge.within.Tie as tie
@@ -31,8 +32,8 @@ returns c =
     λ state list F a b G s on m.
     let first = c .before .before .before in
     let compared = first .before .before .before .before .same .ensures F G (on .means) m (on .means .low) state list s .0 in
-    let one = rw (first .before .time2 .ensures) at (first .ask-order .ensures state list (compared .sound)) in
-    let other = rw (c .before .before .time3 .ensures) at (c .ask-order2 .ensures state list (one .sound)) in
+    let one = rw (first .before .time2 .ensures) at (order-leads _ _ _ _ (first .ask-order .ensures) state list (compared .sound)) in
+    let other = rw (c .before .before .time3 .ensures) at (order-leads _ _ _ _ (c .ask-order2 .ensures) state list (one .sound)) in
     fits F G (first .before .before .time .ensures ∙ on .from) (c .before .time4 .ensures ∙ on .to) compared one other
 
 pub within-spec : {M : Type 1} → statement M

@@ -1,6 +1,6 @@
 -- What has stopped stays so. A malformed record is the first, since those before it were taken; a well formed one is taken with its row.
 use borrow.Author.Needs.{needs}
-use mathlib.Core.Path.{refl, sym, ap, _∙_}
+use mathlib.Core.Path.{sym, ap, _∙_}
 use lib.ListN.{length}
 use native.Mathlib.Omega.{arith}
 use Rattle.procap.proofs.Telling.{holds-else, fails-where}
