@@ -1,19 +1,23 @@
 -- Terms kept as one number each: one term more joins those put in, and a variable finds the term put in for it.
-use Prim.Native.Nat.{ℕ, _+_, _-_, _≤_, _<_}
+use Prim.Native.Nat.{ℕ, suc, _+_, _-_, _≤_, _<_}
 use mathlib.Core.Path.{_≡_, sym, ap, _∙_}
 use mathlib.Core.List.{List, _∷_}
 use mathlib.Core.Logic.{if-pos, if-neg}
 use native.Mathlib.Decide.{decLt}
+use native.Mathlib.Numerals.{add-one}
 use native.Mathlib.Omega.{arith}
+use borrow.Author.Tests.{lt-ltb}
 use lib.ListN.{length, set, length-set}
 use lib.Seq.{getD-set-same, getD-set-other}
 use Rattle.procap.specs.Lists.{nth}
-use Rattle.procap.specs.Numbered.{of-number}
+use Rattle.procap.specs.Numbered.{of-number, number-of-term}
+use Rattle.procap.specs.Writable.{TermInForm}
+use Rattle.procap.proofs.Numbered.{term-in-one}
 use Rattle.procap.specs.declared.fact.Term.{Term}
 use Rattle.bl.specs.Trees.{fixed, bound}
 use Rattle.bl.specs.Formulas.{most-binders}
 use Rattle.formula.specs.declared.terms.Terms.{Terms}
-use Rattle.formula.specs.PutIn.{slot, terms-of, FewTerms, put-for, fill-place}
+use Rattle.formula.specs.PutIn.{slot, terms-of, terms-with, FewTerms, put-for, fill-place}
 use Rattle.formula.proofs.Stacks.{nth-stack, nth-stack-none, stack-more}
 
 -- ── One term more ──
@@ -33,15 +37,30 @@ module _ (t : Terms) (x : ℕ) where
   abbrev put-after : Terms
   put-after = record { count = t .count + 1; numbers = set (t .numbers) (t .count) x }
 
-  pub put-few : FewTerms t → t .count < most-binders → FewTerms put-after
+  put-few : FewTerms t → t .count < most-binders → FewTerms put-after
   put-few few l = record { few = omega arith; room = simp length-set (few .room) }
 
-  pub put-terms : (u : Term) → of-number x ≡ u → FewTerms t → t .count < most-binders → terms-of put-after ≡ (u ∷ terms-of t)
+  put-terms : (u : Term) → of-number x ≡ u → FewTerms t → t .count < most-binders → terms-of put-after ≡ (u ∷ terms-of t)
   unfolding terms-of
   put-terms u e few l =
       stack-more _ _ (t .count) u
       (slot-stored (t .numbers) (t .count) x (omega (arith, few .room)) ∙ e)
       (slot-below (t .numbers) (t .count) x)
+
+-- With room for one more, the term is stored after the others, and is read back if bytes can hold it.
+module _ (t : Terms) (u : Term) {r : Terms} (put : r ≡ terms-with t u) (room : t .count < most-binders) where
+  stored : r ≡ put-after t (number-of-term u)
+  unfolding terms-with
+  stored = put ∙ rw (lt-ltb (t .count) most-binders room)
+
+  pub with-few : FewTerms t → FewTerms r
+  with-few few = rw stored (put-few t (number-of-term u) few room)
+
+  pub with-count : r .count ≡ suc (t .count)
+  with-count = rw stored (add-one (t .count))
+
+  pub with-terms : TermInForm u → FewTerms t → terms-of r ≡ (u ∷ terms-of t)
+  with-terms form few = rw stored (put-terms t (number-of-term u) u (term-in-one u form) few room)
 
 -- ── What stands for a variable ──
 

@@ -1,13 +1,15 @@
 -- The terms put in for the binders passed, and a formula with them put in.
-use Prim.Native.Nat.{ℕ, zero, suc, _-_, _≤_}
+use Prim.Native.Nat.{ℕ, zero, suc, _+_, _-_, _≤_}
 use mathlib.Core.Path.{_≡_}
 use mathlib.Core.List.{List, [], _∷_, map}
 use mathlib.Core.Option.{Option, some, none}
 use mathlib.Core.Logic.{ite}
 use native.Mathlib.Decide.{decLt}
-use lib.ListN.{length, getD, replicate}
+use lib.ListN.{length, getD, set, replicate}
+use lib.Dec.{ltb}
+use Rattle.procap.specs.Tells.{pick}
 use Rattle.procap.specs.Lists.{nth}
-use Rattle.procap.specs.Numbered.{of-number}
+use Rattle.procap.specs.Numbered.{of-number, number-of-term}
 use Rattle.procap.specs.declared.fact.Term.{Term}
 use Rattle.bl.specs.Trees as tree
 use Rattle.bl.specs.Trees.{Formula, top, and, implies, all, says, at, atom, fact, order, fixed, bound}
@@ -36,6 +38,11 @@ terms-of t = stack (slot (t .numbers)) (t .count)
 -- No terms.
 abbrev pub no-terms : Terms
 no-terms = record { count = 0; numbers = replicate terms-numbers 0 }
+
+-- The terms with one more put in; where there is no room, as they are.
+unfoldable pub terms-with : Terms → Term → Terms
+terms-with t u =
+    pick (ltb (t .count) most-binders) (record { count = t .count + 1; numbers = set (t .numbers) (t .count) (number-of-term u) }) t
 
 -- There are no more of them than binders may be passed.
 pub record FewTerms (t : Terms) : Type 0 where

@@ -1,12 +1,8 @@
 // The terms put in for the binders passed, and what stands in a formula where a term may.
 use procap::fact::Term;
 ghost use mathlib.Core.Path.{_≡_};
-ghost use mathlib.Core.List.{_∷_};
-ghost use Prim.Native.Nat.{suc, _<_};
-ghost use Rattle.procap.specs.Writable.{TermInForm};
 ghost use Rattle.bl.specs.Trees.{bound};
-ghost use Rattle.bl.specs.Formulas.{«most-binders»};
-ghost use Rattle.formula.specs.PutIn.{«no-terms», «terms-of», FewTerms, «place-of», «fill-place»};
+ghost use Rattle.formula.specs.PutIn.{«no-terms», «terms-with», «terms-of», FewTerms, «place-of», «fill-place»};
 
 // How deep a formula may be: every tag on a path is a level.
 pub const MOST_FORMULA_LEVELS: u64 = 16;
@@ -40,9 +36,7 @@ impl Terms {
 
     // The terms with one more put in, one that bytes can hold. Where there is no room, they stay as they are.
     pub fn with(self, term: Term) -> Terms
-        ensures room { λ r. ⌜ (FewTerms self → self .count < «most-binders» → FewTerms r) ⌝ }
-        ensures count { λ r. ⌜ (self .count < «most-binders» → r .count ≡ suc (self .count)) ⌝ }
-        ensures terms { λ r. ⌜ (TermInForm term → FewTerms self → self .count < «most-binders» → «terms-of» r ≡ (term ∷ «terms-of» self)) ⌝ }
+        ensures { λ r. ⌜ r ≡ «terms-with» self term ⌝ }
     {
         let count = self.count;
         if MOST_BINDERS <= count {

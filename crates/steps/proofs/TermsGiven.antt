@@ -1,11 +1,11 @@
 -- What is handed back for a term or a time: that which the reader finds there, by cases of what it finds.
 use Prim.Native.Nat.{ℕ}
-use mathlib.Core.Path.{_≡_, refl, ap}
+use mathlib.Core.Path.{_≡_, ap}
 use mathlib.Core.List.{List}
 use mathlib.Core.Option.{Option, some, none}
 use Rattle.procap.specs.Bytes.{term}
 use Rattle.procap.specs.declared.fact.Term.{Term}
-use Rattle.procap.specs.declared.fact.Term.the-variants.{Name, When}
+use Rattle.procap.specs.declared.fact.Term.the-variants.{Name}
 use Rattle.procap.specs.declared.time.Time.{Time}
 use Rattle.bl.specs.Steps.{time}
 use Rattle.steps.specs.declared.TermAt.{TermAt}

@@ -1,31 +1,18 @@
--- Where there is no room nothing is promised; else the number of the term is stored after the others, and tells it if bytes can hold it.
+-- By cases of whether there is room.
 use borrow.Author.Needs.{needs}
-use mathlib.Core.Path.{ap, _∙_}
-use native.Mathlib.Numerals.{add-one}
-use native.Mathlib.Omega.{arith}
-use Rattle.procap.specs.Numbered.{of-number}
-use Rattle.procap.proofs.Numbered.{term-in-one}
-use Rattle.formula.proofs.PuttingIn.{put-few, put-terms}
+use borrow.Author.Tests.{lt-ltb, le-ltb}
+use Rattle.bl.specs.Formulas.{most-binders}
+use Rattle.formula.specs.PutIn.{terms-with}
 use Rattle.formula.proofs.terms.Terms.with.Statement.{statement}
 use Rattle.formula.proofs.terms.Terms.with.Tie as tie
 
 returns : tie.Need-returns
-returns c = (λ few l. few, (λ l. absurd (omega (arith, c .if1 .taken)), λ form few l. absurd (omega (arith, c .if1 .taken))))
-
-number-requires : tie.Need-number-requires
-number-requires c κs = search needs
-
-mul-numbers : tie.Need-mul-numbers
-mul-numbers c = search needs
-
-array-write-numbers : tie.Need-array-write-numbers
-array-write-numbers c = search needs
-
-add-t7 : tie.Need-add-t7
-add-t7 c = search needs
+unfolding terms-with
+returns c = rw (le-ltb _ most-binders (c .if1 .taken))
 
 returns-2 : tie.Need-returns-2
-returns-2 c = (put-few _ _, (λ l. add-one _, λ form. put-terms _ _ _ (ap of-number (c .number .ensures) ∙ term-in-one _ form)))
+unfolding terms-with
+returns-2 c = rw (c .number .ensures, lt-ltb _ most-binders (c .before .before .if1 .left))
 
 pub with-spec : {M : Type 1} → statement M
-with-spec = tie.close (tie.spec returns number-requires mul-numbers array-write-numbers add-t7 returns-2)
+with-spec = tie.close (tie.spec returns (λ c κs. search needs) (λ c. search needs) (λ c. search needs) (λ c. search needs) returns-2)
