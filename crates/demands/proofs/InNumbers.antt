@@ -33,7 +33,7 @@ use Rattle.from_c.specs.Packing.{HandsBack, number-in, length-in}
 use Rattle.from_c.specs.Values.{value-in}
 use Rattle.from_c.specs.Calls.{verifying, rewriting}
 use Rattle.demands.specs.Gives.{DoorGives, OfficeVerifyGives, OfficeDirectGives, OfficeRewriteGives, OfficeWriteGives, ZeroSomewhere}
-use Rattle.demands.proofs.Telling.{lets-in-exactly}
+use Rattle.demands.proofs.Telling.{so-there, lets-in-exactly}
 use Rattle.demands.proofs.Opening.{issued-is-written, its-text-opens-the-door-at-the-same-presses}
 use Rattle.demands.proofs.CaseRefusals.{checked-refuses}
 use Rattle.demands.proofs.FromC.{rewritten-from, value-written-from, rewriting-refuses, value-writing-refuses, number-told, refused-left, zero-is-a-grant, grant-is-zero, length-told, text-in-front, written-is-short, verifying-refuses, issued-for, zero-exactly-when-accepted}
@@ -133,9 +133,7 @@ module _ (r : Request) (records buffer proof : List ℕ) where
         state-is-bytes = in-bytes;
         facts = derived .facts;
         state-reads = derived .state-reads;
-        number = number;
-        handed-back = gives;
-        zero = zero;
+        is-so = (number, gives, zero);
       }
 
   module _ (names : RequestInForm r) (in-bytes : AreBytes buffer) (proof-in-bytes : AreBytes proof) (before : List ℕ) (room : most-text ≤ length before)
@@ -153,23 +151,13 @@ module _ (r : Request) (records buffer proof : List ℕ) where
     pub issued-with-0-exactly-where-some-press-has-0 : (number-in number ≡ 0) ↔ ZeroSomewhere r records buffer proof
     unfolding verifying
     issued-with-0-exactly-where-some-press-has-0 =
-        let somewhere = issued-exactly-where-some-press-is-accepted r (records-in records) buffer proof in-bytes proof-in-bytes in (
+        let somewhere = issued-exactly-where-some-press-is-accepted r (records-in records) buffer proof in-bytes proof-in-bytes in
+        let exactly = zero-exactly-when-accepted r records buffer proof in (
           λ zero.
               issued-text zero λ p issued _ _ _.
-              let s = somewhere .0 (p, issued) in
-              let accepts = zero-exactly-when-accepted r records buffer proof (s .moment) (s .state) _ refl in
-              zero-somewhere (s .moment) (s .state) (s .state-is-bytes) _ refl (accepts .1 (s .accepted)),
+              so-there (λ m state accepts. (_, refl, exactly m state _ refl .1 accepts)) (somewhere .0 (p, issued)),
           λ z.
-              let accepts = zero-exactly-when-accepted r records buffer proof (z .moment) (z .state) (z .number) (z .handed-back) in
-              let (p, issued) = somewhere .1 (record {
-                moment = z .moment;
-                moment-in-range = z .moment-in-range;
-                state = z .state;
-                state-is-bytes = z .state-is-bytes;
-                facts = z .facts;
-                state-reads = z .state-reads;
-                accepted = accepts .0 (z .zero);
-              }) in
+              let (p, issued) = somewhere .1 (so-there (λ m state so. exactly m state (so .0) (so .1) .0 (so .2)) z) in
               let written = issued-is-written r (records-in records) buffer proof names in-bytes proof-in-bytes p issued (length before) room in
               grant-is-zero _ before number after gives (text-of p) (goes-on _ _ p issued ∙ written) (written-is-short p (length before) (text-of p) written),
         )

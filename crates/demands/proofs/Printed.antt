@@ -64,7 +64,7 @@ module _ (input : List ℕ) (c : Case) (reads : case-in input ≡ granted c) (m 
         state-is-bytes = in-bytes;
         facts = σ;
         state-reads = states;
-        accepted = accepted;
+        is-so = accepted;
       }) in
       no-grant (sym e ∙ issued)
 

@@ -21,7 +21,7 @@ use Rattle.procap.proofs.Granted.{goes-on}
 use Rattle.procap.proofs.Refused.{IfRefused, go-on-refused, require-refused, or-else-refused, press-refused}
 use Rattle.bl.specs.declared.Certificate.{Certificate}
 use Rattle.bl.specs.Calls.{verified, directly}
-use Rattle.bl.specs.Accepting.{AcceptedSomewhere}
+use Rattle.bl.specs.Accepting.{Somewhere, AcceptedSomewhere}
 use Rattle.bl.proofs.CallRefusals.{case-refused, run-refused}
 use Rattle.text.specs.Text.{text-of}
 use Rattle.text.specs.Reader.{text-in}
@@ -84,6 +84,19 @@ procap-tells o h answer p told handed = (
 
 -- ── The office ──
 
+-- What follows from something at each press is so somewhere where that is.
+pub so-there : {P Q : ℕ → List ℕ → Type 0} → ((m : ℕ) (state : List ℕ) → P m state → Q m state) → Somewhere P → Somewhere Q
+so-there follows s =
+    record {
+      moment = s .moment;
+      moment-in-range = s .moment-in-range;
+      state = s .state;
+      state-is-bytes = s .state-is-bytes;
+      facts = s .facts;
+      state-reads = s .state-reads;
+      is-so = follows (s .moment) (s .state) (s .is-so);
+    }
+
 module _ (r : Request) (records : List Certificate) (buffer proof : List ℕ) where
   -- No refusal of the direct check has the answer 0.
   pub directly-refuses : (m : ℕ) (state : List ℕ) → IfRefused Refuses (directly r records buffer proof m state)
@@ -109,24 +122,8 @@ module _ (r : Request) (certificates : List Certificate) (buffer proof : List �
   -- A press that is accepted is one at which the direct check answers 0.
   pub somewhere-exactly : AcceptedSomewhere r certificates buffer proof ↔ AnsweredSomewhere r certificates buffer proof
   somewhere-exactly = (
-    λ s. record {
-      moment = s .moment;
-      moment-in-range = s .moment-in-range;
-      state = s .state;
-      state-is-bytes = s .state-is-bytes;
-      facts = s .facts;
-      state-reads = s .state-reads;
-      accepted = sym (answer-granted _ tt (s .accepted));
-    },
-    λ s. record {
-      moment = s .moment;
-      moment-in-range = s .moment-in-range;
-      state = s .state;
-      state-is-bytes = s .state-is-bytes;
-      facts = s .facts;
-      state-reads = s .state-reads;
-      accepted = accepts-exactly (s .moment) (s .state) Granted (s .accepted) .0 refl;
-    },
+    so-there (λ m state accepts. sym (answer-granted _ tt accepts)),
+    so-there (λ m state answers. accepts-exactly m state Granted answers .0 refl),
   )
 
 -- ── Texts ──

@@ -14,6 +14,9 @@ use contract.Lifetimes.{Lfts}
 use denote.Triple.Entry.{Args, Res}
 use denote.Triple.Clauses.{Ended, ClausesAt, AtExit}
 use Rattle.procap.specs.Procaps.{request-of}
+use Rattle.procap.specs.Outcome.{Outcome, answer-of, procap-handed}
+use Rattle.procap.specs.declared.answer.Answer.{Answer}
+use Rattle.procap.specs.declared.procap.Procap.{Procap}
 use Rattle.verifier.proofs.verify.verify as verify
 use Rattle.verifier.proofs.verify.direct as direct
 use Rattle.text.proofs.reader.read_text as read-text
@@ -29,7 +32,15 @@ use Rattle.from_c.proofs.office.office_rewrite as office-rewrite
 use Rattle.from_c.proofs.office.office_write as office-write
 use Rattle.from_c.proofs.desk.desk_door_on_value as desk-door-on-value
 use Rattle.from_c.proofs.desk.desk_presses as desk-presses
-use Rattle.demands.specs.Gives.{VerifyGives, DirectGives, OpenGives, DoorGives, ReadGives, WriteGives, WriteRefusalGives, PrintGives, OfficeVerifyGives, OfficeDirectGives, OfficePrintGives, OfficeRewriteGives, OfficeWriteGives, DeskOpenGives, DeskPressesGives}
+use Rattle.demands.specs.Gives.{HandsOver, VerifyGives, DirectGives, OpenGives, DoorGives, ReadGives, WriteGives, WriteRefusalGives, PrintGives, OfficeVerifyGives, OfficeDirectGives, OfficePrintGives, OfficeRewriteGives, OfficeWriteGives, DeskOpenGives, DeskPressesGives}
+
+-- An answer and a procap, in two clauses, are what is handed over; and two clauses may be the two halves of what is promised.
+both-handed-over : {o : Outcome Procap} {answer : Answer} {procap : Procap}
+    → ((answer ≡ answer-of o) × (procap ≡ procap-handed o)) ↔ HandsOver o answer procap
+both-handed-over = (λ both. record { answer = both .0; procap = both .1 }, λ hands. (hands .answer, hands .procap))
+
+halves : {P Q : Type 0} → (P × Q) ↔ (P × Q)
+halves = (λ both. both, λ both. both)
 
 module _ {M : Type 1} (𝓤 : URA M) (H : Heap 𝓤) (A : Atoms 𝓤) (mem : Memory → SProp 𝓤) (run : Routine → Fun 𝓤) where
   -- A call asks nothing of who makes it, and promises this of what it hands back and of what it leaves.
@@ -48,14 +59,7 @@ module _ {M : Type 1} (𝓤 : URA M) (H : Heap 𝓤) (A : Atoms 𝓤) (mem : Mem
 
   pub verify-tied : (κs : Lfts 3) (a : Args verify.signature κs)
       → PromisesBoth (verify.clauses 𝓤 H A mem run κs a) λ v _. VerifyGives (a .0) (a .1 .0 .now) (a .1 .1 .0 .now) (a .1 .1 .1 .0 .now) v
-  verify-tied κs a =
-      record {
-        one = _;
-        other = _;
-        asks-nothing = refl;
-        promises = refl;
-        both = λ v _. (λ both. record { answer = both .0; procap = both .1 }, λ gives. (gives .answer, gives .procap));
-      }
+  verify-tied κs a = record { one = _; other = _; asks-nothing = refl; promises = refl; both = λ _ _. both-handed-over }
 
   pub direct-tied : (κs : Lfts 4) (a : Args direct.signature κs)
       → Promises (direct.clauses 𝓤 H A mem run κs a) λ answer _.
@@ -69,14 +73,7 @@ module _ {M : Type 1} (𝓤 : URA M) (H : Heap 𝓤) (A : Atoms 𝓤) (mem : Mem
   -- ── Texts ──
 
   pub read-text-tied : (κs : Lfts 1) (a : Args read-text.signature κs) → PromisesBoth (read-text.clauses 𝓤 H A mem run κs a) λ v _. ReadGives (a .0 .now) v
-  read-text-tied κs a =
-      record {
-        one = _;
-        other = _;
-        asks-nothing = refl;
-        promises = refl;
-        both = λ v _. (λ both. record { answer = both .0; procap = both .1 }, λ gives. (gives .answer, gives .procap));
-      }
+  read-text-tied κs a = record { one = _; other = _; asks-nothing = refl; promises = refl; both = λ _ _. both-handed-over }
 
   pub write-text-tied : (κs : Lfts 1) (a : Args write-text.signature κs)
       → Promises (write-text.clauses 𝓤 H A mem run κs a) λ w left. WriteGives (a .0) (a .1 .0 .now) w (left .1 .0 .now)
@@ -98,10 +95,6 @@ module _ {M : Type 1} (𝓤 : URA M) (H : Heap 𝓤) (A : Atoms 𝓤) (mem : Mem
   door-tied κs a = (refl, refl)
 
   -- ── The calls for C ──
-
-  -- Two clauses that are the two halves of what is promised.
-  abbrev halves : {P Q : Type 0} → (P × Q) ↔ (P × Q)
-  halves = (λ both. both, λ both. both)
 
   pub office-verify-tied : (κs : Lfts 4) (a : Args office-verify.signature κs)
       → PromisesBoth (office-verify.clauses 𝓤 H A mem run κs a) λ number left.

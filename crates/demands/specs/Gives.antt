@@ -1,20 +1,16 @@
 -- What the public calls give back, each in the words of its contract, and a press at which the direct check answers 0.
-use Prim.Native.Nat.{ℕ, _≤_}
+use Prim.Native.Nat.{ℕ}
 use mathlib.Core.Path.{_≡_}
 use mathlib.Core.List.{List}
-use mathlib.Core.Option.{some}
 use lib.ListN.{length}
-use Rattle.procap.specs.Times.{latest}
-use Rattle.procap.specs.Facts.{Spelled}
-use Rattle.procap.specs.Outcome.{answer-of, procap-handed}
-use Rattle.procap.specs.States.{stated}
+use Rattle.procap.specs.Outcome.{Outcome, answer-of, procap-handed}
 use Rattle.procap.specs.declared.answer.Answer.{Answer}
 use Rattle.procap.specs.declared.answer.Answer.the-variants.{Granted}
 use Rattle.procap.specs.declared.procap.Request.{Request}
 use Rattle.procap.specs.declared.procap.Procap.{Procap}
 use Rattle.bl.specs.declared.Certificate.{Certificate}
 use Rattle.bl.specs.Calls.{verified, directly}
-use Rattle.bl.specs.Accepting.{AreBytes}
+use Rattle.bl.specs.Accepting.{Somewhere}
 use Rattle.text.specs.Text.{refusal-text}
 use Rattle.text.specs.Calls.{reading, fitting, writing, Wrote}
 use Rattle.text.specs.declared.reader.ReadText.{ReadText}
@@ -26,10 +22,14 @@ use Rattle.from_c.specs.Records.{records-in}
 use Rattle.from_c.specs.Packing.{HandsBack, number-in, packed as handed-to-c}
 use Rattle.from_c.specs.Calls.{verifying, rewriting, value-writing, value-opening, opened-of}
 
+-- A call that hands over a procap gives the answer and the procap of what it came to.
+pub record HandsOver (o : Outcome Procap) (given : Answer) (handed : Procap) : Type 0 where
+  pub answer : given ≡ answer-of o
+  pub procap : handed ≡ procap-handed o
+
 -- `verify` gives an answer and a procap.
-pub record VerifyGives (r : Request) (certificates : List Certificate) (buffer proof : List ℕ) (v : Verified) : Type 0 where
-  pub answer : v .answer ≡ answer-of (verified r certificates buffer proof)
-  pub procap : v .procap ≡ procap-handed (verified r certificates buffer proof)
+abbrev pub VerifyGives : Request → List Certificate → List ℕ → List ℕ → Verified → Type 0
+VerifyGives r certificates buffer proof v = HandsOver (verified r certificates buffer proof) (v .answer) (v .procap)
 
 -- `direct` gives an answer, at a moment in a state.
 abbrev pub DirectGives : Request → List Certificate → List ℕ → List ℕ → ℕ → List ℕ → Answer → Type 0
@@ -44,9 +44,8 @@ abbrev pub DoorGives : List ℕ → Request → ℕ → List ℕ → ℕ → Typ
 DoorGives text r m state number = number ≡ packed (answer-of (opening-text text r m state))
 
 -- `read_text` gives an answer and a procap.
-pub record ReadGives (text : List ℕ) (v : ReadText) : Type 0 where
-  pub answer : v .answer ≡ answer-of (reading text)
-  pub procap : v .procap ≡ procap-handed (reading text)
+abbrev pub ReadGives : List ℕ → ReadText → Type 0
+ReadGives text v = HandsOver (reading text) (v .answer) (v .procap)
 
 -- `write_text` writes a procap's text.
 abbrev pub WriteGives : Procap → List ℕ → WrittenText → List ℕ → Type 0
@@ -92,24 +91,11 @@ DeskPressesGives text r m state presses opened = opened ≡ opened-of (opening-t
 
 -- ── A press that is accepted ──
 
--- A moment in range and a well-formed state, in bytes, at which `direct` answers 0.
-pub record AnsweredSomewhere (r : Request) (certificates : List Certificate) (buffer proof : List ℕ) : Type 0 where
-  pub moment : ℕ
-  pub moment-in-range : moment ≤ latest
-  pub state : List ℕ
-  pub state-is-bytes : AreBytes state
-  pub facts : List Spelled
-  pub state-reads : stated state ≡ some facts
-  pub accepted : DirectGives r certificates buffer proof moment state Granted
+-- Somewhere `direct` answers 0.
+abbrev pub AnsweredSomewhere : Request → List Certificate → List ℕ → List ℕ → Type 0
+AnsweredSomewhere r certificates buffer proof = Somewhere λ m state. DirectGives r certificates buffer proof m state Granted
 
--- The same as C sees it: the number that `office_direct` hands back there has 0 for its answer.
-pub record ZeroSomewhere (r : Request) (records buffer proof : List ℕ) : Type 0 where
-  pub moment : ℕ
-  pub moment-in-range : moment ≤ latest
-  pub state : List ℕ
-  pub state-is-bytes : AreBytes state
-  pub facts : List Spelled
-  pub state-reads : stated state ≡ some facts
-  pub number : ℕ
-  pub handed-back : OfficeDirectGives r records buffer proof moment state number
-  pub zero : number-in number ≡ 0
+-- The same as C sees it: somewhere `office_direct` hands back a number that has 0 for its answer.
+abbrev pub ZeroSomewhere : Request → List ℕ → List ℕ → List ℕ → Type 0
+ZeroSomewhere r records buffer proof =
+    Somewhere λ m state. (number : ℕ) × OfficeDirectGives r records buffer proof m state number × (number-in number ≡ 0)

@@ -8,6 +8,9 @@ use lib.ListN.{length, take, getD, replicate, length-replicate}
 use lib.Seq.{length-take-le, getD-take, ext-getD}
 use Rattle.procap.specs.Tells.{Tells}
 use Rattle.text.specs.Buffers.{most-text}
+use Rattle.from_c.specs.Packing.{number-in, length-in}
+use Rattle.demands.specs.Gives.{OfficeRewriteGives}
+use Rattle.demands.proofs.InNumbers.{what-reads-is-rewritten}
 
 -- A buffer of zeros, with room for the longest text.
 abbrev pub blank : List ℕ
@@ -32,7 +35,14 @@ module _ (buffer : List ℕ) (count : ℕ) (bytes : List ℕ) (inside : count �
       ext-getD 0 (take count buffer) bytes (front ∙ as-long)
       (λ k l. let b : k < count = omega arith in getD-take count buffer k 0 b ∙ each k b)
 
--- A flag that tells what holds is true.
-pub tells-true : (b : Bool) {P : Type 0} → Tells b P → P → b ≡ true
-tells-true true told holds = refl
-tells-true false told holds = absurd (told holds)
+-- What is rewritten with 0 is found in front of the buffer: it stands there as it was.
+pub found-in-front : (text : List ℕ) (number : ℕ) (after : List ℕ) → OfficeRewriteGives text blank number after → number-in number ≡ 0
+    → (count : ℕ) → count ≡ length-in number → (b : Bool) → Tells b (take count after ≡ text) → b ≡ true
+found-in-front text number after gives zero count is b told = by b (rw is at told)
+  where
+    stands : take (length-in number) after ≡ text
+    stands = what-reads-is-rewritten text blank number after gives zero
+
+    by : (b : Bool) → Tells b (take (length-in number) after ≡ text) → b ≡ true
+    by true told = refl
+    by false told = absurd (told stands)

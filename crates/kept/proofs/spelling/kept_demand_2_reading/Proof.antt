@@ -6,8 +6,7 @@ use borrow.Author.Needs.{needs}
 use Rattle.text.specs.Buffers.{most-text}
 use Rattle.from_c.specs.Packing.{number-in, length-in}
 use Rattle.demands.proofs.FromC.{told-is-short, rewriting-is-short}
-use Rattle.demands.proofs.InNumbers.{what-reads-is-rewritten}
-use Rattle.kept.proofs.Fronts.{blank, tells-true}
+use Rattle.kept.proofs.Fronts.{found-in-front}
 use Rattle.kept.proofs.spelling.kept_demand_2_reading.Statement.{statement}
 use Rattle.kept.proofs.spelling.kept_demand_2_reading.Tie as tie
 
@@ -24,7 +23,7 @@ returns-2 c =
     let numbered = told .before .before in
     let rewritten = numbered .before .before .before in
     let zero = sym (numbered .before .number-in .ensures) ∙ numbered .if1 .left in
-    tells-true (c .is-front .result) (rw (told .length-in .ensures) at (c .is-front .ensures)) (what-reads-is-rewritten _ blank _ _ (rewritten .office-rewrite .ensures) zero)
+    found-in-front _ _ _ (rewritten .office-rewrite .ensures) zero _ (told .length-in .ensures) _ (c .is-front .ensures)
 
 pub kept-demand-2-reading-spec : {M : Type 1} → statement M
 kept-demand-2-reading-spec =

@@ -7,8 +7,8 @@ use borrow.Author.Needs.{needs}
 use Rattle.text.specs.Buffers.{most-text}
 use Rattle.from_c.specs.Packing.{number-in, length-in}
 use Rattle.demands.proofs.FromC.{told-is-short, rewriting-is-short, value-writing-is-short}
-use Rattle.demands.proofs.InNumbers.{what-reads-is-rewritten, what-is-written-is-rewritten}
-use Rattle.kept.proofs.Fronts.{blank, room, tells-true}
+use Rattle.demands.proofs.InNumbers.{what-is-written-is-rewritten}
+use Rattle.kept.proofs.Fronts.{blank, room, found-in-front}
 use Rattle.kept.proofs.spelling.kept_demand_2_writing.Statement.{statement}
 use Rattle.kept.proofs.spelling.kept_demand_2_writing.Tie as tie
 
@@ -55,7 +55,7 @@ returns-3 c =
     let numbered = told .before .before in
     let again = numbered .before .before .before in
     let zero = sym (numbered .before .number-in2 .ensures) ∙ numbered .if2 .left in
-    tells-true (c .is-front .result) (rw (told .length-in2 .ensures) at (c .is-front .ensures)) (what-reads-is-rewritten _ blank _ _ (again .office-rewrite .ensures) zero)
+    found-in-front _ _ _ (again .office-rewrite .ensures) zero _ (told .length-in2 .ensures) _ (c .is-front .ensures)
 
 pub kept-demand-2-writing-spec : {M : Type 1} → statement M
 kept-demand-2-writing-spec =
