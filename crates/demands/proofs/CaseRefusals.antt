@@ -1,5 +1,6 @@
--- No refusal of a case has the number 0: a line that breaks the form is 14, and what comes after is for verify to answer.
-use Prim.Native.Nat.{ℕ, zero, suc}
+-- No refusal of a case has the number 0: a line that breaks the form is 14, and what comes after is for verify to answer. And what is printed for it is short.
+use Prim.Native.Nat.{ℕ, zero, suc, _≤_}
+use mathlib.Core.Path.{sym, _∙_}
 use mathlib.Core.List.{List}
 use mathlib.Core.Option.{Option, some, none}
 use native.Mathlib.Decide.{decLe}
@@ -7,11 +8,15 @@ use native.Mathlib.Omega.{arith}
 use lib.ListN.{length}
 use Rattle.procap.specs.declared.answer.Answer.the-variants.{InputMalformed}
 use Rattle.procap.specs.declared.procap.Request.{Request}
+use Rattle.procap.proofs.Granted.{no-grant}
 use Rattle.procap.proofs.Refused.{IfRefused, go-on-refused, require-refused}
+use Rattle.text.specs.Buffers.{most-text}
 use Rattle.text.specs.LinesInARow.{at-line}
 use Rattle.text.specs.RequestLines.{request-lines}
+use Rattle.text.proofs.Written.{too-long}
 use Rattle.cases.specs.Case.{most-input, heading, group, groups, case-with, case-lines, case-in, buffer-of, records-from}
-use Rattle.cases.specs.Calls.{checked}
+use Rattle.cases.specs.Calls.{checked, printed, answering}
+use Rattle.cases.proofs.AlwaysPrinted.{always-printed}
 use Rattle.cases.proofs.Refusals.{Refuses, verified-refuses}
 
 -- One line.
@@ -69,3 +74,12 @@ pub checked-refuses : (input : List ℕ) → IfRefused Refuses (checked input)
 unfolding checked
 checked-refuses input =
     go-on-refused Refuses _ _ (input-refuses input) λ c _. verified-refuses (c .request) (records-from 0 (c .groups)) (buffer-of (c .groups)) (c .proof)
+
+-- What is printed always fits where the longest text does, so it is no longer than that.
+pub printed-is-short : (input : List ℕ) → length (printed input) ≤ most-text
+unfolding answering
+printed-is-short input = by (decLe (length (printed input)) most-text)
+  where
+    by : Dec (length (printed input) ≤ most-text) → length (printed input) ≤ most-text
+    by (yes short) = short
+    by (no long) = no-grant (sym (too-long (printed input) most-text (omega arith)) ∙ always-printed input most-text (omega arith))

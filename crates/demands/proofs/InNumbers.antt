@@ -3,18 +3,22 @@
 use Prim.Native.Nat.{ℕ, _/_, _%_, _≤_, _<_}
 use mathlib.Core.Path.{_≡_, refl, sym, ap, _∙_}
 use mathlib.Core.List.{List}
+use mathlib.Core.Option.{some}
 use mathlib.Core.Logic.{_↔_, _⊎_, inl, inr, Iff·symm, Iff·trans}
 use native.Mathlib.Omega.{arith}
 use lib.ListN.{length, take}
 use Rattle.procap.specs.Lists.{In}
+use Rattle.procap.specs.Times.{latest}
+use Rattle.procap.specs.Facts.{Spelled}
 use Rattle.procap.specs.Procaps.{most-facts}
 use Rattle.procap.specs.Writable.{RequestInForm}
 use Rattle.procap.specs.Answers.{number-of, place-of, numbers}
 use Rattle.procap.specs.Outcome.{Outcome, granted, refused, answer-of}
+use Rattle.procap.specs.States.{stated}
 use Rattle.procap.specs.declared.answer.Answer.{Answer}
 use Rattle.procap.specs.declared.procap.Request.{Request}
 use Rattle.procap.specs.declared.procap.Procap.{Procap}
-use Rattle.procap.proofs.AnswerNumbers.{number-is-listed}
+use Rattle.procap.proofs.AnswerNumbers.{number-is-listed, zero-exactly-when-granted}
 use Rattle.procap.proofs.Granted.{goes-on}
 use Rattle.procap.proofs.Refused.{IfRefused}
 use Rattle.bl.specs.Calls.{verified}
@@ -26,16 +30,19 @@ use Rattle.text.specs.Calls.{reading, writing}
 use Rattle.text.proofs.Theorems.{written-is-read, read-is-written}
 use Rattle.door.specs.Door.{opening-text}
 use Rattle.door.proofs.Answering.{places-are-small}
+use Rattle.cases.specs.Case.{Case, case-in, buffer-of, records-from}
 use Rattle.cases.specs.Calls.{checked, printed-of, printed}
+use Rattle.cases.proofs.AlwaysPrinted.{always-printed}
 use Rattle.cases.proofs.Refusals.{Refuses}
 use Rattle.from_c.specs.Records.{records-in}
 use Rattle.from_c.specs.Packing.{HandsBack, number-in, length-in}
 use Rattle.from_c.specs.Values.{value-in}
 use Rattle.from_c.specs.Calls.{verifying, rewriting}
-use Rattle.demands.specs.Gives.{DoorGives, OfficeVerifyGives, OfficeDirectGives, OfficeRewriteGives, OfficeWriteGives, ZeroSomewhere}
-use Rattle.demands.proofs.Telling.{so-there, lets-in-exactly}
+use Rattle.demands.specs.Gives.{DirectGives, DoorGives, OfficeVerifyGives, OfficeDirectGives, OfficePrintGives, OfficeRewriteGives, OfficeWriteGives, ZeroSomewhere}
+use Rattle.demands.proofs.Telling.{so-there, accepts-exactly, lets-in-exactly}
 use Rattle.demands.proofs.Opening.{issued-is-written, its-text-opens-the-door-at-the-same-presses}
-use Rattle.demands.proofs.CaseRefusals.{checked-refuses}
+use Rattle.demands.proofs.CaseRefusals.{checked-refuses, printed-is-short}
+use Rattle.demands.proofs.Demands.{what-is-printed-opens-exactly-where-direct-accepts}
 use Rattle.demands.proofs.FromC.{rewritten-from, value-written-from, rewriting-refuses, value-writing-refuses, number-told, refused-left, zero-is-a-grant, grant-is-zero, length-told, text-in-front, written-is-short, verifying-refuses, issued-for, zero-exactly-when-accepted}
 
 -- ── Demand 1 ──
@@ -78,6 +85,14 @@ the-program-prints-a-procap-or-a-refusal input = by (checked input) refl (checke
     by (granted p) e _ = inl (p, e, ap printed-of e)
     by (refused answer) e not-zero =
         inr (record { answer = answer; refuses = e; prints = ap printed-of e; is-a-number = number-is-listed answer; not-zero = not-zero })
+
+-- With room for 1,223 bytes the number is 0, whatever the input, and what is printed stands in front.
+pub every-case-is-answered-with-0 : (input before : List ℕ) → most-text ≤ length before → (number : ℕ) (after : List ℕ)
+    → OfficePrintGives input before number after → (number-in number ≡ 0) × (take (length-in number) after ≡ printed input)
+every-case-is-answered-with-0 input before room number after gives =
+    let grant = always-printed input (length before) room in
+    let short = printed-is-short input in
+    (grant-is-zero _ before number after gives (printed input) grant short, text-in-front _ before number after gives (printed input) grant short)
 
 -- ── Demand 2 ──
 
@@ -179,3 +194,14 @@ module _ (r : Request) (records buffer proof : List ℕ) where
         → (checked : ℕ) → OfficeDirectGives r records buffer proof m state checked → number-in checked ≡ 0 → ⊥
     refused-has-0-nowhere other m state state-in-bytes checked checks zero =
         other (issued-with-0-exactly-where-some-press-has-0 .1 (zero-somewhere m state state-in-bytes checked checks zero))
+
+-- From the case to the desk: whatever the program prints for a case, shown at the door for the case's own request, is answered 0 exactly where the number of
+-- the direct check of that case is 0.
+pub what-is-printed-opens-with-0-exactly-where-direct-has-0 : (input : List ℕ) (c : Case) → case-in input ≡ granted c
+    → (m : ℕ) → m ≤ latest → (state : List ℕ) → AreBytes state → (σ : List Spelled) → stated state ≡ some σ
+    → (pressed : ℕ) → DoorGives (printed input) (c .request) m state pressed
+    → (checked : Answer) → DirectGives (c .request) (records-from 0 (c .groups)) (buffer-of (c .groups)) (c .proof) m state checked
+    → (pressed ≡ 0) ↔ (number-of checked ≡ 0)
+what-is-printed-opens-with-0-exactly-where-direct-has-0 input c reads m in-range state in-bytes σ states pressed opens checked checks =
+    Iff·trans (what-is-printed-opens-exactly-where-direct-accepts input c reads m in-range state in-bytes σ states pressed opens)
+    (Iff·trans (Iff·symm (accepts-exactly _ _ _ _ m state checked checks)) (Iff·symm (zero-exactly-when-granted checked)))
