@@ -1,4 +1,5 @@
--- No refusal of a case has the number 0: a line that breaks the form is 14, and what comes after is for verify to answer. And what is printed for it is short.
+-- No refusal of a case has the number 0: a line that breaks the form is 14, and what comes after is for verify to answer. And what is
+-- printed for it is short.
 use Prim.Native.Nat.{ℕ, zero, suc, _≤_}
 use mathlib.Core.Path.{sym, _∙_}
 use mathlib.Core.List.{List}

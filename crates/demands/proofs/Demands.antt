@@ -1,5 +1,5 @@
--- The three demands, in one place, over what the public calls give back. What is behind them: `Telling` (an answer tells what was
--- decided), `Opening` (an issued procap at the door), `Printed` (what the program prints), and the theorems of `bl`, `text`, `door` and `cases`.
+-- The three demands, in one place, over what the public calls give back. What is behind them: `Telling` (an answer tells what was decided),
+-- `Opening` (an issued procap at the door), `Printed` (what the program prints), and the theorems of `bl`, `text`, `door` and `cases`.
 use Prim.Native.Nat.{ℕ, _≤_}
 use mathlib.Core.Path.{_≡_, sym, _∙_}
 use mathlib.Core.List.{List}
@@ -64,8 +64,9 @@ pub the-empty-procap-opens-nothing : (r : Request) (m : ℕ) (state : List ℕ) 
     → answer ≡ ProcapMalformed
 the-empty-procap-opens-nothing r m state answer gives = gives ∙ sym (unwritable empty-procap r m state (λ w. omega (arith, w .version-known)))
 
--- Demand 1. A call that writes, whatever it came to, leaves the lent buffer as it was where it refuses: the writer of a procap (`WriteGives`), that
--- of a refusal (`WriteRefusalGives`) and the program's work (`PrintGives`). So no blender carries half a text to the desk.
+-- Demand 1. A call that writes, whatever it came to, leaves the lent buffer as it was where it refuses: the writer of a procap
+-- (`WriteGives`), that of a refusal (`WriteRefusalGives`) and the program's work (`PrintGives`). So no blender carries half a text to the
+-- desk.
 pub refused-write-writes-nothing : (o : Outcome (List ℕ)) (before : List ℕ) (w : WrittenText) (after : List ℕ) → Wrote o before w after
     → (w .answer ≡ Granted → ⊥) → (after ≡ before) × (w .length ≡ 0)
 refused-write-writes-nothing o before w after gives n =

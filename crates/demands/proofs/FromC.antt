@@ -1,5 +1,5 @@
--- What a caller takes out of the number that is handed to C tells what the call came to: 0 is a grant, whose text stands in front of the buffer;
--- with any other number nothing was written.
+-- What a caller takes out of the number that is handed to C tells what the call came to: 0 is a grant, whose text stands in front of the
+-- buffer; with any other number nothing was written.
 use Prim.Native.Nat.{ℕ, _≤_}
 use mathlib.Core.Bool.{Bool, true, false}
 use mathlib.Core.Path.{_≡_, refl, sym, ap, _∙_}

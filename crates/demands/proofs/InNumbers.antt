@@ -1,5 +1,6 @@
--- The demands once more, in the numbers and places that a caller from C, or who reads what the program prints, sees. 0 is the number of a grant and of
--- nothing else, so each follows from what the calls come to (`FromC`), and holds at every press, whatever its moment and its state.
+-- The demands once more, in the numbers and places that a caller from C, or who reads what the program prints, sees. 0 is the number of a
+-- grant and of nothing else, so each follows from what the calls come to (`FromC`), and holds at every press, whatever its moment and its
+-- state.
 use Prim.Native.Nat.{ℕ, _/_, _%_, _≤_, _<_}
 use mathlib.Core.Path.{_≡_, refl, sym, ap, _∙_}
 use mathlib.Core.List.{List}
@@ -47,7 +48,8 @@ use Rattle.demands.proofs.FromC.{rewritten-from, value-written-from, re
 
 -- ── Demand 1 ──
 
--- What the firmware takes out of what it sees are the number and the place of the door's answer: one of the numbers that there are, and a place below 16.
+-- What the firmware takes out of what it sees are the number and the place of the door's answer: one of the numbers that there are, and a
+-- place below 16.
 module _ (text : List ℕ) (r : Request) (m : ℕ) (state : List ℕ) (pressed : ℕ) (gives : DoorGives text r m state pressed) where
   pub the-door-hands-back-number-and-place : let answer = answer-of (opening-text text r m state) in
       (pressed / 256 ≡ number-of answer) × (pressed % 256 ≡ place-of answer)
@@ -66,8 +68,8 @@ pub a-call-that-writes-hands-back-a-number : (o : Outcome (List ℕ)) (before : 
 a-call-that-writes-hands-back-a-number o before number after hands =
     (rw (number-told o before number after hands) (number-is-listed (answer-of o)), refused-left o before number after hands)
 
--- What the program prints for an input is the text of the procap that it comes to, or the number and the place of the answer that refuses it: a number
--- that there is, and not 0.
+-- What the program prints for an input is the text of the procap that it comes to, or the number and the place of the answer that refuses
+-- it: a number that there is, and not 0.
 pub record PrintsRefusal (input : List ℕ) : Type 0 where
   pub answer : Answer
   pub refuses : checked input ≡ refused answer
@@ -111,7 +113,8 @@ what-reads-is-rewritten text before number after gives zero =
     rewritten-from text (length before) again grant λ p same writes.
     text-in-front _ before number after gives again grant (written-is-short p (length before) again writes) ∙ same
 
--- What we write reads back the same: the text that is written of a value with 0 says that value, and is rewritten with 0 where there is room for it.
+-- What we write reads back the same: the text that is written of a value with 0 says that value, and is rewritten with 0 where there is
+-- room for it.
 module _ (value before : List ℕ) (number : ℕ) (after : List ℕ) (gives : OfficeWriteGives value before number after) (zero : number-in number ≡ 0) where
   pub what-is-written-says-the-value : reading (take (length-in number) after) ≡ value-in value
   what-is-written-says-the-value =
@@ -136,7 +139,8 @@ module _ (value before : List ℕ) (number : ℕ) (after : List ℕ) (gives : Of
 -- ── Demand 3 ──
 
 module _ (r : Request) (records buffer proof : List ℕ) where
-  -- A press at which the direct check has the number 0 has a moment in range and a state that is well formed, as it must be for a press to be accepted.
+  -- A press at which the direct check has the number 0 has a moment in range and a state that is well formed, as it must be for a press to
+  -- be accepted.
   zero-somewhere : (m : ℕ) (state : List ℕ) → AreBytes state → (number : ℕ) → OfficeDirectGives r records buffer proof m state number
       → number-in number ≡ 0 → ZeroSomewhere r records buffer proof
   zero-somewhere m state in-bytes number gives zero =
@@ -177,8 +181,8 @@ module _ (r : Request) (records buffer proof : List ℕ) where
               grant-is-zero _ before number after gives (text-of p) (goes-on _ _ p issued ∙ written) (written-is-short p (length before) (text-of p) written),
         )
 
-    -- The opening half: the text that verify leaves with 0, shown for its own request, is answered 0 by the door exactly where the direct check's number
-    -- is 0, at every press.
+    -- The opening half: the text that verify leaves with 0, shown for its own request, is answered 0 by the door exactly where the direct
+    -- check's number is 0, at every press.
     pub opens-with-0-exactly-where-direct-has-0 : number-in number ≡ 0 → (m : ℕ) (state : List ℕ)
         → (pressed : ℕ) → DoorGives (take (length-in number) after) r m state pressed
         → (checked : ℕ) → OfficeDirectGives r records buffer proof m state checked
@@ -195,8 +199,8 @@ module _ (r : Request) (records buffer proof : List ℕ) where
     refused-has-0-nowhere other m state state-in-bytes checked checks zero =
         other (issued-with-0-exactly-where-some-press-has-0 .1 (zero-somewhere m state state-in-bytes checked checks zero))
 
--- From the case to the desk: whatever the program prints for a case, shown at the door for the case's own request, is answered 0 exactly where the number of
--- the direct check of that case is 0.
+-- From the case to the desk: whatever the program prints for a case, shown at the door for the case's own request, is answered 0 exactly
+-- where the number of the direct check of that case is 0.
 pub what-is-printed-opens-with-0-exactly-where-direct-has-0 : (input : List ℕ) (c : Case) → case-in input ≡ granted c
     → (m : ℕ) → m ≤ latest → (state : List ℕ) → AreBytes state → (σ : List Spelled) → stated state ≡ some σ
     → (pressed : ℕ) → DoorGives (printed input) (c .request) m state pressed

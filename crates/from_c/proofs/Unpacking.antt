@@ -1,4 +1,5 @@
--- What a caller takes out of the number that is handed back: number, length and place stand beside each other, each below the room that it has.
+-- What a caller takes out of the number that is handed back: number, length and place stand beside each other, each below the room that it
+-- has.
 use Prim.Native.Nat.{ℕ, _<_}
 use mathlib.Core.Path.{_≡_}
 use native.Mathlib.Omega.{arith}

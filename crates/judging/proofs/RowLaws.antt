@@ -1,5 +1,5 @@
--- Laws of rows: numbers stored one after another stand where they were stored and leave the others, a row goes by its own 16 numbers, and the
--- numbers that a row is put as are read back as that row.
+-- Laws of rows: numbers stored one after another stand where they were stored and leave the others, a row goes by its own 16 numbers, and
+-- the numbers that a row is put as are read back as that row.
 use Prim.Native.Nat.{ℕ, zero, suc, _+_, _*_, _≤_, _<_}
 use mathlib.Core.Bool.{Bool, true, false}
 use mathlib.Core.Path.{_≡_, refl, sym, ap, ap₂, _∙_}

@@ -1,5 +1,5 @@
--- What verify, the direct check and the door hand back for three names and for bytes is what the theorems in numbers are about: their hypotheses are
--- met by every `u16` and every `&[u8]`.
+-- What verify, the direct check and the door hand back for three names and for bytes is what the theorems in numbers are about: their
+-- hypotheses are met by every `u16` and every `&[u8]`.
 use Prim.Native.Nat.{ℕ, _<_}
 use mathlib.Core.Bool.{true, not}
 use mathlib.Core.Path.{_≡_, sym, ap, _∙_}

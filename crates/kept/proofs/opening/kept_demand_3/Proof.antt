@@ -1,4 +1,5 @@
--- The three names are names and the lent slices bytes, so the demand in numbers holds of what verify, the direct check and the door handed back.
+-- The three names are names and the lent slices bytes, so the demand in numbers holds of what verify, the direct check and the door handed
+-- back.
 use Prim.Native.Nat.{_≤_}
 use mathlib.Core.Path.{_≡_, sym, _∙_}
 use native.Mathlib.Omega.{arith}
