@@ -22,7 +22,7 @@ short-of (granted p) writable = at-most-1223 p (writable p refl)
 short-of (refused answer) writable = omega (arith, refusal-at-most-38 answer)
 
 -- No more is printed than the longest text has.
-printed-is-short : (input : List ℕ) → length (printed input) ≤ most-text
+pub printed-is-short : (input : List ℕ) → length (printed input) ≤ most-text
 printed-is-short input = by (case-in input) refl
   where
     by : (o : Outcome Case) → case-in input ≡ o → length (printed input) ≤ most-text

@@ -26,14 +26,14 @@ use Rattle.text.specs.Calls.{reading, writing, length-given, buffer-left}
 use Rattle.text.proofs.Longest.{at-most-1223}
 use Rattle.text.proofs.Written.{fitted}
 use Rattle.text.proofs.Theorems.{one-text-each, written-is-read}
-use Rattle.cases.proofs.Refusals.{Refuses, verified-refuses}
+use Rattle.cases.proofs.Refusals.{Refuses, verified-refuses, reading-refuses, writing-refuses}
 use Rattle.from_c.specs.Records.{records-in}
 use Rattle.from_c.specs.Packing.{packed, HandsBack, number-in, length-in}
 use Rattle.from_c.specs.Values.{value-bytes, value-of, value-in}
 use Rattle.from_c.specs.Calls.{verifying, rewriting, value-writing}
 use Rattle.from_c.proofs.Unpacking.{unpacked-number, unpacked-length}
 use Rattle.demands.specs.Gives.{OfficeDirectGives}
-use Rattle.demands.proofs.Telling.{granted-answer, answer-granted, left-of-refusal, directly-refuses, reading-refuses, writing-refuses}
+use Rattle.demands.proofs.Telling.{granted-answer, answer-granted, left-of-refusal, directly-refuses}
 
 -- ── A call that writes ──
 

@@ -23,7 +23,7 @@ use Rattle.procap.proofs.AnswerNumbers.{number-is-listed, zero-exactly-when-gra
 use Rattle.procap.proofs.Granted.{goes-on}
 use Rattle.procap.proofs.Refused.{IfRefused}
 use Rattle.bl.specs.Calls.{verified}
-use Rattle.bl.specs.Accepting.{AreBytes, Derivable}
+use Rattle.bl.specs.Accepting.{AreBytes, Derivable, AcceptedSomewhere}
 use Rattle.bl.proofs.Theorems.{direct-accepts-exactly-derivations, issued-exactly-where-some-press-is-accepted}
 use Rattle.text.specs.Text.{text-of, refusal-text}
 use Rattle.text.specs.Buffers.{most-text}
@@ -33,16 +33,15 @@ use Rattle.door.specs.Door.{opening-text}
 use Rattle.door.proofs.Answering.{places-are-small}
 use Rattle.cases.specs.Case.{Case, case-in, buffer-of, records-from}
 use Rattle.cases.specs.Calls.{checked, printed-of, printed}
-use Rattle.cases.proofs.AlwaysPrinted.{always-printed}
-use Rattle.cases.proofs.Refusals.{Refuses}
+use Rattle.cases.proofs.AlwaysPrinted.{printed-is-short, always-printed}
+use Rattle.cases.proofs.Refusals.{Refuses, checked-refuses}
 use Rattle.from_c.specs.Records.{records-in}
 use Rattle.from_c.specs.Packing.{HandsBack, number-in, length-in}
 use Rattle.from_c.specs.Values.{value-in}
 use Rattle.from_c.specs.Calls.{verifying, rewriting}
 use Rattle.demands.specs.Gives.{DirectGives, DoorGives, OfficeVerifyGives, OfficeDirectGives, OfficePrintGives, OfficeRewriteGives, OfficeWriteGives, ZeroSomewhere}
-use Rattle.demands.proofs.Telling.{so-there, accepts-exactly, lets-in-exactly}
+use Rattle.demands.proofs.Telling.{so-there, accepted-there, accepts-exactly, lets-in-exactly}
 use Rattle.demands.proofs.Opening.{issued-is-written, its-text-opens-the-door-at-the-same-presses}
-use Rattle.demands.proofs.CaseRefusals.{checked-refuses, printed-is-short}
 use Rattle.demands.proofs.Demands.{what-is-printed-opens-exactly-where-direct-accepts}
 use Rattle.demands.proofs.FromC.{rewritten-from, value-written-from, rewriting-refuses, value-writing-refuses, number-told, refused-left, zero-is-a-grant, grant-is-zero, length-told, text-in-front, written-is-short, verifying-refuses, issued-for, zero-exactly-when-accepted}
 
@@ -139,21 +138,13 @@ module _ (value before : List ℕ) (number : ℕ) (after : List ℕ) (gives : Of
 -- ── Demand 3 ──
 
 module _ (r : Request) (records buffer proof : List ℕ) where
-  -- A press at which the direct check has the number 0 has a moment in range and a state that is well formed, as it must be for a press to
-  -- be accepted.
-  zero-somewhere : (m : ℕ) (state : List ℕ) → AreBytes state → (number : ℕ) → OfficeDirectGives r records buffer proof m state number
-      → number-in number ≡ 0 → ZeroSomewhere r records buffer proof
-  zero-somewhere m state in-bytes number gives zero =
-      let derived = direct-has-0-exactly-when-derived r records buffer proof m state number gives .0 zero in
-      record {
-        moment = m;
-        moment-in-range = derived .moment-in-range;
-        state = state;
-        state-is-bytes = in-bytes;
-        facts = derived .facts;
-        state-reads = derived .state-reads;
-        is-so = (number, gives, zero);
-      }
+  -- A press that is accepted somewhere is one at which the number of the direct check is 0.
+  zero-somewhere-exactly : AcceptedSomewhere r (records-in records) buffer proof ↔ ZeroSomewhere r records buffer proof
+  zero-somewhere-exactly =
+      let exactly = zero-exactly-when-accepted r records buffer proof in (
+        so-there (λ m state accepts. (_, refl, exactly m state _ refl .1 accepts)),
+        so-there (λ m state so. exactly m state (so .0) (so .1) .0 (so .2)),
+      )
 
   module _ (names : RequestInForm r) (in-bytes : AreBytes buffer) (proof-in-bytes : AreBytes proof) (before : List ℕ) (room : most-text ≤ length before)
       (number : ℕ) (after : List ℕ) (gives : OfficeVerifyGives r records buffer proof before number after) where
@@ -170,13 +161,10 @@ module _ (r : Request) (records buffer proof : List ℕ) where
     pub issued-with-0-exactly-where-some-press-has-0 : (number-in number ≡ 0) ↔ ZeroSomewhere r records buffer proof
     unfolding verifying
     issued-with-0-exactly-where-some-press-has-0 =
-        let somewhere = issued-exactly-where-some-press-is-accepted r (records-in records) buffer proof in-bytes proof-in-bytes in
-        let exactly = zero-exactly-when-accepted r records buffer proof in (
-          λ zero.
-              issued-text zero λ p issued _ _ _.
-              so-there (λ m state accepts. (_, refl, exactly m state _ refl .1 accepts)) (somewhere .0 (p, issued)),
+        let somewhere = issued-exactly-where-some-press-is-accepted r (records-in records) buffer proof in-bytes proof-in-bytes in (
+          λ zero. issued-text zero λ p issued _ _ _. zero-somewhere-exactly .0 (somewhere .0 (p, issued)),
           λ z.
-              let (p, issued) = somewhere .1 (so-there (λ m state so. exactly m state (so .0) (so .1) .0 (so .2)) z) in
+              let (p, issued) = somewhere .1 (zero-somewhere-exactly .1 z) in
               let written = issued-is-written r (records-in records) buffer proof names in-bytes proof-in-bytes p issued (length before) room in
               grant-is-zero _ before number after gives (text-of p) (goes-on _ _ p issued ∙ written) (written-is-short p (length before) (text-of p) written),
         )
@@ -197,7 +185,8 @@ module _ (r : Request) (records buffer proof : List ℕ) where
     pub refused-has-0-nowhere : (number-in number ≡ 0 → ⊥) → (m : ℕ) (state : List ℕ) → AreBytes state
         → (checked : ℕ) → OfficeDirectGives r records buffer proof m state checked → number-in checked ≡ 0 → ⊥
     refused-has-0-nowhere other m state state-in-bytes checked checks zero =
-        other (issued-with-0-exactly-where-some-press-has-0 .1 (zero-somewhere m state state-in-bytes checked checks zero))
+        let accepts = zero-exactly-when-accepted r records buffer proof m state checked checks .0 zero in
+        other (issued-with-0-exactly-where-some-press-has-0 .1 (zero-somewhere-exactly .0 (accepted-there _ _ _ _ m state state-in-bytes accepts)))
 
 -- From the case to the desk: whatever the program prints for a case, shown at the door for the case's own request, is answered 0 exactly
 -- where the number of the direct check of that case is 0.

@@ -4,7 +4,6 @@ pub mod Opening
 pub mod Printed
 pub mod Demands
 pub mod Presses
-pub mod CaseRefusals
 pub mod FromC
 pub mod InNumbers
 pub mod Tied

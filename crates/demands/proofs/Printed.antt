@@ -31,6 +31,7 @@ use Rattle.cases.specs.Calls.{printed-of, printed}
 use Rattle.cases.proofs.CasesInForm.{case-in-form}
 use Rattle.cases.proofs.Printables.{verified-of}
 use Rattle.cases.proofs.CasesAnswered.{case-printed}
+use Rattle.demands.proofs.Telling.{accepted-there}
 use Rattle.demands.proofs.Opening.{issued-is-written, its-text-opens-the-door-exactly-where-direct-accepts}
 
 -- A refusal's two lines are no procap text: every text is what is written of its procap, and begins with another letter.
@@ -57,15 +58,7 @@ module _ (input : List ℕ) (c : Case) (reads : case-in input ≡ granted c) (m 
   refused-is-accepted-nowhere answer e accepted =
       let (_, formulas-in-bytes, proof-in-bytes) = case-in-form input c reads in
       let somewhere = issued-exactly-where-some-press-is-accepted _ _ _ _ formulas-in-bytes proof-in-bytes in
-      let (p, issued) = somewhere .1 (record {
-        moment = m;
-        moment-in-range = in-range;
-        state = state;
-        state-is-bytes = in-bytes;
-        facts = σ;
-        state-reads = states;
-        is-so = accepted;
-      }) in
+      let (p, issued) = somewhere .1 (accepted-there _ _ _ _ m state in-bytes accepted) in
       no-grant (sym e ∙ issued)
 
   -- What is printed of what verify comes to opens the door exactly where the case is accepted.

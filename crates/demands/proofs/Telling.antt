@@ -4,7 +4,6 @@ use Prim.Native.Nat.{ℕ}
 use mathlib.Core.Path.{_≡_, refl, sym, ap, _∙_}
 use mathlib.Core.List.{List}
 use mathlib.Core.Logic.{_↔_}
-use native.Mathlib.Decide.{decLe}
 use native.Mathlib.Omega.{arith}
 use lib.ListN.{length, take, drop}
 use lib.Seq.{take-append-seam}
@@ -12,20 +11,19 @@ use Rattle.procap.specs.Procaps.{empty-procap}
 use Rattle.procap.specs.Writable.{Writable}
 use Rattle.procap.specs.Answers.{number-of}
 use Rattle.procap.specs.Outcome.{Outcome, granted, refused, answer-of, procap-handed}
-use Rattle.procap.specs.Deciding.{writable?}
 use Rattle.procap.specs.declared.answer.Answer.{Answer}
-use Rattle.procap.specs.declared.answer.Answer.the-variants.{Granted, ProcapMalformed, BufferShort}
+use Rattle.procap.specs.declared.answer.Answer.the-variants.{Granted}
 use Rattle.procap.specs.declared.procap.Request.{Request}
 use Rattle.procap.specs.declared.procap.Procap.{Procap}
 use Rattle.procap.proofs.Granted.{goes-on}
-use Rattle.procap.proofs.Refused.{IfRefused, go-on-refused, require-refused, or-else-refused, press-refused}
+use Rattle.procap.proofs.Refused.{IfRefused, go-on-refused, press-refused}
 use Rattle.bl.specs.declared.Certificate.{Certificate}
 use Rattle.bl.specs.Calls.{verified, directly}
-use Rattle.bl.specs.Accepting.{Somewhere, AcceptedSomewhere}
+use Rattle.bl.specs.Accepting.{AreBytes, Somewhere, AcceptedSomewhere}
+use Rattle.bl.proofs.Theorems.{direct-accepts-exactly-derivations}
 use Rattle.bl.proofs.CallRefusals.{case-refused, run-refused}
 use Rattle.text.specs.Text.{text-of}
-use Rattle.text.specs.Reader.{text-in}
-use Rattle.text.specs.Calls.{reading, fitting, writing, length-given, buffer-left, Wrote}
+use Rattle.text.specs.Calls.{reading, writing, length-given, buffer-left, Wrote}
 use Rattle.text.specs.declared.reader.ReadText.{ReadText}
 use Rattle.text.specs.declared.writer.WrittenText.{WrittenText}
 use Rattle.text.proofs.Written.{is-written}
@@ -33,7 +31,7 @@ use Rattle.text.proofs.Theorems.{written-is-read}
 use Rattle.door.specs.Door.{opening, opening-text, packed}
 use Rattle.door.proofs.Answering.{zero-exactly-when-open}
 use Rattle.verifier.specs.declared.verify.Verified.{Verified}
-use Rattle.cases.proofs.Refusals.{Refuses, verified-refuses}
+use Rattle.cases.proofs.Refusals.{Refuses, verified-refuses, reading-refuses, writing-refuses}
 use Rattle.demands.specs.Gives.{VerifyGives, DirectGives, OpenGives, DoorGives, ReadGives, WriteGives, AnsweredSomewhere}
 
 -- ── Outcomes ──
@@ -108,6 +106,21 @@ module _ (r : Request) (records : List Certificate) (buffer proof : List ℕ) wh
       tt
 
 module _ (r : Request) (certificates : List Certificate) (buffer proof : List ℕ) where
+  -- A press that is accepted has a moment in range and a state that is well formed: it is one somewhere.
+  pub accepted-there : (m : ℕ) (state : List ℕ) → AreBytes state → directly r certificates buffer proof m state ≡ granted tt
+      → AcceptedSomewhere r certificates buffer proof
+  accepted-there m state in-bytes accepts =
+      let derived = direct-accepts-exactly-derivations r certificates buffer proof m state .0 accepts in
+      record {
+        moment = m;
+        moment-in-range = derived .moment-in-range;
+        state = state;
+        state-is-bytes = in-bytes;
+        facts = derived .facts;
+        state-reads = derived .state-reads;
+        is-so = accepts;
+      }
+
   -- The direct check answers 0 exactly when it accepts.
   pub accepts-exactly : (m : ℕ) (state : List ℕ) (answer : Answer) → DirectGives r certificates buffer proof m state answer
       → (answer ≡ Granted) ↔ (directly r certificates buffer proof m state ≡ granted tt)
@@ -127,18 +140,6 @@ module _ (r : Request) (certificates : List Certificate) (buffer proof : List �
   )
 
 -- ── Texts ──
-
--- No refusal of the reader or of the writer has the answer 0.
-pub reading-refuses : (text : List ℕ) → IfRefused Refuses (reading text)
-unfolding reading
-reading-refuses text = or-else-refused Refuses ProcapMalformed (text-in text) (omega arith)
-
-pub writing-refuses : (p : Procap) (room : ℕ) → IfRefused Refuses (writing p room)
-unfolding writing fitting
-writing-refuses p room =
-    go-on-refused Refuses _ _ (require-refused Refuses ProcapMalformed (writable? p) (omega arith)) λ _ _.
-    go-on-refused Refuses _ _ (require-refused Refuses BufferShort (decLe (length (text-of p)) room) (omega arith)) λ _ _.
-    tt
 
 -- The reader answers 0 exactly when the text says the procap that it hands over.
 pub reads-exactly : (text : List ℕ) (v : ReadText) → ReadGives text v → (v .answer ≡ Granted) ↔ (reading text ≡ granted (v .procap))

@@ -32,11 +32,11 @@ use Rattle.from_c.proofs.office.office_rewrite as office-rewrite
 use Rattle.from_c.proofs.office.office_write as office-write
 use Rattle.from_c.proofs.desk.desk_door_on_value as desk-door-on-value
 use Rattle.from_c.proofs.desk.desk_presses as desk-presses
-use Rattle.demands.specs.Gives.{HandsOver, VerifyGives, DirectGives, OpenGives, DoorGives, ReadGives, WriteGives, WriteRefusalGives, PrintGives, OfficeVerifyGives, OfficeDirectGives, OfficePrintGives, OfficeRewriteGives, OfficeWriteGives, DeskOpenGives, DeskPressesGives}
+use Rattle.demands.specs.Gives.{GivesProcap, VerifyGives, DirectGives, OpenGives, DoorGives, ReadGives, WriteGives, WriteRefusalGives, PrintGives, OfficeVerifyGives, OfficeDirectGives, OfficePrintGives, OfficeRewriteGives, OfficeWriteGives, DeskOpenGives, DeskPressesGives}
 
 -- An answer and a procap, in two clauses, are what is handed over; and two clauses may be the two halves of what is promised.
 both-handed-over : {o : Outcome Procap} {answer : Answer} {procap : Procap}
-    → ((answer ≡ answer-of o) × (procap ≡ procap-handed o)) ↔ HandsOver o answer procap
+    → ((answer ≡ answer-of o) × (procap ≡ procap-handed o)) ↔ GivesProcap o answer procap
 both-handed-over = (λ both. record { answer = both .0; procap = both .1 }, λ hands. (hands .answer, hands .procap))
 
 halves : {P Q : Type 0} → (P × Q) ↔ (P × Q)

@@ -23,13 +23,13 @@ use Rattle.from_c.specs.Packing.{HandsBack, number-in, packed as handed-to-c}
 use Rattle.from_c.specs.Calls.{verifying, rewriting, value-writing, value-opening, opened-of}
 
 -- A call that hands over a procap gives the answer and the procap of what it came to.
-pub record HandsOver (o : Outcome Procap) (given : Answer) (handed : Procap) : Type 0 where
+pub record GivesProcap (o : Outcome Procap) (given : Answer) (handed : Procap) : Type 0 where
   pub answer : given ≡ answer-of o
   pub procap : handed ≡ procap-handed o
 
 -- `verify` gives an answer and a procap.
 abbrev pub VerifyGives : Request → List Certificate → List ℕ → List ℕ → Verified → Type 0
-VerifyGives r certificates buffer proof v = HandsOver (verified r certificates buffer proof) (v .answer) (v .procap)
+VerifyGives r certificates buffer proof v = GivesProcap (verified r certificates buffer proof) (v .answer) (v .procap)
 
 -- `direct` gives an answer, at a moment in a state.
 abbrev pub DirectGives : Request → List Certificate → List ℕ → List ℕ → ℕ → List ℕ → Answer → Type 0
@@ -45,7 +45,7 @@ DoorGives text r m state number = number ≡ packed (answer-of (opening-text tex
 
 -- `read_text` gives an answer and a procap.
 abbrev pub ReadGives : List ℕ → ReadText → Type 0
-ReadGives text v = HandsOver (reading text) (v .answer) (v .procap)
+ReadGives text v = GivesProcap (reading text) (v .answer) (v .procap)
 
 -- `write_text` writes a procap's text.
 abbrev pub WriteGives : Procap → List ℕ → WrittenText → List ℕ → Type 0

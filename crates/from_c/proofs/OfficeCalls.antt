@@ -2,7 +2,6 @@
 use Prim.Native.Nat.{ℕ}
 use mathlib.Core.Path.{_≡_, sym, ap, _∙_}
 use mathlib.Core.List.{List}
-use native.Mathlib.Omega.{arith}
 use lib.ListN.{length, take}
 use Rattle.procap.specs.Answers.{number-of}
 use Rattle.procap.specs.Outcome.{refused, answer-of, procap-handed}
@@ -10,14 +9,12 @@ use Rattle.procap.specs.declared.answer.Answer.{Answer}
 use Rattle.procap.specs.declared.answer.Answer.the-variants.{ProcapMalformed}
 use Rattle.procap.specs.declared.procap.Request.{Request}
 use Rattle.procap.specs.declared.procap.Procap.{Procap}
-use Rattle.procap.proofs.Refused.{IfRefused, or-else-refused}
 use Rattle.bl.specs.declared.Certificate.{Certificate}
 use Rattle.bl.specs.Calls.{verified, directly}
-use Rattle.text.specs.Reader.{text-in}
 use Rattle.text.specs.Calls.{reading, writing}
 use Rattle.verifier.specs.Verifying.{HandsOver}
 use Rattle.verifier.specs.declared.verify.Verified.{Verified}
-use Rattle.cases.proofs.Refusals.{Refuses, verified-refuses}
+use Rattle.cases.proofs.Refusals.{verified-refuses, reading-refuses}
 use Rattle.from_c.specs.Records.{lent-at-most, records-in}
 use Rattle.from_c.specs.Values.{value-bytes, value-of}
 use Rattle.from_c.specs.Packing.{packed}
@@ -53,11 +50,6 @@ module _ (r : Request) (bytes buffer proof : List ℕ) (room : ℕ) (v : Verifie
   unfolding verifying
   verifying-writes zero =
       goes-on-with _ (v .answer) (hands .answer) (λ p. writing p room) (verified-refuses r (records-in bytes) buffer proof) zero (v .procap) (hands .procap)
-
--- No refusal of the reader has the number of a grant.
-reading-refuses : (text : List ℕ) → IfRefused Refuses (reading text)
-unfolding reading
-reading-refuses text = or-else-refused Refuses ProcapMalformed (text-in text) (omega arith)
 
 module _ (text : List ℕ) (room : ℕ) (answer : Answer) (given : answer ≡ answer-of (reading text)) where
   -- Bytes that are no text: nothing is written.

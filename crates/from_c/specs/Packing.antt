@@ -7,9 +7,16 @@ use Rattle.procap.specs.Outcome.{Outcome, answer-of}
 use Rattle.procap.specs.declared.answer.Answer.{Answer}
 use Rattle.text.specs.Calls.{length-given, buffer-left}
 
--- The number, then the length in 16 bits, then the place in 32 bits. All lengths and places that a call gives are below these bounds.
+-- How many lengths, of 16 bits, and how many places, of 32 bits, there are. All that a call gives are below these bounds.
+abbrev pub lengths : ℕ
+lengths = 65536
+
+abbrev pub places : ℕ
+places = 4294967296
+
+-- The number, then the length, then the place.
 abbrev pub packed : Answer → ℕ → ℕ
-packed answer length = (number-of answer * 65536 + length % 65536) * 4294967296 + place-of answer % 4294967296
+packed answer length = (number-of answer * lengths + length % lengths) * places + place-of answer % places
 
 -- What a call that writes a text hands back.
 abbrev pub packed-text : Outcome (List ℕ) → ℕ
@@ -21,10 +28,10 @@ HandsBack o before number after = (number ≡ packed-text o) × (after ≡ buffe
 
 -- The answer's number, the length and the place, as a caller takes them out of what is handed back.
 abbrev pub number-in : ℕ → ℕ
-number-in n = n / 281474976710656
+number-in n = n / places / lengths
 
 abbrev pub length-in : ℕ → ℕ
-length-in n = n / 4294967296 % 65536
+length-in n = n / places % lengths
 
 abbrev pub place-in : ℕ → ℕ
-place-in n = n % 4294967296
+place-in n = n % places

@@ -2,4 +2,3 @@
 // proved to answer yes.
 pub mod opening; // demand 3: what is issued opens exactly where the direct check accepts
 pub mod spelling; // demand 2: a text has one spelling
-mod handed; // what a caller takes out of a number that is handed to C

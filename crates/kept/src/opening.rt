@@ -1,9 +1,9 @@
 // Demand 3: what is issued opens exactly where the direct check accepts, and where nothing is issued nothing is accepted.
-use crate::handed::length_in;
-use crate::handed::number_in;
 use door::on_text::procap_door;
 use from_c::office::office_direct;
 use from_c::office::office_verify;
+use from_c::packing::length_in;
+use from_c::packing::number_in;
 use text::writer::MOST_TEXT;
 ghost use mathlib.Core.Bool.{Bool};
 ghost use mathlib.Core.Path.{_≡_};

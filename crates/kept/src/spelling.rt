@@ -1,8 +1,8 @@
 // Demand 2: a text has one spelling.
-use crate::handed::length_in;
-use crate::handed::number_in;
 use from_c::office::office_rewrite;
 use from_c::office::office_write;
+use from_c::packing::length_in;
+use from_c::packing::number_in;
 use text::writer::MOST_TEXT;
 ghost use mathlib.Core.Bool.{Bool};
 ghost use mathlib.Core.Path.{_≡_};
