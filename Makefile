@@ -1,5 +1,5 @@
 # The commands of the project. `make` builds the program bin/check; `make test` is the one test command.
-.PHONY: program run press kept test layout kit door archives test-check test-c test-c-linked test-c-memory test-stack test-rust soak fuzz bench bench-instructions
+.PHONY: program run press kept test layout test-pages kit door archives test-check test-c test-c-linked test-c-memory test-stack test-rust soak fuzz bench bench-instructions
 SHELL := /bin/bash
 .SHELLFLAGS := -euo pipefail -c
 
@@ -56,9 +56,10 @@ bin/kept: $(NATIVE)/libkept.a tests/c/kept.c tests/c/case_bytes.c tests/c/calls.
 	@$(call linked,,kept,tests/c/kept.c tests/c/case_bytes.c target/staticlib/libkept.a)
 
 # Everything that a landing must pass: the layout of the files, every proof, then the tests that run. The last line is the count that decides.
-test: kit layout
+test: kit layout test-pages
 	@mkdir -p bin
 	@rt ci | tee bin/proofs.log
+	@tests/axioms.sh < bin/proofs.log
 	@$(MAKE) --no-print-directory test-check
 	@$(MAKE) --no-print-directory test-stack
 	@$(MAKE) --no-print-directory test-c
@@ -68,6 +69,10 @@ test: kit layout
 # Every source and proof file stands as `rt fmt` would write it.
 layout: kit
 	@rt fmt --check
+
+# What the pages and the comments name is there.
+test-pages:
+	@tests/pages.sh
 
 # The door for C, proved and compiled, as an archive.
 door: kit
