@@ -8,7 +8,7 @@ use Rattle.text.specs.Text.{text-of, refusal-text}
 use Rattle.text.specs.Calls.{fitting}
 use Rattle.cases.specs.Case.{case-in, buffer-of, records-from}
 
--- [Program] What a case comes to: 14 where the input is no case, and else what verify answers to what it says.
+-- [Program; D61] What a case comes to: 14 where the input is no case, and else what verify answers to what it says.
 unfoldable pub checked : List ℕ → Outcome Procap
 checked input =
     go-on (case-in input) λ c.
@@ -23,6 +23,6 @@ printed-of (refused answer) = refusal-text answer
 unfoldable pub printed : List ℕ → List ℕ
 printed input = printed-of (checked input)
 
--- [Numbers 13] What is to be printed, into a buffer with so much room.
+-- [Numbers 13; D63] What is to be printed, into a buffer with so much room.
 unfoldable pub answering : List ℕ → ℕ → Outcome (List ℕ)
 answering input room = fitting (printed input) room

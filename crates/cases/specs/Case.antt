@@ -61,7 +61,7 @@ module _ (bytes : List ℕ) where
     gs ← groups n
     give (g ∷ gs)
 
-  -- [Program] The case of a request with so many groups: these, the proof's line, and nothing after it.
+  -- [Program; D58] The case of a request with so many groups: these, the proof's line, and nothing after it.
   unfoldable pub case-with : Request → ℕ → Lines Case
   case-with r count = do
     gs ← groups count
@@ -69,21 +69,21 @@ module _ (bytes : List ℕ) where
     _ ← one-line (nothing-more bytes)
     give (record { request = r; groups = gs; proof = proof })
 
-  -- [Program] All lines of a case.
+  -- [Program; D60] All lines of a case.
   unfoldable pub case-lines : Lines Case
   case-lines = do
     r ← request-lines bytes
     count ← one-line (line-to bytes (bytes-of "certs=") most-certificates)
     case-with r count
 
--- [Numbers 14] The case that the input says: too long is place 0; lines are counted from 1.
+-- [Numbers 14; D54] The case that the input says: too long is place 0; lines are counted from 1.
 unfoldable pub case-in : List ℕ → Outcome Case
 case-in bytes =
     go-on (require (InputMalformed 0) (decLe (length bytes) most-input)) λ _.
     go-on (case-lines bytes 1 0) λ x.
     granted (x .0)
 
--- The formulas of the groups as one buffer, one after another.
+-- [D62] The formulas of the groups as one buffer, one after another.
 unfoldable pub buffer-of : List Group → List ℕ
 buffer-of [] = []
 buffer-of (g ∷ gs) = g .says ++ buffer-of gs

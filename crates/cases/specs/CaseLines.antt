@@ -46,7 +46,7 @@ module _ (bytes : List ℕ) where
   unfoldable pub hex-digits : Reader (List ℕ)
   hex-digits at = let ds = leading-hex (drop at bytes) in some (ds, at + length ds)
 
-  -- [Program] A line with bytes in lower-case hex, possibly none.
+  -- [Program; D57] A line with bytes in lower-case hex, possibly none.
   unfoldable pub hex-line : List ℕ → Reader (List ℕ)
   hex-line word = do
     _ ← literal bytes word

@@ -8,7 +8,7 @@ use lib.Dec.{leb, eqb}
 use Rattle.procap.specs.Tells.{pick}
 use Rattle.text.specs.Numbers.{digit-zero, is-digit, while-digit}
 
--- [Program] The byte is one of a to f: capitals are no digits.
+-- [Program; D59] The byte is one of a to f: capitals are no digits.
 unfoldable pub is-letter : ℕ → Bool
 is-letter b = leb (code "a") b && leb b (code "f")
 

@@ -1,4 +1,4 @@
-// The program `check`: a case from standard input, and what is printed for it to standard output.
+// [D53, D64, D66, D67] The program `check`: a case from standard input, and what is printed for it to standard output.
 use cases::answering::MOST_INPUT;
 use cases::answering::answer_case;
 use libc::STDERR_FILENO;
@@ -7,7 +7,7 @@ use libc::STDOUT_FILENO;
 use text::writer::MOST_TEXT;
 
 fn main() {
-    // One byte more than a case may have, so that a longer input is noticed.
+    // [D65] One byte more than a case may have, so that a longer input is noticed.
     let mut input = [0u8; MOST_INPUT + 1];
     let count = io::read_full(STDIN_FILENO, &mut input);
     let mut out = [0u8; MOST_TEXT];

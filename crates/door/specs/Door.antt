@@ -20,7 +20,7 @@ use Rattle.procap.specs.declared.procap.Procap.{Procap}
 use Rattle.text.specs.Places.{OnLines}
 use Rattle.text.specs.Calls.{reading}
 
--- [Numbers 10] Each fact holds; the first that does not is named by its index, the first of these being i.
+-- [Numbers 10; D44] Each fact holds; the first that does not is named by its index, the first of these being i.
 unfoldable pub each-holds : ℕ → List Spelled → ℕ → List Spelled → Outcome (Unit {0})
 each-holds m σ i [] = granted tt
 each-holds m σ i (f ∷ fs) =
@@ -36,7 +36,7 @@ abbrev pub NamesMissingOn : Lent → List ℕ → ℕ → ℕ → Lent → Answe
 NamesMissingOn text places count m state answer =
     (fs : List Spelled) → OnLines (text .entry .now) (take count places) fs → NamesMissing m (state .entry .now) fs answer
 
--- What comes before the facts, for a procap with this request and these moments: 11, 7, 8, 9, and else the state.
+-- [D43] What comes before the facts, for a procap with this request and these moments: 11, 7, 8, 9, and else the state.
 unfoldable pub before-facts : Request → ℕ → ℕ → Request → ℕ → List ℕ → Outcome (List Spelled)
 before-facts asked from to r m state =
     go-on (read-press m state) λ σ.
@@ -52,7 +52,7 @@ opening p r m state =
     go-on (before-facts (p .request) (p .from) (p .to) r m state) λ σ.
     each-holds m σ 0 (listed p)
 
--- [Two questions] What it answers to the desk firmware, which has the procap as its text: 12 comes first, for bytes that are none.
+-- [Two questions; D7] What it answers to the desk firmware, which has the procap as its text: 12 comes first, for bytes that are none.
 unfoldable pub opening-text : List ℕ → Request → ℕ → List ℕ → Outcome (Unit {0})
 opening-text text r m state = go-on (reading text) λ p. opening p r m state
 

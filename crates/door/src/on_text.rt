@@ -12,7 +12,7 @@ ghost use Rattle.procap.specs.Answers.{«place-of»};
 ghost use Rattle.procap.specs.Outcome.{«answer-of»};
 ghost use Rattle.door.specs.Door.{«opening-text», NamesMissingOn, packed};
 
-// What the door answers, as 256 times the number plus the place. 12 comes first, for bytes that are no text; a number that is no name is in no request.
+// [D6, D7] What the door answers, as 256 times the number plus the place. 12 comes first, for bytes that are no text; a number that is no name is in no request.
 #[no_mangle]
 pub extern "C" fn procap_door(
     text: &[u8],

@@ -30,7 +30,7 @@ AtMost m Ctime Ctime = m ≤ m
 AtMost m (Moment k) Ctime = k ≤ m
 AtMost m Ctime (Moment j) = m ≤ j
 
--- [Rules, verify] What verify makes of t <= u while the clock is open.
+-- [Rules, verify; D31, D32] What verify makes of t <= u while the clock is open.
 abbrev pub decided : Time → Time → Decision
 -- Ctime is not involved: decided at once.
 decided (Moment k) (Moment j) = pick (leb k j) Holds Fails

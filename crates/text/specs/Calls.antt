@@ -23,7 +23,7 @@ read-to-the-end bytes o = or-else ProcapMalformed (to-the-end bytes o)
 abbrev pub facts-to-the-end : List ℕ → Request → ℕ → ℕ → ℕ → Outcome Procap
 facts-to-the-end bytes request from to at = read-to-the-end bytes (procap-with bytes request from to at)
 
--- [Numbers 12] The procap that the bytes say.
+-- [Numbers 12; D8] The procap that the bytes say.
 unfoldable pub reading : List ℕ → Outcome Procap
 reading bytes = or-else ProcapMalformed (text-in bytes)
 

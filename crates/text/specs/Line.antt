@@ -21,7 +21,7 @@ module _ (bytes : List ℕ) where
   unfoldable pub digits : Reader (List ℕ)
   digits at = let ds = leading-digits (drop at bytes) in some (ds, at + length ds)
 
-  -- [Text] A number up to a limit, in its one spelling.
+  -- [Text; D52] A number up to a limit, in its one spelling.
   unfoldable pub number-to : ℕ → Reader ℕ
   number-to limit = do
     ds ← digits

@@ -18,12 +18,12 @@ _>>=_ r f = λ line at. go-on (r line at) λ x. f (x .0) (x .1) (x .2)
 abbrev pub give : {A : Type 0} → A → Lines A
 give a = λ line at. granted (a, line, at)
 
--- [Numbers 14] The line with this number: what was read there and the next line, or 14 with its number.
+-- [Numbers 14; D55] The line with this number: what was read there and the next line, or 14 with its number.
 unfoldable pub at-line : {A : Type 0} → ℕ → Option (A × ℕ) → Outcome (A × ℕ × ℕ)
 at-line line none = refused (InputMalformed line)
 at-line line (some r) = granted (r .0, suc line, r .1)
 
--- One line. A line that is missing breaks the form too: nothing can be read there.
+-- [D56] One line. A line that is missing breaks the form too: nothing can be read there.
 abbrev pub one-line : {A : Type 0} → Reader A → Lines A
 one-line r = λ line at. at-line line (r at)
 

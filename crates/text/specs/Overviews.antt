@@ -20,7 +20,7 @@ line-starts at (f ∷ fs) = at ∷ line-starts (at + length (fact-text f)) fs
 unfoldable pub places-in : List ℕ → List Spelled → List ℕ
 places-in text fs = pad most-facts 0 (line-starts (length text - length (facts-text fs)) fs)
 
--- What is seen of bytes that are no text: zeros.
+-- [D72] What is seen of bytes that are no text: zeros.
 abbrev pub nothing-seen : Overview
 nothing-seen = record { found = false; request = no-request; from = 0; to = 0; count = 0; places = replicate most-facts 0 }
 

@@ -80,7 +80,7 @@ module _ (bytes : List ℕ) where
     b ← byte bytes
     more-terms (terms n) (mark-of b)
 
-  -- [Text] A fact's line.
+  -- [Text; D51] A fact's line.
   unfoldable pub fact-line : Reader Spelled
   fact-line = do
     _ ← literal bytes (bytes-of "fact=")
@@ -104,7 +104,7 @@ module _ (bytes : List ℕ) where
     _ ← ensure (told (distinct? spelled? fs))
     give (procap-of r from to fs)
 
-  -- [Text] All lines.
+  -- [Text; D50] All lines.
   unfoldable pub procap-lines : Reader Procap
   procap-lines = do
     version ← line-to bytes (bytes-of "procap=") version-one
