@@ -1,5 +1,5 @@
 # The commands of the project. `make` builds the program bin/check; `make test` is the one test command.
-.PHONY: program run press kept test layout test-pages kit door archives test-check test-c test-c-linked test-c-memory test-stack test-rust soak fuzz bench bench-instructions
+.PHONY: program run press kept test layout test-pages pictures test-pictures kit door archives test-check test-c test-c-linked test-c-memory test-stack test-rust soak fuzz bench bench-instructions
 SHELL := /bin/bash
 .SHELLFLAGS := -euo pipefail -c
 
@@ -55,8 +55,9 @@ kept: bin/kept
 bin/kept: $(NATIVE)/libkept.a tests/c/kept.c tests/c/case_bytes.c tests/c/calls.h
 	@$(call linked,,kept,tests/c/kept.c tests/c/case_bytes.c target/staticlib/libkept.a)
 
-# Everything that a landing must pass: the layout of the files, every proof, then the tests that run. The last line is the count that decides.
-test: kit layout test-pages
+# Everything that a landing must pass: the layout of the files, the pages and pictures, every proof, then the tests that run. The last line is the count that
+# decides.
+test: kit layout test-pages test-pictures
 	@mkdir -p bin
 	@rt ci | tee bin/proofs.log
 	@tests/axioms.sh < bin/proofs.log
@@ -73,6 +74,16 @@ layout: kit
 # What the pages and the comments name is there.
 test-pages:
 	@tests/pages.sh
+
+# The pictures of docs/pictures, drawn anew from their sources by graphviz, which nothing else needs.
+pictures:
+	@command -v dot > /dev/null || { echo "graphviz is missing: no command dot on the path (on Debian the package graphviz)" >&2; exit 1; }
+	@crates=$$(docs/pictures/crates.sh crates.txt); tred <<< "$$crates" | dot -Tsvg -o docs/pictures/crates.svg
+	@for source in docs/pictures/*.dot; do dot -Tsvg -o "$${source%.dot}.svg" "$$source"; done
+
+# The pictures show what the files have: every crate with what it uses, every number, every definition. Nothing is drawn.
+test-pictures:
+	@tests/pictures.sh
 
 # The door for C, proved and compiled, as an archive.
 door: kit
