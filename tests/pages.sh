@@ -69,7 +69,7 @@ entries() {
 
 # The tags in comments, taken apart: `[Rules 20, 21; D3]` names Rules 20, Rules 21 and D3.
 tags() {
-    grep -rhE '^ *(--|//)' crates --include='*.antt' --include='*.rt' | each '\[([A-Z][a-z]|[DE][0-9])[^]]*\]' | sed 's/^\[//; s/\]$//; s/; /\n/g' |
+    grep -rhE '^ *(--|//)' crates --include='*.antt' --include='*.rt' | each '\[([A-Z][a-z]|[DE][0-9])[^]]*\]' | sed -E 's/^\[//; s/\]$//; s/(; |, ([DE][0-9]))/\n\2/g' |
         awk '{ section = $0; if (!sub(/ [0-9A-F][0-9A-F]?(, .*)?$/, "", section)) { print; next }
                codes = substr($0, length(section) + 2); n = split(codes, code, ", "); for (i = 1; i <= n; i++) print section " " code[i] }' | sort -u
 }

@@ -52,10 +52,10 @@ opening p r m state =
     go-on (before-facts (p .request) (p .from) (p .to) r m state) λ σ.
     each-holds m σ 0 (listed p)
 
--- [Two questions; D7] What it answers to the desk firmware, which has the procap as its text: 12 comes first, for bytes that are none.
+-- [Two questions, the door for C; D7] What it answers to the desk firmware, which has the procap as its text: 12 comes first, for bytes that are none.
 unfoldable pub opening-text : List ℕ → Request → ℕ → List ℕ → Outcome (Unit {0})
 opening-text text r m state = go-on (reading text) λ p. opening p r m state
 
--- [Two questions] What is handed to C: 256 times the number plus the place.
+-- [Two questions, the door for C] What is handed to C: 256 times the number plus the place.
 abbrev pub packed : Answer → ℕ
 packed answer = 256 * number-of answer + place-of answer

@@ -28,7 +28,7 @@ use Rattle.ledger.specs.declared.Ledger.{Ledger}
 use Rattle.ledger.specs.Books.{fact-numbers, list-numbers, Book, book, Sound, Gives, reading-in, keeping, stopped-by, facts-said, fact-in, facts-in}
 use Rattle.ledger.specs.Putting.{numbers-of-fact}
 
--- [Rules, verify] What the office's decision about an order leaves of a ledger's moments; one that is false stops it by 4.
+-- [Readings, verify] What the office's decision about an order leaves of a ledger's moments; one that is false stops it by 4.
 unfoldable pub narrowed-by : Ledger → ℕ → Decision → Ledger
 narrowed-by l q Holds = l
 narrowed-by l q Fails = stopped-by (OrderFalse q) l

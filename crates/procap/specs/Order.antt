@@ -7,7 +7,7 @@ use Rattle.procap.specs.declared.time.Time.the-variants.{Moment, MinusIn
 use Rattle.procap.specs.declared.order.Decision.{Decision}
 use Rattle.procap.specs.declared.order.Decision.the-variants.{Holds, Fails, RaisesFrom, LowersTo}
 
--- [Rules, last paragraph] t <= u, with ctime read as the moment m.
+-- [Readings, order] t <= u, with ctime read as the moment m.
 abbrev pub AtMost : ℕ → Time → Time → Type 0
 -- Ctime is not involved.
 AtMost m (Moment k) (Moment j) = k ≤ j
@@ -30,7 +30,7 @@ AtMost m Ctime Ctime = m ≤ m
 AtMost m (Moment k) Ctime = k ≤ m
 AtMost m Ctime (Moment j) = m ≤ j
 
--- [Rules, verify; D31, D32] What verify makes of t <= u while the clock is open.
+-- [Readings, order; D31, D32] What verify makes of t <= u while the clock is open.
 abbrev pub decided : Time → Time → Decision
 -- Ctime is not involved: decided at once.
 decided (Moment k) (Moment j) = pick (leb k j) Holds Fails

@@ -13,7 +13,7 @@ use Rattle.state.specs.declared.Found.the-variants.{Malformed, Absent, S
 abbrev pub WellFormed : List ℕ → Type 0
 WellFormed bytes = (σ : List Spelled) × (stated bytes ≡ some σ)
 
--- [Rules, last paragraph; D35] The bytes are a state, and the fact stands in it.
+-- [Readings, facts; D35] The bytes are a state, and the fact stands in it.
 abbrev pub Stands : List ℕ → Spelled → Type 0
 Stands bytes f = (σ : List Spelled) × (stated bytes ≡ some σ) × In f σ
 

@@ -31,16 +31,16 @@ reading bytes = or-else ProcapMalformed (text-in bytes)
 unfoldable pub fitting : List ℕ → ℕ → Outcome (List ℕ)
 fitting text room = go-on (require BufferShort (decLe (length text) room)) λ _. granted text
 
--- [Numbers 12 and 13] The procap's text, into a buffer with so much room: 12 comes before 13.
+-- [Numbers 12, 13] The procap's text, into a buffer with so much room: 12 comes before 13.
 unfoldable pub writing : Procap → ℕ → Outcome (List ℕ)
 writing p room = go-on (require ProcapMalformed (writable? p)) λ _. fitting (text-of p) room
 
--- [Numbers] The length that the writer gives: the text's, and 0 when it refuses.
+-- [Numbers, refusals] The length that the writer gives: the text's, and 0 when it refuses.
 unfoldable pub length-given : Outcome (List ℕ) → ℕ
 length-given (granted text) = length text
 length-given (refused answer) = 0
 
--- [Numbers] What stands in the buffer afterwards: the text, and past it what was there; when it refuses, all as it was.
+-- [Numbers, refusals] What stands in the buffer afterwards: the text, and past it what was there; when it refuses, all as it was.
 unfoldable pub buffer-left : Outcome (List ℕ) → List ℕ → List ℕ
 buffer-left (granted text) buffer = text ++ drop (length text) buffer
 buffer-left (refused answer) buffer = buffer

@@ -151,7 +151,7 @@ module _ {M : Type 1} (𝓤 : URA M) (H : Heap 𝓤) (A : Atoms 𝓤) (W : Given
           use1 W (‵ (Bytes κ′ b) ⊛ ‵ (Bytes κ′ b)) (shr-slice-copy 𝓤 H A W (named 1) κ′ u8 .twice b (lent-val b ∷ [])) $ split ! $ move ! (1 ∷ 2 ∷ []) $ fjoin ! $ move ! (2 ∷ []) $
           use1 W (‵ (Records κ s) ⊛ ‵ (Records κ s)) (shr-slice-copy 𝓤 H A W (named 0) κ T.the-row .twice s (lent-val s ∷ [])) $ split ! $
           move ! (1 ∷ 2 ∷ []) $ fjoin ! $ move ! (3 ∷ 0 ∷ []) $ fjoin ! $
-          -- [All; the records; the buffer; the tokens; α's token and the rows]
+          -- Held: All; the records; the buffer; the tokens; α's token and the rows
           move ! (4 ∷ []) $ split ! $ nothing ! $ move ! (2 ∷ 0 ∷ []) $ fjoin ! $ move ! (4 ∷ 0 ∷ []) $ fjoin ! $ move ! (3 ∷ 0 ∷ []) $ fjoin ! $
           -- [what the arguments own; α's token; All; the tokens]
           move ! (3 ∷ []) $ split ! $ move ! (1 ∷ []) $ split ! $ nothing ! $ move ! (5 ∷ 0 ∷ []) $ join ! $ move ! (1 ∷ 0 ∷ []) $ join ! $ move ! (2 ∷ 0 ∷ []) $ join ! $
@@ -215,7 +215,7 @@ module _ {M : Type 1} (𝓤 : URA M) (H : Heap 𝓤) (A : Atoms 𝓤) (W : Given
           -- [the buffer; rest; the records; the request; the tokens; β's token and the rows]
           use1 W (‵ (Bytes κ′ b) ⊛ ‵ (Bytes κ′ b)) (shr-slice-copy 𝓤 H A W (named 1) κ′ u8 .twice b (lent-val b ∷ [])) $ split ! $ move ! (2 ∷ []) $
           use1 W (‵ rest ⊛ ‵ rest) twice $ split ! $ move ! (2 ∷ 0 ∷ []) $ fjoin ! $ move ! (2 ∷ 1 ∷ []) $ fjoin ! $ move ! (2 ∷ 0 ∷ []) $ fjoin ! $ move ! (2 ∷ 0 ∷ []) $ fjoin ! $
-          -- [All; the buffer and rest; the tokens; β's token and the rows]
+          -- Held: All; the buffer and rest; the tokens; β's token and the rows
           move ! (3 ∷ []) $ split ! $ move ! (1 ∷ 3 ∷ []) $ fjoin ! $
           owned ! usize (Is usize) (uint-makes 𝓤 H A W w64) (length (s .now)) (vint w64 (length (s .now)) ∷ []) (refl, fits) $ fjoin ! $
           owned ! St.the-row (Is St.the-row) (EL.makes St.the-type St′.the-plain 𝓤 H A) stop (w ∷ []) is $ fjoin ! $

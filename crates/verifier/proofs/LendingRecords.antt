@@ -118,7 +118,7 @@ module _ (size : ℕ) (xs : List Certificate) (n : ℕ) where
               qed W (raw more ∷ ‵ All ∷ (‵ (flft (α ∷ []) fullShare) ⊛ ‵ Reading) ∷ []) ∵ move ! (1 ∷ []) $ fsplit ! $ move ! (1 ∷ []) $ fsplit ! $ move ! (1 ∷ []) $ fsplit ! $ move ! (1 ∷ []) $
               -- [rest; the number; the array; the request; more; α's token and the front]
               use1 W (‵ rest ⊛ ‵ rest) twice $ split ! $ move ! (2 ∷ 0 ∷ []) $ fjoin ! $ move ! (2 ∷ 0 ∷ []) $ fjoin ! $ move ! (2 ∷ 0 ∷ []) $ fjoin ! $
-              -- [All; rest; more; α's token and the front]
+              -- Held: All; rest; more; α's token and the front
               move ! (3 ∷ []) $ split ! $ move ! (1 ∷ 3 ∷ []) $ fjoin ! $
               owned ! Rq.the-row (Is Rq.the-row) (LL.makes Rq.the-type Rq′.the-plain 𝓤 H A) rq (request-val rq ∷ []) asked $ fjoin ! $
               -- [what the callee's arguments own; α's token; All; more]

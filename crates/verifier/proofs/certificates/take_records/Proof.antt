@@ -243,7 +243,7 @@ module _ {M : Type 1} (𝓤 : URA M) (H : Heap 𝓤) (A : Atoms 𝓤) (W : Given
       suffices ! _ (ends-at 𝓤 H A taken.ended stayed (taken.clauses 𝓤 H A mem run) W bound v r (tt, (tt, (zs, tt))) (tt, (tt, (e, tt)))) $ says ! all $
       -- the tokens
       nothing ! $ move ! (5 ∷ 0 ∷ []) $ join ! $ move ! (3 ∷ 0 ∷ []) $ join ! $ move ! (1 ∷ 0 ∷ []) $ join ! $ frame ! $
-      -- [Own₁; Own₂; Own₃]
+      -- Held: Own₁; Own₂; Own₃
       nothing ! $ move ! (3 ∷ 0 ∷ []) $ fjoin ! $ move ! (2 ∷ 0 ∷ []) $ fjoin ! $ move ! (1 ∷ 0 ∷ []) $ fjoin ! $ frame ! $
       owned ! S.the-row (Is S.the-row) stop-free r (v ∷ []) is $ done !
 
@@ -398,7 +398,7 @@ module _ {M : Type 1} (𝓤 : URA M) (H : Heap 𝓤) (A : Atoms 𝓤) (W : Given
         -- [the token ν; Own₂; Own₂; the token κ₁; Own₁; the token κ₂; the token κ₃; Own₃; _13; …]
         move ! (7 ∷ 6 ∷ []) $ use2 W (later (some (λ (δ : GName). ‵ (Lent₃ ν δ (x .zs)) ⊛ ‵ (Kept u64 b₃ o₃ m κ₃ (ν ∷ []) q₃ (s₃ .name) δ (x .zs)))))
         (lends-on u64 b₃ o₃ m κ₃ (ν ∷ []) q₃ (s₃ .name) 𝓤 H A W (x .zs)) $ await ! tt $ pick ! (λ δ. split ! $
-        -- [Lent₃; what is kept of Own₃; the token ν; Own₂; Own₂; the token κ₁; Own₁; the token κ₂; _13; …]
+        -- Held: Lent₃; what is kept of Own₃; the token ν; Own₂; Own₂; the token κ₁; Own₁; the token κ₂; _13; …
         move ! (7 ∷ 2 ∷ 3 ∷ 0 ∷ []) $ group ! 4 $
         use1 W (raw (Take 𝓤 H A mem run .pre (to-take (x .i) (x .r) (x .v) (x .zs) ν δ))) (asks-take (x .i) (x .r) (x .v) (x .zs) ν δ is (index-fits x less) (x .is)) $
         -- [what `take_record` asks; what is kept of Own₃; Own₂; the token κ₁; Own₁; _13; …]
@@ -415,7 +415,7 @@ module _ {M : Type 1} (𝓤 : URA M) (H : Heap 𝓤) (A : Atoms 𝓤) (W : Given
         -- [the token ν; the token κ₂; the last rows; what is kept of Own₃; Own₂; the token κ₁; Own₁; _13; …]: ν is over, and the rows come back
         lft-end ! tt $ move ! (0 ∷ 3 ∷ 2 ∷ []) $ use3 W (later (‵ (Own₃ (ws .1 .1 .1 .0)) ⊛ ‵ (flft κ₃ q₃)))
         (had-again u64 b₃ o₃ m κ₃ (ν ∷ []) q₃ (s₃ .name) 𝓤 H A W (x .zs) δ (ws .1 .1 .1 .0) room₃ (x .as-long) long) $ await ! tt $ split ! $
-        -- [Own₃; the token κ₃; the token κ₂; Own₂; the token κ₁; Own₁; _13; …]: i is one more
+        -- Held: Own₃; the token κ₃; the token κ₂; Own₂; the token κ₁; Own₁; _13; …: i is one more
         move ! (4 ∷ 5 ∷ 2 ∷ 3 ∷ 1 ∷ 0 ∷ []) $
         assigns-last ! (bin ! (load ! (from ! (stop !)) (look ! 18 refl)) (lit ! tt) (record { fits = next-fits x less })) (from ! (stop !))
         (store ! 18 refl (tt, record { fits = next-fits x less })) $
@@ -455,7 +455,7 @@ module _ {M : Type 1} (𝓤 : URA M) (H : Heap 𝓤) (A : Atoms 𝓤) (W : Given
       move ! (28 ∷ 29 ∷ []) $ split ! $ move ! (1 ∷ []) $ split ! $ move ! (1 ∷ []) $ split ! $
       -- [the token κ₃; true; the token κ₂; the token κ₁; what the parameters own; _13; …]
       move ! (4 ∷ []) $ fsplit ! $ move ! (1 ∷ []) $ fsplit ! $ move ! (1 ∷ []) $ fsplit ! $
-      -- [Own₃; true; Own₂; Own₁; the token κ₃; true; the token κ₂; the token κ₁; _13; …]
+      -- Held: Own₃; true; Own₂; Own₁; the token κ₃; true; the token κ₂; the token κ₁; _13; …
       move ! (1 ∷ 5 ∷ 7 ∷ 3 ∷ 6 ∷ 2 ∷ 4 ∷ 0 ∷ []) $ drop ! $ drop ! $
       ready 𝓣 known-take k looked l₀ l₁ l₂ l₃ l₄ l₅ l₆ l₇ l₈ l₉ l₁₀ l₁₁ l₁₂ l₁₃ (record {
         i = 0;
