@@ -52,7 +52,8 @@ uint64_t procap_door(const uint8_t *text, size_t text_length, uint64_t who, uint
 
 /*
  * The numbers that the door gives, in the order in which it looks. The first that applies is the answer. Only 10 has a
- * place other than 0.
+ * place other than 0. docs/ANSWERS.md says what the display should show for each, the likely cause and what to do;
+ * docs/SCOPE.md, Numbers, when each is given.
  */
 enum procap_answer {
     PROCAP_OPEN = 0,                 /* the press may go through */
