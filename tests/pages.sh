@@ -81,9 +81,17 @@ tags_defined() { each 'eqb b 0x[0-9a-f]{2}' crates/bl/specs/Tags.antt crates/pro
 steps_defined() { tags_defined | each '^2.'; }
 numbers_defined() { sed -nE 's/^numbers = (.*) ∷ \[\]$/\1/p' crates/procap/specs/Answers.antt | sed 's/ ∷ /\n/g'; }
 numbers_explained() { each '^\| \*\*[0-9]+\*\*' docs/ANSWERS.md | each '[0-9]+'; }
+limits_on_page() { sed -nE '/^## Limits/,/^## Presses/s/^\| .* \| ([0-9,]+) \| `([^:]+): ([^`]+)` \|$/\2: \3 = \1/p' $SCOPE | tr -d ','; }
+limits_defined() {
+    limits_on_page | while IFS=': ' read -r file name _; do sed -nE "s/^($name = [0-9_]+)\$/\1/p" "crates/$file" | tr -d '_' | sed "s|^|$file: |"; done
+}
 long_lines() { awk -v most=$LONGEST 'length > most && !/^\|/ { print FILENAME ":" FNR }' "${PAGES[@]}"; }
 
+# Lists that must not be empty: a test that finds nothing to compare finds no fault.
+empty_lists() { for list in spans tags limits_on_page tags_defined numbers_defined numbers_explained; do [ -n "$($list)" ] || echo "$list"; done; }
+
 entries > "$scratch/entries"
+none_of "nothing was found to look at" empty_lists
 none_of "a page names a definition that is not there" definitions_missing
 none_of "a page names a file that is not there" files_missing
 none_of "a tag in a comment names no entry of $SCOPE and no point of docs/DECISIONS.md" tags_without_entry
@@ -92,7 +100,8 @@ none_of "a tag stands in $SCOPE or in the definitions, and not in both" not_in_b
 none_of "a step has a rule in $SCOPE or a tag, and not both" not_in_both codes_on_page steps_defined Rules
 none_of "a number stands in $SCOPE or in the definitions, and not in both" not_in_both codes_on_page numbers_defined Numbers
 none_of "a number stands in docs/ANSWERS.md or in the definitions, and not in both" not_in_both numbers_explained numbers_defined
+none_of "a limit is not the same in $SCOPE and in its definition" not_in_both limits_on_page limits_defined
 none_of "a line of more than $LONGEST characters" long_lines
 
 [ $faults -eq 0 ] || exit 1
-echo "pages: $(wc -l < "$scratch/cited") definitions and files of the crates that pages name are there, and $(tags | wc -l) entries that comments name"
+echo "pages: $(wc -l < "$scratch/cited") places of the crates that pages name are there, $(tags | wc -l) entries that comments name, and $(limits_on_page | wc -l) limits"
