@@ -4,6 +4,7 @@
  *     press PROCAP WHO WHAT RIGHT MOMENT STATE
  */
 #include "../include/procap.h"
+#include <errno.h>
 #include <inttypes.h>
 #include <stdio.h>
 #include <stdlib.h>
@@ -24,6 +25,20 @@ static size_t bytes_of(const char *name, uint8_t *buffer)
     return length;
 }
 
+/* A number in decimal digits. Anything else is no press: read as 0 it would be one, for somebody else. */
+static uint64_t number_of(const char *word)
+{
+    char *end;
+    unsigned long long number;
+    errno = 0;
+    number = strtoull(word, &end, 10);
+    if (*word < '0' || *word > '9' || *end != '\0' || errno != 0) {
+        fprintf(stderr, "press: \"%s\" is no number\n", word);
+        exit(2);
+    }
+    return number;
+}
+
 int main(int count, char **words)
 {
     static uint8_t text[MOST_BYTES], state[MOST_BYTES];
@@ -35,8 +50,8 @@ int main(int count, char **words)
     }
     text_length = bytes_of(words[1], text);
     state_length = bytes_of(words[6], state);
-    answer = procap_door(text, text_length, strtoull(words[2], NULL, 10), strtoull(words[3], NULL, 10),
-                         strtoull(words[4], NULL, 10), strtoull(words[5], NULL, 10), state, state_length);
+    answer = procap_door(text, text_length, number_of(words[2]), number_of(words[3]), number_of(words[4]), number_of(words[5]), state,
+                         state_length);
     if (answer == PROCAP_OPEN) {
         printf("open\n");
         return 0;
