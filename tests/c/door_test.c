@@ -1,5 +1,5 @@
 /*
- * The door as the desk firmware calls it: the presses of the scope document, the order of the answers, the edges of every
+ * The door as the desk firmware calls it: the presses of docs/SCOPE.md, the order of the answers, the edges of every
  * limit, and damaged texts and states held against a second reader (model.c). Every buffer is lent in a block of just
  * its size, so that valgrind sees a byte read past an end.
  *
@@ -55,7 +55,7 @@ static uint64_t press(const char *text, uint64_t moment, const uint8_t *state, s
     return door((const uint8_t *)text, strlen(text), 2, 7, 9, moment, state, state_length);
 }
 
-/* The presses of the scope document that are the door's. */
+/* The presses of docs/SCOPE.md that are the door's. */
 static void presses_of_the_scope(void)
 {
     static const uint8_t logged[] = {0x00, 0xc9, 0x02, 0x00, 0x00, 0x07, 0x01, 0x00, 0x00, 0x00, 0x05, 0xdc};

@@ -1,4 +1,4 @@
-/* A second door, written from the scope document in plain C, and a source of repeatable random numbers. */
+/* A second door, written from the words of the scope in plain C, and a source of repeatable random numbers. */
 #ifndef MODEL_H
 #define MODEL_H
 

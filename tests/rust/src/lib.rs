@@ -1,4 +1,4 @@
-//! A second implementation of the scope document, written from the document alone, a generator of cases, and the
+//! A second implementation of the scope, written from its words alone (today docs/SCOPE.md has them), a generator of cases, and the
 //! comparison of the two implementations.
 
 pub mod data;

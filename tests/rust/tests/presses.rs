@@ -1,4 +1,4 @@
-//! The presses that the document lists, and its run case.
+//! The presses that docs/SCOPE.md lists, and the one that is run.
 
 use second_opinion::data::{Answer, Case, Fact, Procap, Record, Request, Term, Time, LATEST};
 use second_opinion::second::{direct, door, door_on_text, text_of, verify, write_text, NoWatch};
