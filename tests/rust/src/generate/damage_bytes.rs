@@ -1,13 +1,13 @@
 //! One small damage to bytes of any kind.
 
-use super::Random;
+use super::{tags, Random};
 
 /// A byte that formulas, proofs and texts have often.
 fn likely_byte(random: &mut Random) -> u8 {
     match random.below(6) {
         0 => random.below(6) as u8,
-        1 => 0x10 + random.below(11) as u8,
-        2 => 0x20 + random.below(15) as u8,
+        1 => tags::any_or_none_of(tags::FORMULAS, random),
+        2 => tags::any_or_none_of(tags::STEPS, random),
         3 => *random.pick(b"0123456789abcdef=\n -+ntc"),
         4 => *random.pick(&[0, 1, 0x7f, 0x80, 0xff]),
         _ => random.next() as u8,

@@ -22,7 +22,7 @@ mod office;
 pub mod random;
 mod raw;
 mod step;
-mod tags;
+pub mod tags;
 mod valid;
 mod word;
 

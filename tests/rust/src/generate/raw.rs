@@ -103,7 +103,7 @@ fn raw_formula(random: &mut Random, out: &mut Vec<u8>, levels: u64, binders: &[u
     let tag = if levels <= 1 {
         *random.pick(&leaves)
     } else {
-        0x10 + random.below(10) as u8
+        tags::any_of(tags::FORMULAS, random)
     };
     out.push(tag);
     let (words, parts) = match tag {
@@ -182,7 +182,7 @@ fn raw_proof(random: &mut Random, certificates: u64) -> Vec<u8> {
         }
         2 => {
             let length = random.below(200);
-            out.extend((0..length).map(|_| 0x20 + random.below(14) as u8));
+            out.extend((0..length).map(|_| tags::any_of(tags::STEPS, random)));
         }
         _ => {
             let deep = random.one_in(6);
@@ -256,7 +256,7 @@ fn raw_tag(random: &mut Random, before: usize, around: Around) -> u8 {
             tags::STATE,
             tags::COMPARE,
         ],
-        (false, false) => return 0x20 + random.below(14) as u8,
+        (false, false) => return tags::any_of(tags::STEPS, random),
     };
     match *random.pick(choices) {
         tags::LOCAL if around.assumptions == 0 => tags::CERTIFICATE,

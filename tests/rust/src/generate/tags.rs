@@ -1,5 +1,8 @@
 //! The tags of terms, formulas and proof steps.
 
+use super::Random;
+use std::ops::RangeInclusive;
+
 pub const NAME: u8 = 0x00;
 pub const MOMENT: u8 = 0x01;
 pub const MINUS_INFINITY: u8 = 0x02;
@@ -32,3 +35,17 @@ pub const SAYS_IN: u8 = 0x2a;
 pub const SAYS_OUT: u8 = 0x2b;
 pub const STATE: u8 = 0x2c;
 pub const COMPARE: u8 = 0x2d;
+
+/// The tags of all formulas, and of all steps: each stands in a row.
+pub const FORMULAS: RangeInclusive<u8> = TOP..=ORDER;
+pub const STEPS: RangeInclusive<u8> = LOCAL..=COMPARE;
+
+/// One of these tags.
+pub fn any_of(tags: RangeInclusive<u8>, random: &mut Random) -> u8 {
+    tags.start() + random.below(tags.len() as u64) as u8
+}
+
+/// One of these tags, or the first that is none of them.
+pub fn any_or_none_of(tags: RangeInclusive<u8>, random: &mut Random) -> u8 {
+    any_of(*tags.start()..=tags.end() + 1, random)
+}
