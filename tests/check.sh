@@ -96,7 +96,7 @@ passed=$((passed + 1))
 # Presses Start with what is printed for a case, and holds what the door says to what is expected.
 presses() { # CASE MOMENT STATE EXPECTED
     "$check" < "examples/$1.case" > "$room/printed"
-    "$press" "$room/printed" 2 7 9 "$2" "$3" > "$room/said" 2> /dev/null || true
+    "$press" "$room/printed" 2 7 9 "$2" "$3" > "$room/said" || true
     printf '%b' "$4" > "$room/expected"
     expect "$1 shown at the door at $2" "$room/said" "$room/expected"
 }
@@ -111,9 +111,16 @@ presses p 1500 /dev/null 'refused=10\nplace=0\n'
 presses ctime_in_a_fact 1500 examples/logged_at_1500.state 'open\n'
 presses ctime_in_a_fact 1501 examples/logged_at_1500.state 'refused=10\nplace=0\n'
 presses no_moment_left 1500 examples/loaded.state 'refused=12\nplace=0\n'
-# What is no number is no press.
-for moment in x '' -1 ' 1500' 1500x 0x5dc 18446744073709551616; do
-    presses p "$moment" examples/loaded.state ''
+# What is no number is no press, in none of the four places: the status is 2, and nothing is said of the door.
+for word in x '' -1 ' 7' 7x 0x7 18446744073709551616; do
+    for numbers in "$word|7|9|1500" "2|$word|9|1500" "2|7|$word|1500" "2|7|9|$word"; do
+        IFS='|' read -r who what right moment <<< "$numbers"
+        status=0
+        "$press" examples/p.procap "$who" "$what" "$right" "$moment" examples/loaded.state > "$room/said" 2> /dev/null || status=$?
+        echo "status $status" >> "$room/said"
+        echo "status 2" > "$room/expected"
+        expect "a press with the numbers $numbers" "$room/said" "$room/expected"
+    done
 done
 
 echo "check: $passed runs came out as expected"

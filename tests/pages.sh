@@ -3,6 +3,7 @@
 # docs/SCOPE.md or a point of docs/DECISIONS.md, the tables of tags and numbers are those of the definitions, and no line of a page is too long.
 set -euo pipefail
 cd "$(dirname "$0")/.."
+. tests/defined.sh
 
 SCOPE=docs/SCOPE.md
 PAGES=(README.md CONTRIBUTING.md examples/README.md docs/*.md docs/changes/*.md)
@@ -20,23 +21,12 @@ none_of() {
     done < "$scratch/faults"
 }
 
-# What matches, one on a line; nothing is no failure.
-each() { grep -ohE "$@" || true; }
-
 # The lines of the input that the file does not have, in capitals or not; and those that only one of two lists has.
 not_in() { awk 'NR == FNR { have[tolower($0)]; next } !(tolower($0) in have)' "$1" -; }
 not_in_both() { comm -3 <("$1" "${@:3}" | sort -u) <("$2" | sort -u) | tr -d '\t'; }
 
 # The code spans of the pages, one on a line. A span may go over the end of a line.
 spans() { awk '!/^    /' "${PAGES[@]}" | tr '\n' ' ' | each '`[^`]+`' | tr -d '`' | sort -u; }
-
-# The words that a file defines: in antt what stands before a colon; in Rattle functions, types, variants and constants.
-defined() {
-    case $1 in
-    *.antt) awk '!/^ *--/ && sub(/ : .*/, "") { gsub(/[(){}]/, " "); for (i = 1; i <= NF; i++) print $i }' "$1" ;;
-    *.rt) each '(fn|struct|enum|const|mod) [A-Za-z_0-9]+|^ +[A-Z][A-Za-z0-9]*[,(]' "$1" | sed -E 's/^(fn|struct|enum|const|mod) //; s/[ ,(]//g' ;;
-    esac
-}
 
 # `bl/specs/Rules.antt: rule-26, rule-27` on a page: the file is there and defines each of the names. Without names, the file is there.
 definitions_missing() {
@@ -74,12 +64,11 @@ tags() {
                codes = substr($0, length(section) + 2); n = split(codes, code, ", "); for (i = 1; i <= n; i++) print section " " code[i] }' | sort -u
 }
 
-tags_without_entry() { tags | not_in "$scratch/entries"; }
+tags_without_entry() { not_in "$scratch/entries" < "$scratch/tags"; }
 points_missing() { each '\b[DE][0-9]+\b' "${PAGES[@]}" | sort -u | not_in "$scratch/entries"; }
 codes_on_page() { awk -v wanted="## $1" '/^## / { here = ($0 == wanted) } here && /^\| [0-9A-F][0-9A-F]?[ |]/ { print $2 }' $SCOPE; }
 tags_defined() { each 'eqb b 0x[0-9a-f]{2}' crates/bl/specs/Tags.antt crates/procap/specs/Bytes.antt | each '..$' | tr a-f A-F; }
 steps_defined() { tags_defined | each '^2.'; }
-numbers_defined() { sed -nE 's/^numbers = (.*) ∷ \[\]$/\1/p' crates/procap/specs/Answers.antt | sed 's/ ∷ /\n/g'; }
 numbers_explained() { each '^\| \*\*[0-9]+\*\*' docs/ANSWERS.md | each '[0-9]+'; }
 limits_on_page() { sed -nE '/^## Limits/,/^## Presses/s/^\| .* \| ([0-9,]+) \| `([^:]+): ([^`]+)` \|$/\2: \3 = \1/p' $SCOPE | tr -d ','; }
 limits_defined() {
@@ -88,10 +77,12 @@ limits_defined() {
 long_lines() { awk -v most=$LONGEST 'length > most && !/^\|/ { print FILENAME ":" FNR }' "${PAGES[@]}"; }
 
 # Lists that must not be empty: a test that finds nothing to compare finds no fault.
-empty_lists() { for list in spans tags limits_on_page tags_defined numbers_defined numbers_explained; do [ -n "$($list)" ] || echo "$list"; done; }
+empty_lists() { for list in spans limits_on_page tags_defined numbers_defined numbers_explained; do [ -n "$($list)" ] || echo "$list"; done; }
 
 entries > "$scratch/entries"
+tags > "$scratch/tags"
 none_of "nothing was found to look at" empty_lists
+[ -s "$scratch/tags" ] || none_of "nothing was found to look at" echo tags
 none_of "a page names a definition that is not there" definitions_missing
 none_of "a page names a file that is not there" files_missing
 none_of "a tag in a comment names no entry of $SCOPE and no point of docs/DECISIONS.md" tags_without_entry
@@ -104,4 +95,4 @@ none_of "a limit is not the same in $SCOPE and in its definition" not_in_both li
 none_of "a line of more than $LONGEST characters" long_lines
 
 [ $faults -eq 0 ] || exit 1
-echo "pages: $(wc -l < "$scratch/cited") places of the crates that pages name are there, $(tags | wc -l) entries that comments name, and $(limits_on_page | wc -l) limits"
+echo "pages: $(wc -l < "$scratch/cited") places of the crates that pages name are there, $(wc -l < "$scratch/tags") entries that comments name, and $(limits_on_page | wc -l) limits"

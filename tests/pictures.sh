@@ -2,6 +2,7 @@
 # The pictures of docs/pictures, held to what they show: the crates and what they use, the numbers of the answers, the definitions. Draws nothing.
 # usage: pictures.sh, from the top of the repository
 set -euo pipefail
+. tests/defined.sh
 pictures=docs/pictures
 
 fail() { # WORD..
@@ -71,19 +72,20 @@ definitions() { # FILE
 found=$(definitions "$pictures/readings.dot")
 [ "$(wc -l <<< "$found")" = "$(written "$pictures/readings.dot" | grep -oF .antt | wc -l)" ] || fail "readings.dot names a file .antt, but not as CRATE/specs/FILE.antt: NAME"
 [ "$(sort <<< "$found")" = "$(definitions "$pictures/readings.svg" | sort)" ] || fail "readings.svg has other definitions than readings.dot: make pictures"
-defined=0
+named=0
 while IFS=' ' read -r file names; do
     file=crates/${file%:}
     [ -f "$file" ] || fail "readings.dot names $file, which is not there"
     for name in ${names//,/}; do
-        grep -qE "(^| )pub (data |record )?$name( |\$)" "$file" || fail "readings.dot names $name, which $file does not define"
-        defined=$((defined + 1))
+        grep -qxF -- "$name" <<< "$(defined "$file")" || fail "readings.dot names $name, which $file does not define"
+        named=$((named + 1))
     done
 done <<< "$found"
 
 # ── The numbers of the answers ──
 
-numbers=$(sed -n 's/^numbers = //p' crates/procap/specs/Answers.antt | grep -oE '[0-9]+') || fail "no list of numbers in crates/procap/specs/Answers.antt"
+numbers=$(numbers_defined)
+[ -n "$numbers" ] || fail "no list of numbers in crates/procap/specs/Answers.antt"
 # In the source what is bold and begins with a digit; and the same as it is drawn.
 in_source=$(sed '/^ *\/\//d' "$pictures/press.dot" | grep -oE '<B>[0-9][^<]*</B>' | grep -oE '[0-9]+' | sort -n) || true
 in_drawing=$(sed -n 's/.*font-weight="bold"[^>]*>\([0-9][^<]*\)<.*/\1/p' "$pictures/press.svg" | grep -oE '[0-9]+' | sort -n) || true
@@ -101,4 +103,4 @@ plain=$(grep '<text' "$pictures/press.svg" | grep -v 'font-weight="bold"' | sed 
 door=$(grep -oE '^ *PROCAP_[A-Z_]+ = [0-9]+' include/procap.h | grep -oE '[0-9]+$' | grep -vx 0 | paste -sd ' ')
 grep -qF "<B>$door</B>" "$pictures/press.dot" || fail "press.dot has no arrow with the door's numbers in the order of include/procap.h: $door"
 
-echo "pictures: $crates crates, $defined definitions and $(sort -nu <<< "$in_source" | wc -l) numbers stand as the files have them"
+echo "pictures: $crates crates, $named definitions and $(sort -nu <<< "$in_source" | wc -l) numbers stand as the files have them"

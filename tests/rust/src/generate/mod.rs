@@ -22,7 +22,7 @@ mod office;
 pub mod random;
 mod raw;
 mod step;
-pub mod tags;
+mod tags;
 mod valid;
 mod word;
 

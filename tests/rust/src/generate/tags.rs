@@ -36,7 +36,7 @@ pub const SAYS_OUT: u8 = 0x2b;
 pub const STATE: u8 = 0x2c;
 pub const COMPARE: u8 = 0x2d;
 
-/// The tags of all formulas, and of all steps: each stands in a row.
+/// The tags of all formulas, and of all steps, to draw from: each stands in a row. What must have come up is said elsewhere, in numbers.
 pub const FORMULAS: RangeInclusive<u8> = TOP..=ORDER;
 pub const STEPS: RangeInclusive<u8> = LOCAL..=COMPARE;
 

@@ -4,7 +4,6 @@ use crate::coverage::{Call, Coverage, Walked};
 use crate::questions::presses::DEMAND_3_WHERE;
 use crate::questions::text::DEMAND_2_OF_A_TEXT;
 use crate::questions::values::DEMAND_2_OF_A_VALUE;
-use second_opinion::generate::tags;
 use second_opinion::second::Clause;
 use std::collections::BTreeMap;
 
@@ -80,18 +79,10 @@ impl Report {
         report.answers(coverage);
         report.input_lines(coverage);
         report.facts(coverage);
-        report.tags("verify, steps", &coverage.verify.steps, tags::STEPS);
-        report.tags("direct, steps", &coverage.direct.steps, tags::STEPS);
-        report.tags(
-            "verify, formulas",
-            &coverage.verify.formulas,
-            tags::FORMULAS,
-        );
-        report.tags(
-            "direct, formulas",
-            &coverage.direct.formulas,
-            tags::FORMULAS,
-        );
+        report.tags("verify, steps", &coverage.verify.steps, 0x20..=0x2d);
+        report.tags("direct, steps", &coverage.direct.steps, 0x20..=0x2d);
+        report.tags("verify, formulas", &coverage.verify.formulas, 0x10..=0x19);
+        report.tags("direct, formulas", &coverage.direct.formulas, 0x10..=0x19);
         report.clauses("verify", &coverage.verify, possible_in_verify);
         report.clauses("direct", &coverage.direct, possible_in_direct);
         report.all_orders(coverage);
