@@ -110,6 +110,11 @@ presses p 2001 examples/loaded.state 'refused=9\nplace=0\n'
 presses p 1500 /dev/null 'refused=10\nplace=0\n'
 presses ctime_in_a_fact 1500 examples/logged_at_1500.state 'open\n'
 presses ctime_in_a_fact 1501 examples/logged_at_1500.state 'refused=10\nplace=0\n'
+# The trainee's certificate is of March 2026: the second before it, its last, the one after it, and the first of June.
+presses trainee_in_march 1772323199 /dev/null 'refused=9\nplace=0\n'
+presses trainee_in_march 1775001599 /dev/null 'open\n'
+presses trainee_in_march 1775001600 /dev/null 'refused=9\nplace=0\n'
+presses trainee_in_march 1780272000 /dev/null 'refused=9\nplace=0\n'
 presses no_moment_left 1500 examples/loaded.state 'refused=12\nplace=0\n'
 # What is no number is no press, in none of the four places: the status is 2, and nothing is said of the door.
 for word in x '' -1 ' 7' 7x 0x7 18446744073709551616; do

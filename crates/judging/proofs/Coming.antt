@@ -20,7 +20,7 @@ use Rattle.judging.specs.declared.judge.Application.{Application}
 use Rattle.judging.specs.declared.judge.Checked.{Checked}
 use Rattle.ledger.specs.Books.{stop-of, Book, book, Sound, Gives, misfitted, kept-of, resume, unless-stopped}
 use Rattle.formula.specs.Meaning.{from-of, to-of, On}
-use Rattle.judging.specs.Judging.{and-then, part-of, two-orders, Takes, takes, unfit, Yields, Passes, Used, used, unused}
+use Rattle.judging.specs.Judging.{and-then, part-of, Takes, takes, unfit, Yields, Passes, Used, used, unused}
 use Rattle.ledger.proofs.Giving.{then, idle, misfits, misfits-any, halted, not-going, misfitted-stopped, stop-going}
 use Rattle.judging.proofs.StepWalks.{use-implication}
 
@@ -146,7 +146,7 @@ unfolding use-implication _>>=_
 comes-used state buffer q list l F a b t1 t2 middle next r s (used A B e g premise conclusion m n) =
     record {
       value = (A, B);
-      gives = rw e (then state (book l list) (book (r .ledger) list) (book (r .ledger) list) (two-orders q a t1 t2 b) tt (λ _. done (A, B)) (A, B) g (idle state (book (r .ledger) list) (A, B) (g .sound)));
+      gives = rw e (then state (book l list) (book (r .ledger) list) (book (r .ledger) list) (walk.need-cover q a b t1 t2) tt (λ _. done (A, B)) (A, B) g (idle state (book (r .ledger) list) (A, B) (g .sound)));
       so = λ _. (premise, conclusion, m, n);
     }
 comes-used state buffer q list l F a b t1 t2 middle next r s (unused e g) =

@@ -19,19 +19,19 @@ use Rattle.judging.specs.declared.judge.Inferred.{Inferred}
 use Rattle.judging.specs.declared.judge.Application.{Application}
 use Rattle.ledger.specs.Books.{stop-of, Book, book, Sound, Gives, misfitted}
 use Rattle.formula.specs.Meaning.{begin, from-of, to-of, Means, On}
-use Rattle.judging.specs.Judging.{and-then, part-of, and-sides, implies-sides, two-orders, fits-goal, Takes, takes, unfit, Yields, Used, used, unused}
+use Rattle.judging.specs.Judging.{and-then, part-of, and-sides, implies-sides, fits-goal, Takes, takes, unfit, Yields, Used, used, unused}
 use Rattle.ledger.proofs.Giving.{then, goes-or-stopped}
 use Rattle.judging.proofs.Coming.{stops, comes-on, comes-halted, comes-taken, comes-inferred, comes-yields}
 
--- ── Orders ──
+-- ── Intervals ──
 
--- Two orders, one after the other.
-pub both-orders : {state list : List ℕ} {l m r : Ledger} {q : ℕ} {a c d b : Time}
+-- One covers another by two orders, one after the other.
+pub both-orders : {state list : List ℕ} {l m r : Ledger} {q : ℕ} {a b c d : Time}
     → Gives state (book l list) (ask-order q a c) (book m list) tt
     → Gives state (book m list) (ask-order q d b) (book r list) tt
-    → Gives state (book l list) (two-orders q a c d b) (book r list) tt
-unfolding two-orders
-both-orders {state} {list} {l} {m} {r} {q} {a} {c} {d} {b} f g =
+    → Gives state (book l list) (walk.need-cover q a b c d) (book r list) tt
+unfolding walk.need-cover
+both-orders {state} {list} {l} {m} {r} {q} {a} {b} {c} {d} f g =
     then state (book l list) (book m list) (book r list) (ask-order q a c) tt (λ _. ask-order q d b) tt f g
 
 -- ── What is taken ──
@@ -112,11 +112,11 @@ one-side {state} {buffer} {b} {w} {e} {inferred} {list} q side r y going stopped
         let ends : stop-of (inferred .ledger) ≡ Going → ⊥ = λ g. let z : _≡_ {A = ℕ} 0 1 = cc (g, h .1) in omega arith in
         halts y after r ends (stopped ends)
 
--- 26, before its second step, by what was taken of the implication and by its two orders.
+-- 26, before its second step, by what was taken of the implication and by the interval that it covers.
 pub put-to-use : {state buffer list : List ℕ} {l m : Ledger} {F : Formula} {from to start end a b t1 t2 : Time} {q middle next : ℕ}
     (j : Judgement) (first second : ℕ) (r : Application) → from ≡ a → to ≡ b → start ≡ t1 → end ≡ t2 → Sound (book l list)
     → Takes (implies-sides q F) q l m (λ x. On buffer (part-of j first) (x .0) from to × On buffer (part-of j second) (x .1) from to)
-    → (Sound (book m list) → Gives state (book m list) (two-orders q from start end to) (book (r .ledger) list) tt)
+    → (Sound (book m list) → Gives state (book m list) (walk.need-cover q from to start end) (book (r .ledger) list) tt)
     → r .premise ≡ record { formula = begin (j .formula) first; from = time-numbers start; to = time-numbers end }
     → r .conclusion ≡ second → r .middle ≡ middle → r .next ≡ next
     → Used state buffer q list l F a b t1 t2 middle next r
@@ -132,16 +132,15 @@ put-to-use {state} {buffer} {list} {l} {m} {F} {from} {to} {start} {end} {q = q}
         (rw (p, c) (record { means = o .1 .means; from = time-back start; to = time-back end })) i n
     by (unfit d e) =
         let stopped : Gives state (book l list) (misfit q) (book m list) (tt {0}) = stops s refl e in
-        let rest : Unit {0} → Test = λ _. two-orders q from start end to in
+        let rest : Unit {0} → Test = λ _. walk.need-cover q from to start end in
         unused d (then state (book l list) (book m list) (book (r .ledger) list) (misfit q) tt rest tt stopped (orders (stopped .sound)))
 
--- The formulas compared, then the two orders.
-pub fits : {state list : List ℕ} {l m n r : Ledger} (F G : Formula) {from to a b c d : Time} {q : ℕ} → from ≡ a → to ≡ b
+-- The formulas compared, then the intervals.
+pub fits : {state list : List ℕ} {l m r : Ledger} (q : ℕ) (F G : Formula) {from to a b : Time} (c d : Time) → from ≡ a → to ≡ b
     → Gives state (book l list) (walk.same q F G) (book m list) tt
-    → Gives state (book m list) (ask-order q from c) (book n list) tt
-    → Gives state (book n list) (ask-order q d to) (book r list) tt
+    → Gives state (book m list) (walk.need-cover q from to c d) (book r list) tt
     → Gives state (book l list) (fits-goal q F a b G c d) (book r list) tt
 unfolding fits-goal
-fits {state} {list} {l} {m} {n} {r} F G {from} {to} {c = c} {d} {q} e f same one other =
-    let rest : Unit {0} → Test = λ _. two-orders q from c d to in
-    rw (← e, ← f) (then state (book l list) (book m list) (book r list) (walk.same q F G) tt rest tt same (both-orders one other))
+fits {state} {list} {l} {m} {r} q F G {from} {to} c d e f same covered =
+    let rest : Unit {0} → Test = λ _. walk.need-cover q from to c d in
+    rw (← e, ← f) (then state (book l list) (book m list) (book r list) (walk.same q F G) tt rest tt same covered)

@@ -18,6 +18,7 @@ use Rattle.judging.specs.declared.rows.Row.{Row}
 use Rattle.judging.specs.declared.rows.Whose.the-variants.{Plain, Claim}
 use Rattle.judging.specs.declared.judge.Inferred.{Inferred}
 use Rattle.ledger.specs.Books.{Book, book, Sound, Gives, misfitted}
+use Rattle.formula.specs.Meaning.{from-of, to-of}
 use Rattle.judging.specs.RowsOf.{row-in, RowIs, is-plain, is-claim, is-shut, Assumed, Certified, most-rows}
 use Rattle.judging.specs.Judging.{use-local, use-certificate, Yields}
 use Rattle.judging.proofs.Coming.{Comes, comes-with, comes-yields}
@@ -90,15 +91,16 @@ module _ {state buffer list : List ℕ} {l : Ledger} {row : Row} {index below ne
   plain-row (is-shut e i) p h f j m = absurd (omega arith)
 
   pub claim-row : {x : Assumption} {k : ℕ} → RowIs buffer row index below x → row .whose ≡ Claim k
-      → Gives state (book l list) (need-view q v k) (book (r .ledger) list) tt → r .judgement ≡ row .judgement → r .next ≡ next
+      → Gives state (book l list) (need-view q v k (from-of (row .judgement)) (to-of (row .judgement))) (book (r .ledger) list) tt → r .judgement ≡ row .judgement → r .next ≡ next
       → Yields state buffer (book l list) (assumed q v x) next r list
   unfolding assumed
   claim-row (is-plain e n o) p g j m = let z : _≡_ {A = ℕ} 0 1 = cc in absurd (omega arith)
   claim-row {k = k} (is-claim {k = i} {A} {a} {b} e o) p g j m =
       let same : i ≡ k = cc in
-      let viewed : Comes state (book l list) (need-view q v k) (book (r .ledger) list) (λ _. Unit {0}) = record { value = tt; gives = g; so = λ _. tt } in
+      let viewed : Comes state (book l list) (need-view q v k a b) (book (r .ledger) list) (λ _. Unit {0}) =
+      record { value = tt; gives = rw (o .from, o .to) at g; so = λ _. tt } in
       comes-yields state buffer (book l list) _ next r list
-      (rw same (comes-with state (book l list) (book (r .ledger) list) (need-view q v k) viewed (A, a, b) (rw j o, m)))
+      (rw same (comes-with state (book l list) (book (r .ledger) list) (need-view q v k a b) viewed (A, a, b) (rw j o, m)))
   claim-row (is-shut e i) p g j m = let z : _≡_ {A = ℕ} 0 1 = cc in absurd (omega arith)
 
 -- ── The steps ──

@@ -8,9 +8,9 @@ use Rattle.bl.specs.Trees.{Formula, Infer, local, certificate, first, second, a
 use Rattle.bl.specs.Certificates.{Statement}
 use Rattle.bl.specs.Rules.{Assumption, plain, claim, shut, shut-out, View, view-of}
 use Rattle.bl.specs.Questions.{Walk, done, misfit, ask, _>>=_, _>>_, Test}
-use Rattle.bl.specs.Walk.{Judgement, infer, check}
+use Rattle.bl.specs.Walk.{Judgement, need-cover, infer, check}
 use Rattle.judging.specs.declared.judge.Shell.the-variants.{AtShell, SaysShell}
-use Rattle.judging.specs.Judging.{and-then, use-local, use-certificate, and-sides, implies-sides, at-parts, says-parts, inside, top-goal, fact-goal, order-goal, first-side, second-side, put-in, two-orders, fits-goal}
+use Rattle.judging.specs.Judging.{and-then, use-local, use-certificate, and-sides, implies-sides, at-parts, says-parts, inside, top-goal, fact-goal, order-goal, first-side, second-side, put-in, fits-goal}
 
 -- Three walks, one after another.
 in-turn : {A B C : Type 0} (w : Walk A) (f : A → Walk B) (g : B → Walk C) → w >>= f >>= g ≡ w >>= (λ a. f a >>= g)
@@ -22,14 +22,14 @@ in-turn (ask x q w) f g = ap (ask x q) (in-turn w f g)
 -- 28 and 2A: the step inside checks what stands inside of the goal: where the goal stood, or in the view of who says it with the plain assumptions shut out.
 unfoldable pub check-inside : List Statement → List Assumption → View → Check → Assumption → Test
 check-inside cs Γ v M (plain A a b) = check cs Γ v M A a b
-check-inside cs Γ v M (claim k A a b) = check cs (map shut-out Γ) (view-of k) M A a b
+check-inside cs Γ v M (claim k A a b) = check cs (map shut-out Γ) (view-of k a b) M A a b
 check-inside cs Γ v M shut = misfit 0
 
--- 26 after its first step: both sides of the implication, and the two orders.
+-- 26 after its first step: both sides of the implication, and the interval that it must cover.
 unfoldable pub use-implication : ℕ → Time → Time → Judgement → Walk (Formula × Formula)
 use-implication q t1 t2 (F, a, b) = do
   x ← implies-sides q F
-  two-orders q a t1 t2 b
+  need-cover q a b t1 t2
   done x
 
 module _ (cs : List Statement) (Γ : List Assumption) (v : View) (q : ℕ) where
@@ -56,7 +56,7 @@ module _ (cs : List Statement) (Γ : List Assumption) (v : View) (q : ℕ) where
 
   pub apply-walk : (M : Infer) (N : Check) (t1 t2 : Time) → infer cs Γ v (apply q M N t1 t2)
       ≡ and-then (and-then (infer cs Γ v M) (use-implication q t1 t2)) (λ x. and-then (check cs Γ v N (x .0) t1 t2) (λ _. done (x .1, t1, t2)))
-  unfolding infer use-implication implies-sides two-orders _>>=_
+  unfolding infer use-implication implies-sides _>>=_
   apply-walk M N t1 t2 = simp in-turn
 
   module _ (G : Formula) (a b : Time) where
@@ -97,5 +97,5 @@ module _ (cs : List Statement) (Γ : List Assumption) (v : View) (q : ℕ) where
 
     -- An inferring step where one is checked, at the offset of its own tag.
     pub inferred-walk : (M : Infer) → offset M ≡ q → check cs Γ v (inferred M) G a b ≡ and-then (infer cs Γ v M) (λ j. fits-goal q (j .0) (j .1) (j .2) G a b)
-    unfolding check fits-goal two-orders
+    unfolding check fits-goal
     inferred-walk M e = rw e

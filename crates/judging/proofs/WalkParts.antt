@@ -4,7 +4,6 @@ use mathlib.Core.Path.{_≡_, refl}
 use mathlib.Core.List.{List, map}
 use mathlib.Core.Option.{Option, some, none}
 use mathlib.Core.Logic.{if-pos, if-neg}
-use native.Mathlib.Decide.{ℕ-discrete}
 use Rattle.procap.specs.declared.time.Time.{Time}
 use Rattle.procap.specs.declared.fact.Term.{Term}
 use Rattle.procap.specs.declared.fact.Term.the-variants.{Name, When}
@@ -12,27 +11,28 @@ use Rattle.bl.specs.Trees.{Place, fixed, Sort, Formula, top, and, implies, all,
 use Rattle.bl.specs.Questions.{Walk, done, misfit, _>>=_, ask-order, ask-fact, need}
 use Rattle.bl.specs.Kinds.{as-name, as-time, as-terms, as-top, as-and, as-implies, as-all, as-says, as-at, as-fact, as-order}
 use Rattle.bl.specs.Rules.{InView}
-use Rattle.bl.specs.Walk.{in-view?, need-view, need-sort}
-use Rattle.judging.specs.declared.judge.View.{View}
-use Rattle.judging.specs.declared.judge.View.the-variants.{NoView, ViewOf}
-use Rattle.judging.specs.Judging.{view-in, and-sides, implies-sides, at-parts, says-parts, top-goal, fact-goal, order-goal, put-in}
+use Rattle.bl.specs.Walk.{need-cover, in-view?, need-in-view, need-view, need-sort}
+use Rattle.judging.specs.declared.judge.Viewer.{Viewer}
+use Rattle.judging.specs.declared.judge.Viewer.the-variants.{Nobody, Principal}
+use Rattle.judging.specs.Judging.{view-by, and-sides, implies-sides, at-parts, says-parts, top-goal, fact-goal, order-goal, put-in}
 use Rattle.judging.specs.Pieces.{two-times}
 
 module _ (q : ℕ) where
   -- ── Views ──
 
-  -- The view of the principal, of another, of none.
-  pub own-view : (v : View) (j k : ℕ) → v ≡ ViewOf j → j ≡ k → need-view q (view-in v) k ≡ done tt
-  unfolding need-view in-view? InView view-in
-  own-view v j k e f = rw e (if-pos (ℕ-discrete j k) f (done tt) (misfit q))
+  -- The view of the principal, of another, of nobody.
+  module _ (v : Viewer) (k : ℕ) (a b c d : Time) where
+    pub own-view : (j : ℕ) → v ≡ Principal j → j ≡ k → need-view q (view-by v c d) k a b ≡ need-cover q a b c d
+    unfolding need-view need-in-view InView view-by _>>=_
+    own-view j e f = rw (e, if-pos (in-view? j k) f (done (tt {0})) (misfit q))
 
-  pub other-view : (v : View) (j k : ℕ) → v ≡ ViewOf j → (j ≡ k → ⊥) → need-view q (view-in v) k ≡ misfit q
-  unfolding need-view in-view? InView view-in
-  other-view v j k e n = rw e (if-neg (ℕ-discrete j k) n (done tt) (misfit q))
+    pub other-view : (j : ℕ) → v ≡ Principal j → (j ≡ k → ⊥) → need-view q (view-by v c d) k a b ≡ misfit q
+    unfolding need-view need-in-view InView view-by _>>=_
+    other-view j e n = rw (e, if-neg (in-view? j k) n (done (tt {0})) (misfit q))
 
-  pub no-view : (v : View) (k : ℕ) → v ≡ NoView → need-view q (view-in v) k ≡ misfit q
-  unfolding need-view in-view? InView view-in
-  no-view v k e = rw e
+    pub nobodys-view : v ≡ Nobody → need-view q (view-by v c d) k a b ≡ misfit q
+    unfolding need-view view-by
+    nobodys-view e = rw e
 
   -- ── What must be there ──
 

@@ -3,6 +3,7 @@ use Prim.Native.Nat.{ℕ}
 use mathlib.Core.Path.{_≡_}
 use mathlib.Core.List.{List}
 use Rattle.procap.specs.declared.time.Time.{Time}
+use Rattle.procap.specs.declared.time.Time.the-variants.{Ctime}
 use Rattle.procap.specs.declared.fact.Term.{Term}
 use Rattle.bl.specs.declared.FormulaTag.{FormulaTag}
 use Rattle.bl.specs.declared.FormulaTag.the-variants.{TopTag, AndTag, ImpliesTag, AllNamesTag, AllTimesTag, SaysTag, AtTag, AtomTag, FactTag, OrderTag, NoFormulaTag}
@@ -12,39 +13,58 @@ use Rattle.bl.specs.Kinds.{as-name, as-time, as-terms, as-top, as-and, as-impli
 use Rattle.bl.specs.Rules as rules
 use Rattle.procap.specs.Lists.{nth}
 use Rattle.bl.specs.Certificates.{Statement}
+use Rattle.procap.specs.Numbered.{time-of, time-numbers}
 use Rattle.bl.specs.Rules.{Assumption, plain, claim, no-view, view-of}
 use Rattle.bl.specs.Walk as walk
-use Rattle.bl.specs.Walk.{same, need-sort}
+use Rattle.bl.specs.Walk.{same, need-cover, need-sort}
 use Rattle.ledger.specs.declared.Ledger.{Ledger}
 use Rattle.ledger.specs.declared.Stop.the-variants.{Going}
 use Rattle.formula.specs.declared.parts.Judgement.{Judgement}
 use Rattle.judging.specs.declared.judge.View.{View}
-use Rattle.judging.specs.declared.judge.View.the-variants.{NoView, ViewOf}
+use Rattle.judging.specs.declared.judge.Viewer.{Viewer}
+use Rattle.judging.specs.declared.judge.Viewer.the-variants.{Nobody, Principal}
 use Rattle.judging.specs.declared.judge.Scope.{Scope}
 use Rattle.judging.specs.declared.judge.Shell.{Shell}
 use Rattle.judging.specs.declared.judge.Shell.the-variants.{AtShell, SaysShell}
+use Rattle.judging.specs.declared.rows.Row.{Row}
 use Rattle.judging.specs.declared.rows.Whose.{Whose}
 use Rattle.judging.specs.declared.rows.Whose.the-variants.{Plain, Claim}
 use Rattle.judging.specs.declared.judge.Inferred.{Inferred}
 use Rattle.judging.specs.declared.judge.Checked.{Checked}
 use Rattle.judging.specs.declared.judge.Application.{Application}
 use Rattle.ledger.specs.Books.{stop-of, Book, book, Gives, misfitted}
-use Rattle.formula.specs.Meaning.{begin, On}
+use Rattle.formula.specs.Meaning.{begin, from-of, to-of, On}
 use Rattle.formula.specs.PartPromises.{front-on-ctime}
 
 -- One walk, and then another.
 abbrev pub and-then : {A B : Type 0} → Walk A → (A → Walk B) → Walk B
 and-then w g = w >>= g
 
--- In whose view a step stands.
-unfoldable pub view-in : View → rules.View
-view-in NoView = no-view
-view-in (ViewOf k) = view-of k
+-- The view of a viewer on an interval.
+unfoldable pub view-by : Viewer → Time → Time → rules.View
+view-by Nobody c d = no-view
+view-by (Principal k) c d = view-of k c d
 
--- [Rules 2A] The scope inside of a shell: in a "says" the view of who says it, with the plain assumptions from outside shut out.
-abbrev pub scope-inside : Scope → Whose → Scope
-scope-inside scope Plain = scope
-scope-inside scope (Claim k) = record { count = scope .count; shut = scope .count; view = ViewOf k }
+-- In whose view a step stands, and on which interval.
+abbrev pub view-in : View → rules.View
+view-in v = view-by (v .viewer) (time-of (v .from)) (time-of (v .to))
+
+-- [Rules, judgements] The scope at the start of a walk: nothing is assumed, and the view is nobody's; its interval says nothing.
+abbrev pub outermost : Scope
+outermost = record { count = 0; shut = 0; view = record { viewer = Nobody; from = time-numbers Ctime; to = time-numbers Ctime } }
+
+-- The view of k on the interval of a judgement.
+abbrev pub view-on : ℕ → Judgement → View
+view-on k j = record { viewer = Principal k; from = j .from; to = j .to }
+
+-- The same, by whose the row inside of the shell is.
+abbrev pub scope-by : Scope → Whose → Judgement → Scope
+scope-by scope Plain j = scope
+scope-by scope (Claim k) j = record { count = scope .count; shut = scope .count; view = view-on k j }
+
+-- [Rules 2A] The scope inside of a shell: in a "says" the view of who says it, on the interval that is checked, with the plain assumptions from outside shut out.
+abbrev pub scope-inside : Scope → Row → Scope
+scope-inside scope row = scope-by scope (row .whose) (row .judgement)
 
 -- 20 and 21: an assumption, a certificate.
 unfoldable pub use-local : ℕ → rules.View → List Assumption → ℕ → Walk walk.Judgement
@@ -55,7 +75,7 @@ use-local q v Γ i = do
 unfoldable pub use-certificate : ℕ → rules.View → List Statement → ℕ → Walk walk.Judgement
 use-certificate q v cs i = do
   c ← need q (nth cs i)
-  walk.need-view q v (c .by)
+  walk.need-view q v (c .by) (c .from) (c .to)
   done (c .says, c .from, c .to)
 
 -- The part of a judgement that begins at another place, on the same interval.
@@ -165,16 +185,11 @@ put-in q t (F, a, b) = do
   need-sort q s t
   done (put 0 t A, a, b)
 
--- The two interval tests of 26, and of an inferring step where one is checked.
-unfoldable pub two-orders : ℕ → Time → Time → Time → Time → Test
-two-orders q a c d b = do
-  ask-order q a c
-  ask-order q d b
-
+-- An inferring step where one is checked.
 unfoldable pub fits-goal : ℕ → Formula → Time → Time → Formula → Time → Time → Test
 fits-goal q F a b G c d = do
   same q F G
-  two-orders q a c d b
+  need-cover q a b c d
 
 -- A step takes a value that is so, and the ledger stays; or it does not fit, and the ledger stops there.
 pub data Takes {X : Type 0} (w : Walk X) (q : ℕ) (l r : Ledger) (So : X → Type 0) : Type 0 where
@@ -198,7 +213,7 @@ pub record Passes (state : List ℕ) (b : Book) (w : Test) (e : ℕ) (r : Checke
 -- 26, before its second step: an implication put to use on [t1,t2], or nothing of the kind.
 pub data Used (state buffer : List ℕ) (q : ℕ) (list : List ℕ) (l : Ledger) (F : Formula) (a b t1 t2 : Time) (middle next : ℕ) (r : Application) : Type 0 where
   used : (A B : Formula) → implies-sides q F ≡ done (A, B)
-      → Gives state (book l list) (two-orders q a t1 t2 b) (book (r .ledger) list) tt
+      → Gives state (book l list) (need-cover q a b t1 t2) (book (r .ledger) list) tt
       → On buffer (r .premise) A t1 t2 → On buffer (part-of (r .premise) (r .conclusion)) B t1 t2 → r .middle ≡ middle → r .next ≡ next
       → Used state buffer q list l F a b t1 t2 middle next r
   unused : implies-sides q F ≡ misfit q → Gives state (book l list) (misfit q) (book (r .ledger) list) (tt {0}) → Used state buffer q list l F a b t1 t2 middle next r

@@ -27,14 +27,22 @@ ghost use mathlib.Core.Path.{_≡_};
 ghost use Rattle.procap.specs.Writable.{TermInForm};
 ghost use Rattle.bl.specs.Walk as walk;
 ghost use Rattle.ledger.specs.Books.{misfitted, Leads};
-ghost use Rattle.judging.specs.Judging.{«view-in», «scope-inside», «part-of», «nothing-inferred», «top-goal», «order-goal», «first-side», «second-side», «put-in»};
+ghost use Rattle.formula.specs.Meaning.{«from-of», «to-of»};
+ghost use Rattle.judging.specs.Judging.{«view-in», outermost, «scope-inside», «part-of», «nothing-inferred», «top-goal», «order-goal», «first-side», «second-side», «put-in»};
 ghost use Rattle.judging.specs.StepPromises.{UsesRow, UsesLocal, UsesCertificate, TakesSides, TakesConjuncts, StaysStopped, TakesTimes, TakesAt, TakesSays, TakesInside, TakesInsideInferred, Continues, PutsToUse, MeetsGoal, MeetsFact, FitsGoal, ChecksInferred};
 ghost use Rattle.judging.specs.Pieces.{«binder-of»};
 
-// In whose view a step stands.
-pub enum View {
-    NoView,
-    ViewOf(u64),
+// Whose a view is: nobody's, or a principal's.
+pub enum Viewer {
+    Nobody,
+    Principal(u64),
+}
+
+// In whose view a step stands, and on which interval, which says nothing where it is nobody's.
+pub struct View {
+    pub viewer: Viewer,
+    pub from: TimeNumbers,
+    pub to: TimeNumbers,
 }
 
 // Where a step stands: how many assumptions are around it, below which of them the plain ones are shut out, and its view.
@@ -132,30 +140,73 @@ pub fn nothing(ledger: Ledger) -> Inferred
 }
 
 impl Scope {
-    // The scope inside of a shell: the same in an "at"; in a "says" the view of who says it, with the plain assumptions from outside shut out.
-    pub fn inside(self, whose: Whose) -> Scope
-        ensures { λ r. ⌜ r ≡ «scope-inside» self whose ⌝ }
+    // The scope at the start of a walk: nothing is assumed, and the view is nobody's.
+    pub fn outermost() -> Scope
+        ensures { λ r. ⌜ r ≡ outermost ⌝ }
     {
+        Scope {
+            count: 0,
+            shut: 0,
+            view: View {
+                viewer: Viewer::Nobody,
+                from: Time::ctime().numbers(),
+                to: Time::ctime().numbers(),
+            },
+        }
+    }
+
+    // The scope inside of a shell, by the row that stands there: the same in an "at"; in a "says" the view of who says it, on the row's interval, with the plain assumptions from outside shut out.
+    pub fn inside(self, row: Row) -> Scope
+        ensures { λ r. ⌜ r ≡ «scope-inside» self row ⌝ }
+    {
+        let whose = row.whose;
+        let judgement = row.judgement;
+        let from = judgement.from;
+        let to = judgement.to;
         match whose {
             Whose::Plain => self,
             Whose::Claim(principal) => Scope {
                 count: self.count,
                 shut: self.count,
-                view: View::ViewOf(principal),
+                view: View {
+                    viewer: Viewer::Principal(principal),
+                    from: from,
+                    to: to,
+                },
             },
         }
     }
 }
 
-// The view must be this principal.
-fn in_view(ledger: Ledger, offset: usize, view: View, principal: u64) -> Ledger
-    ensures { λ r. ⌜ Leads ledger (walk.«need-view» offset («view-in» view) principal) r ⌝ }
+// The interval of a judgement must cover another: it begins no later, and then it ends no earlier.
+fn covers(ledger: Ledger, offset: usize, judgement: Judgement, from: Time, to: Time) -> Ledger
+    ensures { λ r. ⌜ Leads ledger (walk.«need-cover» offset («from-of» judgement) («to-of» judgement) from to) r ⌝ }
 {
-    match view {
-        View::NoView => ledger.misfit(offset),
-        View::ViewOf(viewer) => {
-            if viewer == principal {
-                ledger
+    let begin = judgement.from;
+    let end = judgement.to;
+    let asked = ask_order(ledger, offset, begin.time(), from);
+    ask_order(asked, offset, to, end.time())
+}
+
+// What a principal claims or certifies must be usable in the view: the view must be the principal's, and then the judgement's interval must cover the view's.
+fn in_view(
+    ledger: Ledger,
+    offset: usize,
+    view: View,
+    principal: u64,
+    judgement: Judgement,
+) -> Ledger
+    ensures { λ r. ⌜ Leads ledger (walk.«need-view» offset («view-in» view) principal («from-of» judgement) («to-of» judgement)) r ⌝ }
+{
+    let viewer = view.viewer;
+    let from = view.from;
+    let to = view.to;
+    let covered = covers(ledger, offset, judgement, from.time(), to.time());
+    match viewer {
+        Viewer::Nobody => ledger.misfit(offset),
+        Viewer::Principal(own) => {
+            if own == principal {
+                covered
             } else {
                 ledger.misfit(offset)
             }
@@ -163,7 +214,7 @@ fn in_view(ledger: Ledger, offset: usize, view: View, principal: u64) -> Ledger
     }
 }
 
-// A row, used as it stands: a plain assumption unless it is shut out, a claim in the view of its principal.
+// A row, used as it stands: a plain assumption unless it is shut out, a claim in a view of its principal that it covers.
 fn row_used(
     rows: &[u64],
     index: usize,
@@ -193,7 +244,7 @@ fn row_used(
             }
         }
         Whose::Claim(principal) => Inferred {
-            ledger: in_view(ledger, offset, view, principal),
+            ledger: in_view(ledger, offset, view, principal, judgement),
             judgement: judgement,
             next: next,
         },
@@ -219,7 +270,7 @@ pub fn local(
     row_used(assumptions, count - back - 1, scope, offset, ledger, next)
 }
 
-// 21: a certificate; its row is a claim, and so needs the view of its principal.
+// 21: a certificate; its row is a claim of its principal, and needs the view that a claim needs.
 pub fn certificate(
     proof: &[u8],
     certificates: &[u64],
@@ -343,8 +394,6 @@ fn applied(
 {
     let ledger = inferred.ledger;
     let judgement = inferred.judgement;
-    let from = judgement.from;
-    let to = judgement.to;
     let parts = sides_of(buffer, offset, FormulaTag::ImpliesTag, judgement, ledger);
     let after_parts = parts.ledger;
     let formula = judgement.formula;
@@ -353,8 +402,7 @@ fn applied(
     let t2 = time_at(proof, t1.next);
     let begin = t1.time;
     let end = t2.time;
-    let asked = ask_order(after_parts, offset, from.time(), begin);
-    let after_asked = ask_order(asked, offset, end, to.time());
+    let after_asked = covers(after_parts, offset, judgement, begin, end);
     let starts = begin.numbers();
     let ends = end.numbers();
     let one = FormulaAt {
@@ -610,11 +658,9 @@ fn within(buffer: &[u8], bytes: &[u8], offset: usize, inferred: Inferred, goal: 
     let ledger = inferred.ledger;
     let judgement = inferred.judgement;
     let formula = judgement.formula;
-    let a = judgement.from;
-    let b = judgement.to;
     let goal_formula = goal.formula;
-    let c = goal.from;
-    let d = goal.to;
+    let from = goal.from;
+    let to = goal.to;
     let compared = same(
         buffer,
         formula,
@@ -626,8 +672,7 @@ fn within(buffer: &[u8], bytes: &[u8], offset: usize, inferred: Inferred, goal: 
         MOST_FORMULA_LEVELS,
     );
     let after_compared = compared.ledger;
-    let asked = ask_order(after_compared, offset, a.time(), c.time());
-    ask_order(asked, offset, d.time(), b.time())
+    covers(after_compared, offset, judgement, from.time(), to.time())
 }
 
 // An inferring step where one is checked: where it has stopped, so has the whole.

@@ -27,8 +27,6 @@ use Rattle.bl.proofs.FactsCounted.{at-most-16-asked}
 use Rattle.ledger.specs.declared.Reading.{Reading}
 use Rattle.ledger.specs.declared.Reading.the-variants.{Office, Press}
 use Rattle.ledger.specs.declared.Ledger.{Ledger}
-use Rattle.judging.specs.declared.judge.Scope.{Scope}
-use Rattle.judging.specs.declared.judge.View.the-variants.{NoView}
 use Rattle.formula.specs.declared.parts.Judgement.{Judgement}
 use Rattle.judging.specs.declared.judge.Checked.{Checked}
 use Rattle.ledger.proofs.Stopping.{at-press}
@@ -36,7 +34,7 @@ use Rattle.ledger.specs.Books.{opened, stopped-by, begun, stop-by, reading-by, 
 use Rattle.formula.specs.PutIn.{no-terms}
 use Rattle.formula.specs.Meaning.{Means}
 use Rattle.judging.specs.RowsOf.{Assumed, all-numbers}
-use Rattle.judging.specs.Judging.{view-in}
+use Rattle.judging.specs.Judging.{view-by, outermost}
 use Rattle.walk.specs.Walking.{Sources, Around, ChecksAt}
 use Rattle.verifier.specs.Verifying.{Walked}
 
@@ -73,10 +71,7 @@ module _ {A : Type 0} (state list : List ℕ) (w : Walk A) where
       let same : m + 1 - 1 ≡ m = omega arith in
       rw (le-leb m latest on-clock, at-press (m + 1) (λ e. omega arith), same)
 
--- Where the walk of a request begins: nothing is assumed, and there is no view.
-abbrev outermost : Scope
-outermost = record { count = 0; shut = 0; view = NoView }
-
+-- What the walk of a request begins with.
 abbrev goal-on-ctime : Judgement
 goal-on-ctime = record { formula = record { at = 0; terms = no-terms }; from = time-numbers Ctime; to = time-numbers Ctime }
 
@@ -85,7 +80,7 @@ walk-of-goal : (r : Request) (S : Sources) (assumptions goal-bytes : List ℕ) (
     → Means goal-bytes 0 (record { at = 0; terms = no-terms }) (goal r)
     → ChecksAt S assumptions outermost (begun reading) list most-proof-levels goal-bytes goal-on-ctime 0 c list′
     → Walked (record { request = r; reading = reading }) (S .buffer) (S .proof) (S .state) (S .certificates) (S .ends) list (c .ledger) list′
-unfolding Assumed walk view-in time-of
+unfolding Assumed walk view-by time-of
 walk-of-goal r S assumptions goal-bytes reading list c list′ all-there means checks cs N room reads =
     let around : Around S assumptions outermost most-proof-levels cs [] = record { certified = reads .certified; assumed = tt; shut-inside = omega arith; room = omega arith; all-there = all-there } in
     let passes = checks cs [] N (length (S .proof)) (begun-sound reading list room) around (proof-step (length cs) (S .proof) N (reads .proof-reads)) (reads .told) (goal r) means in

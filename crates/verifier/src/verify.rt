@@ -3,7 +3,6 @@ use crate::certificates::take_records;
 use bl::Certificate;
 use formula::parts::Judgement;
 use judging::judge::Scope;
-use judging::judge::View;
 use judging::rows::ALL_NUMBERS;
 use ledger::LIST_NUMBERS;
 use ledger::Ledger;
@@ -241,13 +240,8 @@ fn walked(
     let reading = asked.reading;
     let bytes = goal_of(request);
     let goal = Judgement::front_on_ctime();
-    let scope = Scope {
-        count: 0,
-        shut: 0,
-        view: View::NoView,
-    };
     let here = Here {
-        scope: scope,
+        scope: Scope::outermost(),
         at: 0,
         ledger: Ledger::begin(reading),
         left: MOST_PROOF_LEVELS,

@@ -25,7 +25,6 @@ use Rattle.ledger.specs.declared.Stop.the-variants.{Going}
 use Rattle.ledger.specs.declared.Ledger.{Ledger}
 use Rattle.formula.specs.declared.parts.Judgement.{Judgement}
 use Rattle.judging.specs.declared.judge.Scope.{Scope}
-use Rattle.judging.specs.declared.judge.View.the-variants.{ViewOf}
 use Rattle.judging.specs.declared.judge.Inferred.{Inferred}
 use Rattle.judging.specs.declared.judge.Checked.{Checked}
 use Rattle.judging.specs.declared.judge.Shell.{Shell}
@@ -36,7 +35,7 @@ use Rattle.ledger.specs.Books.{stop-of, book, Sound, Gives}
 use Rattle.formula.specs.Meaning.{from-of, to-of, Means, On}
 use Rattle.judging.specs.RowsOf.{RowIs, is-plain, is-claim, is-shut, most-rows}
 use Rattle.judging.specs.RowNumbers.{rows-with}
-use Rattle.judging.specs.Judging.{view-in, scope-inside, part-of, and-then, sides, TwoSided, and-sides, inside, top-goal, fact-goal, order-goal, Passes}
+use Rattle.judging.specs.Judging.{view-by, view-in, view-on, scope-inside, part-of, and-then, sides, TwoSided, and-sides, inside, top-goal, fact-goal, order-goal, Passes}
 use Rattle.judging.specs.StepPromises.{TakesSides, TakesInside, TakesInsideInferred, StaysStopped, ChecksInferred}
 use Rattle.walk.specs.Walking.{Sources, Around, Keeps, InfersAt, ChecksAt, ChecksBy}
 use Rattle.walk.specs.WalkCalls.{Puts, puts-at, puts-says, TakesOut, takes-at, takes-says}
@@ -284,20 +283,20 @@ module _ (S : Sources) (rows : List ℕ) (scope : Scope) (ledger : Ledger) (list
         part-passes : (cs : List Statement) (Γ : List Assumption) (N : Check) (e : ℕ) → Sound (book (held .ledger) list) → Around S rows scope (suc left) cs Γ
             → (begin : ℕ) → check-step (S .proof) (length cs) left (scope .count) begin ≡ some (N, e) → ToldChecking (S .ends) N
             → {r : Checked} {list′ : List ℕ}
-            → ChecksAt S rows (scope-inside scope (held .row .whose)) (held .ledger) list left goal-bytes (held .row .judgement) begin r list′
+            → ChecksAt S rows (scope-inside scope (held .row)) (held .ledger) list left goal-bytes (held .row .judgement) begin r list′
             → (x : Assumption) → RowIs goal-bytes (held .row) 0 0 x
             → Passes (S .state) (book (held .ledger) list) (check-inside cs Γ view N x) e r list′
-        unfolding check-inside view-in
+        unfolding check-inside view-by
         part-passes cs Γ N e sound around begin reads told {r} {list′} checks x (is-plain {A} {a} {b} plain-row usable on) =
             passes-on (S .state) goal-bytes (held .row .judgement) A a b on (check cs Γ view N A) (book (held .ledger) list) e r list′
             ((rw plain-row at checks) cs Γ N e sound (around-part S rows scope left cs Γ around) reads told A (on .means))
         part-passes cs Γ N e sound around begin reads told {r} {list′} checks x (is-claim {k} {A} {a} {b} claimed on) =
-            passes-on (S .state) goal-bytes (held .row .judgement) A a b on (check cs (map shut-out Γ) (view-of k) N A) (book (held .ledger) list) e r list′
-            ((rw claimed at checks) cs (map shut-out Γ) N e sound (around-said S rows scope left cs Γ around (ViewOf k)) reads told A (on .means))
+            passes-on (S .state) goal-bytes (held .row .judgement) A a b on (λ a b. check cs (map shut-out Γ) (view-of k a b) N A a b) (book (held .ledger) list) e r list′
+            ((rw claimed at checks) cs (map shut-out Γ) N e sound (around-said S rows scope left cs Γ around (view-on k (held .row .judgement))) reads told A (on .means))
         part-passes cs Γ N e sound around begin reads told checks x (is-shut plain-row lower) = absurd (omega arith)
 
         pub check-put : stop-of (held .ledger) ≡ Going → {begin : ℕ} → (at < length (S .proof) → begin ≡ at + 1) → {r : Checked} {list′ : List ℕ}
-            → ChecksAt S rows (scope-inside scope (held .row .whose)) (held .ledger) list left goal-bytes (held .row .judgement) begin r list′
+            → ChecksAt S rows (scope-inside scope (held .row)) (held .ledger) list left goal-bytes (held .row .judgement) begin r list′
             → (tag : CheckTag) → Puts tag shell → By tag r list′
         check-put going begins {r} {list′} checks tag is cs Γ N e sound around reads told G means =
             let found = put-read (S .proof) (S .ends) (length cs) left (scope .count) at tag shell N e is reads told in

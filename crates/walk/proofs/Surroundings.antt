@@ -17,7 +17,7 @@ use Rattle.judging.specs.declared.judge.Checked.{Checked}
 use Rattle.formula.specs.PutIn.{terms-numbers}
 use Rattle.judging.specs.declared.rows.Whose.{Whose}
 use Rattle.judging.specs.declared.rows.Whose.the-variants.{Plain, Claim}
-use Rattle.judging.specs.Judging.{scope-inside}
+use Rattle.judging.specs.Judging.{scope-by}
 use Rattle.judging.specs.RowsOf.{row-in, RowIs, is-plain, is-claim, is-shut, Assumed}
 use Rattle.judging.specs.RowNumbers.{rows-with}
 use Rattle.judging.proofs.RowLaws.{row-there, earlier-stay}
@@ -71,9 +71,9 @@ pub keeps-others : (count : ℕ) (before : List ℕ) (row : Row) {after : List �
 keeps-others count before row put all = record { rows = earlier-stay before count row put; all = all }
 
 -- The scope inside of a shell has as many rows.
-pub keeps-inside : (scope : Scope) (whose : Whose) {before after : List ℕ} → Keeps (scope-inside scope whose .count) before after → Keeps (scope .count) before after
-keeps-inside scope Plain keeps = keeps
-keeps-inside scope (Claim k) keeps = keeps
+pub keeps-inside : (scope : Scope) (whose : Whose) (j : Judgement) {before after : List ℕ} → Keeps (scope-by scope whose j .count) before after → Keeps (scope .count) before after
+keeps-inside scope Plain j keeps = keeps
+keeps-inside scope (Claim k) j keeps = keeps
 
 -- What keeps it, too, keeps those below it.
 pub keeps-put : {count : ℕ} {before more after : List ℕ} → Keeps count before more → Keeps (count + 1) more after → Keeps count before after

@@ -176,13 +176,12 @@ fn put_in(
     let inside = inside_of(goal_bytes, at, shell, goal, ledger);
     let after_inside = inside.ledger;
     let row = inside.row;
-    let whose = row.whose;
     let judgement = row.judgement;
     if !after_inside.goes_on() {
         return Checked { ledger: after_inside, next: at };
     }
     let left = here.left - 1;
-    let inner = Here { scope: scope.inside(whose), at: past(proof, at), ledger: after_inside, left: left };
+    let inner = Here { scope: scope.inside(row), at: past(proof, at), ledger: after_inside, left: left };
     check(buffer, proof, state, certificates, ends, facts, assumptions, goal_bytes, judgement, inner)
 }
 

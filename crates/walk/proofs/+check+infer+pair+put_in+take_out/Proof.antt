@@ -564,19 +564,19 @@ put-in-returns-2 t c =
     let after-inside-of = after-goes-on .before .before .before .before in
     let start = after-inside-of .before .before .before .before .before .before .before .before .before .before .before in (
       check-put _ _ _ _ _ _ _ _ _ _ (after-inside-of .inside-of .ensures) (holds-else (after-goes-on .goes-on .result) (after-if1 .if1 .left) (after-goes-on .goes-on .ensures)) (after-past .past .ensures .0) (rw (after-inside .inside .ensures) at (after-check .check .ensures .0)),
-      keeps-inside (start .args .here .scope) (after-inside-of .inside-of .result .row .whose) (rw (after-inside .inside .ensures) at (after-check .check .ensures .1)),
+      keeps-inside (start .args .here .scope) (after-inside-of .inside-of .result .row .whose) (after-inside-of .inside-of .result .row .judgement) (rw (after-inside .inside .ensures) at (after-check .check .ensures .1)),
     )
 
 -- ── take_out ──
 
 take-out-part-requires : (t : ℕ) → take-out-lts.Need-part-requires (take-out-calls t) (take-out-at t) take-out.Post
 take-out-part-requires t c κs =
-    let start = c .before .before .before .before .before .before .before .before .before .before .before .before .before .before in
+    let start = c .before .before .before .before .before .before .before .before .before .before .before .before .before .before .before in
     start .pre .1
 
 take-out-infer-requires : (t : ℕ) → take-out-lts.Need-infer-requires (take-out-calls t) (take-out-at t) take-out.Post
 take-out-infer-requires t c κs =
-    let start = c .before .before .before .before .before .before .before .before .before .before .before .before .before .before .before in
+    let start = c .before .before .before .before .before .before .before .before .before .before .before .before .before .before .before .before in
     (here-falls _ (start .args .here) _ _ _ _ _ (c .part .ensures) (start .pre .1) (start .pre .0), tt)
 
 take-out-returns : (t : ℕ) → take-out-lts.Need-returns (take-out-calls t) (take-out-at t) take-out.Post
@@ -605,12 +605,12 @@ take-out-returns-2 t c =
 
 take-out-sub-left : (t : ℕ) → take-out-lts.Need-sub-left (take-out-calls t) (take-out-at t) take-out.Post
 take-out-sub-left t c =
-    let start = c .before .before .before .before .before .before .before .before .before .before .before .before .before .before .before .before .before .before .before .before .before .before .before .before .before .before .before .before .before .before .before in
+    let start = c .before .before .before .before .before .before .before .before .before .before .before .before .before .before .before .before .before .before .before .before .before .before .before .before .before .before .before .before .before .before .before .before in
     omega (arith, start .pre .1)
 
 take-out-check-requires : (t : ℕ) → take-out-lts.Need-check-requires (take-out-calls t) (take-out-at t) take-out.Post
 take-out-check-requires t c κs =
-    let start = c .before .before .before .before .before .before .before .before .before .before .before .before .before .before .before .before .before .before .before .before .before .before .before .before .before .before .before .before .before .before .before .before .before in
+    let start = c .before .before .before .before .before .before .before .before .before .before .before .before .before .before .before .before .before .before .before .before .before .before .before .before .before .before .before .before .before .before .before .before .before .before in
     (part-falls _ (start .args .here) _ _ (start .pre .1) (start .pre .0), tt)
 
 take-out-same-length-5 : (t : ℕ) → take-out-lts.Need-same-length-5 (take-out-calls t) (take-out-at t) take-out.Post

@@ -9,11 +9,12 @@ returns : tie.Need-returns
 returns c =
     let check = c .before .before .before .before .check in
     let begun = c .before .before .before .before .before .before .before .before in
-    let goal = begun .before .front-on-ctime in
+    let scope = begun .before .outermost in
+    let goal = begun .before .before .front-on-ctime in
     walk-of-request _ _ _ _ _ _ (check .result) (check .last .1 .1 .1 .1 .1 .0) (begun .begin .result) (goal .result) (begun .begin .ensures) (goal .ensures)
-    refl (begun .before .before .goal-of .ensures) (check .ensures .0)
+    refl (begun .before .before .before .goal-of .ensures) (rw (scope .ensures) at (check .ensures .0))
 
 pub walked-spec : {M : Type 1} → statement M
 walked-spec =
     tie.close
-    (tie.spec (λ c κs. search needs) (λ c κs. search needs) (λ c κs. search needs) (λ c. search needs) (λ c. search needs) (λ c κs. search needs) (λ c. search needs) returns)
+    (tie.spec (λ c κs. search needs) (λ c κs. search needs) (λ c κs. search needs) (λ c κs. search needs) (λ c. search needs) (λ c. search needs) (λ c κs. search needs) (λ c. search needs) returns)
