@@ -7,10 +7,18 @@ use crate::data::Time;
 pub enum Clause {
     /// 20: whoever claims the assumption is the principal of the view.
     ClaimInItsView,
+    /// 20: the claim's interval begins no later than the view's.
+    ClaimFromViewsStart,
+    /// 20: the view's interval ends no later than the claim's.
+    ClaimToViewsEnd,
     /// 20: a plain assumption was made inside of the innermost says-in.
     PlainFromInside,
     /// 21: the certificate's principal is the principal of the view.
     CertificateInItsView,
+    /// 21: the certificate's interval begins no later than the view's.
+    CertificateFromViewsStart,
+    /// 21: the view's interval ends no later than the certificate's.
+    CertificateToViewsEnd,
     /// 23: a conjunction was inferred.
     FirstOfConjunction,
     /// 24: a conjunction was inferred.
@@ -75,8 +83,12 @@ impl Clause {
     /// Every clause there is.
     pub const ALL: &'static [Clause] = &[
         Clause::ClaimInItsView,
+        Clause::ClaimFromViewsStart,
+        Clause::ClaimToViewsEnd,
         Clause::PlainFromInside,
         Clause::CertificateInItsView,
+        Clause::CertificateFromViewsStart,
+        Clause::CertificateToViewsEnd,
         Clause::FirstOfConjunction,
         Clause::SecondOfConjunction,
         Clause::ApplyImplication,

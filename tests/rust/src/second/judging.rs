@@ -9,6 +9,7 @@ use super::steps::{Check, Checking, Inference, Inferring, Step};
 use super::terms::sort_of;
 use super::times::Interval;
 use super::trying::Trial;
+use super::viewing::{View, Viewer, Words};
 use crate::data::{Answer, Request, Term, Time};
 use std::rc::Rc;
 
@@ -30,13 +31,6 @@ pub struct Goal<'g> {
 struct Assumption {
     judgement: Judgement,
     claimed_by: Option<u16>,
-}
-
-/// In whose view a goal is checked, and how many assumptions were made outside of that view.
-#[derive(Clone, Copy)]
-struct View {
-    principal: Option<u16>,
-    outside: usize,
 }
 
 /// One walk over a proof.
@@ -66,11 +60,7 @@ pub fn walk<R: Reading, W: Watch>(
             to: Time::Ctime,
         },
     };
-    let view = View {
-        principal: None,
-        outside: 0,
-    };
-    walk.check(proof, goal, view)
+    walk.check(proof, goal, View::NOBODYS)
 }
 
 impl<R: Reading, W: Watch> Walk<'_, R, W> {
@@ -127,8 +117,9 @@ impl<R: Reading, W: Watch> Walk<'_, R, W> {
         let (position, assumption) = numbered.nth(index).ok_or(Answer::refused(2, 0))?;
         match assumption.claimed_by {
             Some(principal) => {
-                let in_view = view.principal == Some(principal);
-                self.trial.fits(Clause::ClaimInItsView, in_view, offset)?;
+                let interval = assumption.judgement.interval;
+                let (trial, words) = (&mut self.trial, Words::OF_A_CLAIM);
+                view.usable(trial, words, principal, interval, offset)?;
             }
             None => {
                 let from_inside = position >= view.outside;
@@ -139,12 +130,12 @@ impl<R: Reading, W: Watch> Walk<'_, R, W> {
         Ok(assumption.judgement.clone())
     }
 
-    /// 21: what the certificate with this index says, if it is one of the view's principal.
+    /// 21: what the certificate with this index says, if it can be used in the view.
     fn certificate(&mut self, index: usize, view: View, offset: u64) -> Result<Judgement, Answer> {
         let certificate = self.certificates.get(index).ok_or(Answer::refused(2, 0))?;
-        let in_view = view.principal == Some(certificate.principal);
-        self.trial
-            .fits(Clause::CertificateInItsView, in_view, offset)?;
+        let (principal, interval) = (certificate.principal, certificate.judgement.interval);
+        let (trial, words) = (&mut self.trial, Words::OF_A_CERTIFICATE);
+        view.usable(trial, words, principal, interval, offset)?;
         Ok(certificate.judgement.clone())
     }
 
@@ -229,7 +220,7 @@ impl<R: Reading, W: Watch> Walk<'_, R, W> {
         self.check(second, goal.with(right), view)
     }
 
-    /// 28: a formula at an interval, shown on that interval.
+    /// 28: a formula at an interval, shown on that interval; the view's interval stays.
     fn at_in(&mut self, inside: &Step, goal: Goal, view: View, offset: u64) -> Result<(), Answer> {
         let at = goal.formula.at();
         let (interval, formula) = self.trial.found(Clause::AtInGoal, at, offset)?;
@@ -256,12 +247,15 @@ impl<R: Reading, W: Watch> Walk<'_, R, W> {
         self.check_assuming(plain, rest, goal, view)
     }
 
-    /// 2A: what a principal says, shown in that principal's view.
+    /// 2A: what a principal says, shown in that principal's view on the goal's interval.
     fn says_in(&mut self, inside: &Step, goal: Goal, offset: u64) -> Result<(), Answer> {
         let says = goal.formula.says();
         let (principal, said) = self.trial.found(Clause::SaysInGoal, says, offset)?;
         let view = View {
-            principal: Some(principal),
+            viewer: Some(Viewer {
+                principal,
+                interval: goal.interval,
+            }),
             outside: self.assumptions.len(),
         };
         self.check(inside, goal.with(said), view)

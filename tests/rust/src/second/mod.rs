@@ -21,6 +21,7 @@ mod times;
 mod trying;
 mod values;
 mod verify;
+mod viewing;
 mod wanted;
 
 use crate::data::{Answer, Case, Fact, Procap, Request};
