@@ -7,7 +7,6 @@ use super::office::{Assumption, Office};
 use super::step::Step;
 use super::tags;
 use super::word::Word;
-use crate::data::Time;
 
 impl Office<'_> {
     /// The goal checked with one more assumption, mostly one that can show it.
@@ -29,10 +28,30 @@ impl Office<'_> {
         self.grown(spelled, levels, moves, false).0
     }
 
+    /// What an assumption is to help with: the goal or, mostly, what stands in it under `at`, there; for a claim, under
+    /// `says` as well.
+    fn helped(&mut self, goal: &Goal, claim: bool) -> Goal {
+        let formula = &goal.formula;
+        let inside = match formula.tag {
+            tags::AT => formula
+                .span()
+                .map(|span| goal.under(&formula.parts[0], span)),
+            tags::SAYS if claim => goal.inside_of_says(),
+            _ => None,
+        };
+        match inside {
+            Some(inside) if goal.levels > 4 && !self.random.one_in(5) => {
+                self.helped(&inside, claim)
+            }
+            _ => goal.clone(),
+        }
+    }
+
     /// The goal checked with a plain assumption from an `at`.
     fn at_out(&mut self, goal: &Goal) -> Option<Step> {
-        let formula = self.helpful(&goal.formula, goal.levels - 2);
-        let span = self.around(goal.span);
+        let helped = self.helped(goal, false);
+        let formula = self.helpful(&helped.formula, helped.levels - 2);
+        let span = self.clock.around(self.random, helped.span);
         let whole = Formula::at(Word::when(span.from), Word::when(span.to), formula.clone());
         let anywhere = Span {
             from: self.time(),
@@ -51,14 +70,12 @@ impl Office<'_> {
 
     /// The goal checked with a claim from a `says`, of the principal whose words the goal asks for.
     fn says_out(&mut self, goal: &Goal) -> Option<Step> {
-        let said = (goal.formula.tag == tags::SAYS).then(|| goal.formula.words[0].as_name());
-        let (name, wanted) = match said.flatten() {
-            Some(name) if !self.random.one_in(5) => (name, goal.formula.parts[0].clone()),
-            _ => (goal.view, goal.formula.clone()),
-        };
-        let formula = self.helpful(&wanted, goal.levels - 2);
+        let helped = self.helped(goal, true);
+        let name = helped.view.principal;
+        let formula = self.helpful(&helped.formula, helped.levels - 2);
         let whole = Formula::says(Word::name(name), formula.clone());
-        let first = self.inferred(&goal.under(&whole, goal.span))?;
+        let span = self.claimed_on(&helped);
+        let first = self.inferred(&goal.under(&whole, span))?;
         let assumption = Assumption {
             formula,
             span: first.span,
@@ -69,20 +86,19 @@ impl Office<'_> {
         pair(tags::SAYS_OUT, Some(first.step), second)
     }
 
+    /// The span for a claim that helps with a goal: the goal's, and mostly that of its view as well.
+    fn claimed_on(&mut self, helped: &Goal) -> Span {
+        if self.random.one_in(4) {
+            return helped.span;
+        }
+        self.clock.around_both(helped.span, helped.view.span)
+    }
+
     /// The goal checked with one assumption more.
     fn with_assumption(&mut self, goal: &Goal, assumption: Assumption) -> Option<Step> {
         self.scope.push(assumption);
         let step = self.checked(&goal.under(&goal.formula, goal.span));
         self.scope.pop();
         step
-    }
-
-    /// A span that covers another.
-    fn around(&mut self, span: Span) -> Span {
-        let (clock, random) = (&self.clock, &mut *self.random);
-        Span {
-            from: clock.between(random, Time::MinusInfinity, span.from),
-            to: clock.between(random, span.to, Time::PlusInfinity),
-        }
     }
 }

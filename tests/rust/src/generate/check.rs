@@ -1,12 +1,10 @@
 //! Checks goals: chooses a rule at random.
 
-use super::clock::Span;
 use super::formula::Formula;
 use super::goal::{pair, Goal};
 use super::office::Office;
 use super::step::Step;
 use super::tags;
-use super::word::Word;
 
 impl Office<'_> {
     /// A step that checks the goal, perhaps one that checked it elsewhere.
@@ -87,15 +85,13 @@ impl Office<'_> {
                 Some(pair(tags::PAIR, first, second))
             }
             tags::AT => {
-                let words = &goal.formula.words;
-                let span = span_of(words[0], words[1])?;
+                let span = goal.formula.span()?;
                 let inside = self.checked(&goal.under(&parts[0], span));
                 Some(inside.map(|step| Step::over(tags::AT_IN, vec![step])))
             }
             tags::SAYS => {
-                let mut inner = goal.under(&parts[0], goal.span);
-                inner.view = goal.formula.words[0].as_name()?;
-                Some(self.says_in(&inner))
+                let inside = goal.inside_of_says()?;
+                Some(self.says_in(&inside))
             }
             _ => None,
         }
@@ -124,12 +120,4 @@ impl Office<'_> {
         self.scope = outside;
         Some(Step::over(tags::SAYS_IN, vec![inside?]))
     }
-}
-
-/// The span between two words, if they are times.
-fn span_of(from: Word, to: Word) -> Option<Span> {
-    Some(Span {
-        from: from.time()?,
-        to: to.time()?,
-    })
 }

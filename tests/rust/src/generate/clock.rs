@@ -95,6 +95,16 @@ impl Clock {
         self.at_most(outer.from, inner.from) && self.at_most(inner.to, outer.to)
     }
 
+    /// The narrowest span that covers two others at the press.
+    pub fn around_both(&self, one: Span, other: Span) -> Span {
+        let earlier = self.at_most(one.from, other.from);
+        let later = self.at_most(other.to, one.to);
+        Span {
+            from: if earlier { one.from } else { other.from },
+            to: if later { one.to } else { other.to },
+        }
+    }
+
     /// A time from one to another at the press; the first where there is none.
     pub fn between(&self, random: &mut Random, low: Time, high: Time) -> Time {
         let mut times = vec![low, high, Time::Ctime, low, high];
@@ -112,6 +122,26 @@ impl Clock {
         match *random.pick(&times) {
             Time::Ctime => Time::Moment(self.press),
             time => time,
+        }
+    }
+
+    /// A span that covers another at the press.
+    pub fn around(&self, random: &mut Random, span: Span) -> Span {
+        Span {
+            from: self.between(random, Time::MinusInfinity, span.from),
+            to: self.between(random, span.to, Time::PlusInfinity),
+        }
+    }
+
+    /// The same span at the press, without ctime.
+    pub fn without_ctime(&self, span: Span) -> Span {
+        let fixed = |time| match time {
+            Time::Ctime => Time::Moment(self.press),
+            time => time,
+        };
+        Span {
+            from: fixed(span.from),
+            to: fixed(span.to),
         }
     }
 

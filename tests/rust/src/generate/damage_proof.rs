@@ -14,6 +14,12 @@ pub fn damaged_proof(random: &mut Random, mut proof: Step, certificates: usize) 
     if random.one_in(8) && aimed(random, &mut proof) {
         return proof;
     }
+    if random.one_in(8) && claim_cut(random, &mut proof) {
+        if random.one_in(4) {
+            aimed(random, &mut proof);
+        }
+        return proof;
+    }
     for _ in 0..20 {
         let n = random.below(proof.count() as u64) as usize;
         let (step, around) = proof.nth(n);
@@ -39,6 +45,40 @@ fn aimed(random: &mut Random, proof: &mut Step) -> bool {
     let (step, around) = proof.nth(*random.pick(&places));
     *step = Step::named(tags::LOCAL, random.below(around as u64) as usize);
     true
+}
+
+/// Cuts the interval of a claim that an implication leads to, if there is one.
+fn claim_cut(random: &mut Random, proof: &mut Step) -> bool {
+    let mut places = Vec::new();
+    for n in 0..proof.count() {
+        let (step, _) = proof.nth(n);
+        if step.tag == tags::SAYS_OUT && applied(&mut step.parts[0]).is_some() {
+            places.push(n);
+        }
+    }
+    if places.is_empty() {
+        return false;
+    }
+    let (step, _) = proof.nth(*random.pick(&places));
+    if let Some(step) = applied(&mut step.parts[0]) {
+        let place = random.below(2) as usize;
+        let ends = [Time::PlusInfinity, Time::MinusInfinity];
+        step.terms[place] = match random.below(3) {
+            0 => Word::when(ends[place]),
+            1 => Word::moment(any_moment(random)),
+            _ => another_word(random, step.terms[place]),
+        };
+    }
+    true
+}
+
+/// The implication applied last in what leads to a judgement, if there is one.
+fn applied(step: &mut Step) -> Option<&mut Step> {
+    match step.tag {
+        tags::APPLY => Some(step),
+        tags::FIRST | tags::SECOND | tags::INSTANCE => applied(step.parts.first_mut()?),
+        _ => None,
+    }
 }
 
 /// Tries one damage on a step, and says whether it fitted.

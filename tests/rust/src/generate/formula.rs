@@ -1,5 +1,6 @@
 //! Formulas as trees, their bytes and their sizes.
 
+use super::clock::Span;
 use super::tags;
 use super::word::{number, Sort, Word};
 use crate::data::Term;
@@ -150,6 +151,15 @@ impl Formula {
 
 /// Words inside.
 impl Formula {
+    /// The span that an `at` names, if it names times.
+    pub fn span(&self) -> Option<Span> {
+        let (from, to) = (self.words.first()?, self.words.get(1)?);
+        Some(Span {
+            from: from.time()?,
+            to: to.time()?,
+        })
+    }
+
     /// The formula with each word changed; the change is told how many binders of the formula stand around it.
     pub fn changed(&self, change: &mut dyn FnMut(Word, u8) -> Word) -> Formula {
         self.changed_under(0, change)

@@ -4,12 +4,19 @@ use super::clock::Span;
 use super::formula::Formula;
 use super::step::Step;
 
+/// In whose view something is to be shown, and on which span: what is used there is the principal's and covers the span.
+#[derive(Clone, Copy, Debug, PartialEq, Eq)]
+pub struct View {
+    pub principal: u16,
+    pub span: Span,
+}
+
 /// What is to be checked: a formula on a span in a view, in at most so many levels.
 #[derive(Clone, Debug)]
 pub struct Goal {
     pub formula: Formula,
     pub span: Span,
-    pub view: u16,
+    pub view: View,
     pub levels: usize,
 }
 
@@ -28,6 +35,16 @@ impl Goal {
             view: self.view,
             levels: self.levels - 1,
         }
+    }
+
+    /// What is to be shown inside, in a view on the goal's span, if the goal is what somebody says.
+    pub fn inside_of_says(&self) -> Option<Goal> {
+        let principal = self.formula.words.first()?.as_name()?;
+        let span = self.span;
+        Some(Goal {
+            view: View { principal, span },
+            ..self.under(self.formula.parts.first()?, span)
+        })
     }
 
     /// The same goal for another formula.

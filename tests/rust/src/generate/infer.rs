@@ -3,7 +3,7 @@
 use super::clock::Span;
 use super::enlarge::{Elimination, Plan};
 use super::formula::Formula;
-use super::goal::{Goal, Inferred};
+use super::goal::{Goal, Inferred, View};
 use super::matching::ways;
 use super::office::{Certificate, Office};
 use super::step::Step;
@@ -46,16 +46,18 @@ impl Office<'_> {
         let mut found = Vec::new();
         let count = self.scope.len();
         for (position, assumption) in self.scope.iter().enumerate() {
-            let claim_fits = assumption.claimed_by.is_none_or(|name| name == goal.view);
-            if claim_fits && !assumption.hidden && self.clock.covers(assumption.span, goal.span) {
+            let (span, claimed_by) = (assumption.span, assumption.claimed_by);
+            let claim_fits = claimed_by.is_none_or(|name| self.usable(name, span, goal.view));
+            if claim_fits && !assumption.hidden && self.clock.covers(span, goal.span) {
                 let step = Step::named(tags::LOCAL, count - 1 - position);
                 let plans = ways(self.random, &self.clock, &assumption.formula, &goal.formula);
-                note(&mut found, plans, step, assumption.span, true, goal.levels);
+                note(&mut found, plans, step, span, true, goal.levels);
             }
         }
         for (index, certificate) in self.policy.iter().enumerate() {
-            let covers = self.clock.covers(certificate.span, goal.span);
-            if certificate.principal == goal.view && covers {
+            let span = certificate.span;
+            let usable = self.usable(certificate.principal, span, goal.view);
+            if usable && self.clock.covers(span, goal.span) {
                 let step = Step::certificate(index);
                 let plans = ways(
                     self.random,
@@ -63,17 +65,15 @@ impl Office<'_> {
                     &certificate.formula,
                     &goal.formula,
                 );
-                note(
-                    &mut found,
-                    plans,
-                    step,
-                    certificate.span,
-                    false,
-                    goal.levels,
-                );
+                note(&mut found, plans, step, span, false, goal.levels);
             }
         }
         found
+    }
+
+    /// Whether a view lets words of a principal on a span be used, as the clock stands.
+    fn usable(&self, principal: u16, span: Span, view: View) -> bool {
+        principal == view.principal && self.clock.covers(span, view.span)
     }
 
     /// The goal inferred from a certificate written for it.
@@ -89,10 +89,11 @@ impl Office<'_> {
         if self.policy.len() >= 32 || !formula.fits(0) {
             return None;
         }
-        let span = self.certified_around(goal.span);
+        let both = self.clock.around_both(goal.span, goal.view.span);
+        let span = self.certified_around(both);
         let step = Step::certificate(self.policy.len());
         self.policy.push(Certificate {
-            principal: goal.view,
+            principal: goal.view.principal,
             span,
             formula,
         });
@@ -100,7 +101,7 @@ impl Office<'_> {
     }
 
     /// A span for a certificate that covers another.
-    fn certified_around(&mut self, span: Span) -> Span {
+    pub fn certified_around(&mut self, span: Span) -> Span {
         if self.random.below(8) < self.habits.always {
             return Span::ALWAYS;
         }

@@ -31,6 +31,9 @@ impl Office<'_> {
         if choice < self.habits.facts + self.habits.pairs {
             return Formula::both(self.invented(levels - 1), self.invented(levels - 1));
         }
+        if choice < self.habits.facts + self.habits.pairs + self.habits.views {
+            return self.said_at(levels - 1);
+        }
         match self.random.below(10) {
             0..=2 => Formula::says(Word::name(self.name()), self.invented(levels - 1)),
             3..=4 => {
@@ -42,6 +45,18 @@ impl Office<'_> {
             6..=7 => self.shown_by_scope(),
             _ => self.fresh_leaf(),
         }
+    }
+
+    /// What somebody says at some time, mostly about another time.
+    fn said_at(&mut self, levels: usize) -> Formula {
+        let (from, to) = (self.time(), self.time());
+        let mut said = self.invented(levels);
+        if !self.random.one_in(4) {
+            let (since, until) = (self.time(), self.time());
+            said = Formula::at(Word::when(since), Word::when(until), said);
+        }
+        let says = Formula::says(Word::name(self.name()), said);
+        Formula::at(Word::when(from), Word::when(to), says)
     }
 
     /// A closed formula with two or three binders around a formula about their variables.
@@ -98,15 +113,15 @@ impl Office<'_> {
             return self.fresh_leaf();
         }
         let assumption = self.random.pick(&self.scope).clone();
-        match assumption.claimed_by {
+        let (span, hidden) = (assumption.span, assumption.hidden);
+        let shown = match assumption.claimed_by {
             Some(name) => Formula::says(Word::name(name), assumption.formula),
-            None if assumption.hidden || self.random.one_in(2) => Formula::at(
-                Word::when(assumption.span.from),
-                Word::when(assumption.span.to),
-                assumption.formula,
-            ),
             None => assumption.formula,
+        };
+        if hidden || self.random.one_in(2) {
+            return Formula::at(Word::when(span.from), Word::when(span.to), shown);
         }
+        shown
     }
 
     /// A closed formula of any kind, at most so many levels deep.

@@ -19,11 +19,13 @@ mod limits_policy;
 mod limits_proof;
 mod matching;
 mod office;
+mod passed_on;
 pub mod random;
 mod raw;
 mod step;
 mod tags;
 mod valid;
+mod views;
 mod word;
 
 pub use damage::damaged;
@@ -33,3 +35,4 @@ pub use limits::at_a_limit;
 pub use random::Random;
 pub use raw::raw;
 pub use valid::valid;
+pub use views::in_a_view;

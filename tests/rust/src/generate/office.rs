@@ -44,6 +44,8 @@ pub struct Habits {
     pub facts: u64,
     /// Of sixteen wanted formulas, how many are conjunctions.
     pub pairs: u64,
+    /// Of sixteen wanted formulas, how many are what somebody says at some time.
+    pub views: u64,
     /// How many levels the wanted formulas have beyond one, at most.
     pub breadth: u64,
 }

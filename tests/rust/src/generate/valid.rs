@@ -2,10 +2,11 @@
 
 use super::clock::Span;
 use super::formula::Formula;
-use super::goal::Goal;
+use super::goal::{Goal, View};
 use super::layout::case_of;
 use super::office::{Habits, Office};
 use super::tags;
+use super::views::well_used;
 use super::word::Word;
 use super::Random;
 use crate::data::{Case, Request};
@@ -24,6 +25,9 @@ pub fn may(request: Request) -> Formula {
 
 /// A case whose proof shows its request, within all limits.
 pub fn valid(random: &mut Random) -> Case {
+    if random.one_in(16) {
+        return well_used(random);
+    }
     for _ in 0..20 {
         let habits = some_habits(random);
         if let Some(case) = attempt(random, habits) {
@@ -49,6 +53,7 @@ fn small(steps: i64) -> Habits {
         always: 1,
         facts: 3,
         pairs: 2,
+        views: 1,
         breadth: 3,
     }
 }
@@ -70,6 +75,10 @@ fn some_habits(random: &mut Random) -> Habits {
     if random.one_in(8) {
         habits.wraps = 2;
     }
+    if random.one_in(8) {
+        habits.views = 8;
+        habits.wraps = 2;
+    }
     habits
 }
 
@@ -84,6 +93,7 @@ fn middle(steps: i64) -> Habits {
         always: 2,
         facts: 2,
         pairs: 4,
+        views: 1,
         breadth: 3,
     }
 }
@@ -99,6 +109,7 @@ fn large(steps: i64) -> Habits {
         always: 7,
         facts: 1,
         pairs: 8,
+        views: 1,
         breadth: 4,
     }
 }
@@ -110,10 +121,16 @@ fn attempt(random: &mut Random, habits: Habits) -> Option<Case> {
     let goal = Goal {
         formula: may(request),
         span: Span::PRESS,
-        view: ADMINISTRATOR,
+        view: View {
+            principal: ADMINISTRATOR,
+            span: Span::PRESS,
+        },
         levels: 31,
     };
-    let proof = office.says_in(&goal)?;
+    let mut proof = office.says_in(&goal)?;
+    if office.random.one_in(6) {
+        proof = office.passed_on(proof);
+    }
     let inside = proof.levels() <= 32 && proof.count_of(tags::STATE) <= 16;
     if !inside || proof.bytes().len() > 4096 {
         return None;
