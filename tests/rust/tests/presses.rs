@@ -127,8 +127,8 @@ fn direct_checks_of_case_p() {
     let answer = |moment, state| direct(&case, moment, &bytes(state), &mut NoWatch);
     assert_eq!(answer(1000, LOADED), Answer::GRANTED);
     assert_eq!(answer(2000, LOADED), Answer::GRANTED);
-    assert_eq!(answer(999, LOADED), Answer::refused(4, 1));
-    assert_eq!(answer(2001, LOADED), Answer::refused(4, 1));
+    assert_eq!(answer(999, LOADED), Answer::refused(4, 6));
+    assert_eq!(answer(2001, LOADED), Answer::refused(4, 6));
     assert_eq!(answer(1500, ""), Answer::refused(10, 8));
     assert_eq!(answer(LATEST + 1, "00"), Answer::refused(11, 0));
     assert_eq!(answer(LATEST, "00"), Answer::refused(7, 0));

@@ -115,14 +115,16 @@ fn intervals_of_certificates() {
     assert_eq!(told_of(&said), Err((1, 0)));
 }
 
-/// An interval that a formula names is all that counts once the formula is taken out of it.
+/// A formula that is taken out of an interval counts on the interval, as long as the certificate lasts that it is from.
 #[test]
 fn taken_out_of_an_interval() {
     let named = format!("16 0100000003e8 0100000007d0 {MAY}");
     assert_eq!(told(&[&named], "2a 29 2100 20 00"), Ok((1000, 2000)));
-    let mut long_past = case(&[&named], "2a 29 2100 20 00");
-    long_past.records[0].to = Time::Moment(5);
-    assert_eq!(told_of(&long_past), Ok((1000, 2000)));
+    let mut past = case(&[&named], "2a 29 2100 20 00");
+    past.records[0].to = Time::Moment(1700);
+    assert_eq!(told_of(&past), Ok((1000, 1700)));
+    past.records[0].to = Time::Moment(5);
+    assert_eq!(told_of(&past), Err((5, 0)));
     assert_eq!(told(&[MAY], "2a 29 2100 20 00"), Err((3, 1)));
     assert_eq!(told(&[&named], "2a 29 2100 20 01"), Err((2, 0)));
 }
