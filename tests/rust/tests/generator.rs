@@ -1,20 +1,24 @@
 //! The generator keeps its promises: same seed, same cases; valid cases are within the limits and mostly issued; valid
 //! and damaged cases together try every clause both ways.
 
-use second_opinion::data::{Case, Time, LATEST};
-use second_opinion::generate::{at_a_limit, damaged, damaged_bytes, input_of, raw, valid, Random};
+use second_opinion::data::{Answer, Case, Time, LATEST};
+use second_opinion::generate::{
+    at_a_limit, damaged, damaged_bytes, in_a_view, input_of, raw, valid, Random,
+};
 use second_opinion::second::{self, Clause, NoWatch, Watch};
-use std::collections::BTreeSet;
+use std::collections::{BTreeMap, BTreeSet};
 
 /// How many seeds are tried.
 const SEEDS: u64 = 2000;
 
 /// One case of each kind from a seed.
-fn one_of_each(seed: u64) -> [Case; 4] {
+fn one_of_each(seed: u64) -> [Case; 5] {
     let mut random = Random::new(seed);
     let shown = valid(&mut random);
     let hurt = damaged(&mut random, &shown);
-    [shown, hurt, raw(&mut random), at_a_limit(&mut random)]
+    let raw = raw(&mut random);
+    let at_a_limit = at_a_limit(&mut random);
+    [shown, hurt, raw, at_a_limit, in_a_view(&mut random)]
 }
 
 /// The number that verify answers a case with.
@@ -52,6 +56,33 @@ impl Watch for Seen {
     }
     fn formula(&mut self, tag: u8) {
         self.formulas.insert(tag);
+    }
+}
+
+/// How often clauses came out in each way.
+#[derive(Default)]
+struct Counted(BTreeMap<(Clause, bool), u64>);
+
+impl Watch for Counted {
+    fn clause(&mut self, clause: Clause, held: bool) {
+        *self.0.entry((clause, held)).or_default() += 1;
+    }
+}
+
+impl Counted {
+    /// Sees to it that words were used within the interval of a view and beyond either end of it, more than so often.
+    fn words_in_views(&self, more_than: u64) {
+        for clause in [
+            Clause::ClaimFromViewsStart,
+            Clause::ClaimToViewsEnd,
+            Clause::CertificateFromViewsStart,
+            Clause::CertificateToViewsEnd,
+        ] {
+            for held in [true, false] {
+                let count = self.0.get(&(clause, held)).copied().unwrap_or(0);
+                assert!(count > more_than, "{clause:?} {held}: {count}");
+            }
+        }
     }
 }
 
@@ -118,6 +149,52 @@ fn every_clause_comes_up_both_ways() {
     assert!(seen.steps.iter().copied().eq(0x20..=0x2d));
     assert!(seen.formulas.iter().copied().eq(0x10..=0x19));
     assert!(seen.numbers.iter().copied().eq(0..=5));
+}
+
+#[test]
+fn words_leave_views_in_damaged_cases() {
+    let mut counted = Counted::default();
+    for seed in 0..10_000 {
+        let [shown, hurt, ..] = one_of_each(seed);
+        number(&shown, &mut counted);
+        number(&hurt, &mut counted);
+    }
+    counted.words_in_views(15);
+}
+
+#[test]
+fn words_leave_views_in_cases_about_them() {
+    let mut counted = Counted::default();
+    let mut answers = [0; 6];
+    for seed in 0..SEEDS {
+        let case = in_a_view(&mut Random::new(seed));
+        answers[number(&case, &mut counted) as usize] += 1;
+    }
+    counted.words_in_views(30);
+    let [issued, malformed, no_proof, misfits, late, never] = answers;
+    assert!(issued > 400 && misfits > 200 && late > 200, "{answers:?}");
+    assert!(malformed == 0 && no_proof == 0 && never > 0, "{answers:?}");
+}
+
+#[test]
+fn in_views_the_door_opens_when_the_direct_check_accepts() {
+    let (mut opened, mut shut) = (0, 0);
+    for seed in 0..SEEDS {
+        let case = in_a_view(&mut Random::new(seed));
+        let issued = second::verify(&case, &mut NoWatch);
+        for mentioned in second::moments_of(&case) {
+            for moment in [mentioned.saturating_sub(1), mentioned, mentioned + 1] {
+                let accepted = second::direct(&case, moment, &[], &mut NoWatch) == Answer::GRANTED;
+                let door = |procap| second::door(procap, case.request, moment, &[]);
+                let opens = issued
+                    .as_ref()
+                    .is_ok_and(|procap| door(procap) == Answer::GRANTED);
+                assert_eq!(accepted, opens, "seed {seed} at {moment}");
+                *if opens { &mut opened } else { &mut shut } += 1;
+            }
+        }
+    }
+    assert!(opened > 2000 && shut > 2000, "{opened} opened, {shut} shut");
 }
 
 #[test]

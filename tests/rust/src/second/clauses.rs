@@ -157,8 +157,8 @@ impl Verdict {
 pub trait Watch {
     /// A clause was tried, and held or not.
     fn clause(&mut self, _clause: Clause, _held: bool) {}
-    /// It was asked whether left is not after right, and this came out.
-    fn order(&mut self, _left: Time, _right: Time, _verdict: Verdict) {}
+    /// A clause asked whether left is not after right, and this came out.
+    fn order(&mut self, _clause: Clause, _left: Time, _right: Time, _verdict: Verdict) {}
     /// A step with this tag was walked.
     fn step(&mut self, _tag: u8) {}
     /// A formula with this tag was read from a certificate.

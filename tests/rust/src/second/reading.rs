@@ -1,6 +1,6 @@
 //! The two ways to read a proof: at the office, before any press, and at a press.
 
-use super::clauses::{Clause, Verdict, Watch};
+use super::clauses::{Clause, Verdict};
 use super::state::State;
 use super::times::{order, Order};
 use crate::data::{Fact, Procap, Request, Time, LATEST};
@@ -10,8 +10,8 @@ pub trait Reading {
     /// Which clause a fact that is met has to pass.
     const FACT_CLAUSE: Clause;
 
-    /// Whether a walk may go on after wanting that left is not after right; the watch is told how that came out.
-    fn not_after(&mut self, left: Time, right: Time, watch: &mut impl Watch) -> bool;
+    /// How it comes out that left is to be not after right.
+    fn not_after(&mut self, left: Time, right: Time) -> Verdict;
 
     /// Whether a walk may go on after wanting this fact.
     fn meet(&mut self, fact: Fact) -> bool;
@@ -53,23 +53,19 @@ impl Office {
 impl Reading for Office {
     const FACT_CLAUSE: Clause = Clause::FactListed;
 
-    /// Whether it is not decided against; what the press decides is gathered.
-    fn not_after(&mut self, left: Time, right: Time, watch: &mut impl Watch) -> bool {
+    /// Decides what needs no press, and gathers what the press decides.
+    fn not_after(&mut self, left: Time, right: Time) -> Verdict {
         match order(left, right) {
-            Order::Decided(held) => {
-                watch.order(left, right, Verdict::decided(held));
-                return held;
-            }
+            Order::Decided(held) => Verdict::decided(held),
             Order::From(moment) => {
-                watch.order(left, right, Verdict::RaisesFrom);
                 self.from = self.from.max(moment);
+                Verdict::RaisesFrom
             }
             Order::UpTo(moment) => {
-                watch.order(left, right, Verdict::LowersTo);
                 self.to = self.to.min(moment);
+                Verdict::LowersTo
             }
         }
-        true
     }
 
     /// Lists the fact once, and refuses none: a proof has too few steps of the state for a 17th, so the number 6 is
@@ -91,15 +87,13 @@ pub struct Press {
 impl Reading for Press {
     const FACT_CLAUSE: Clause = Clause::FactStands;
 
-    /// Whether it holds with the moment for ctime.
-    fn not_after(&mut self, left: Time, right: Time, watch: &mut impl Watch) -> bool {
-        let held = match order(left, right) {
+    /// Decides it with the moment for ctime.
+    fn not_after(&mut self, left: Time, right: Time) -> Verdict {
+        Verdict::decided(match order(left, right) {
             Order::Decided(held) => held,
             Order::From(moment) => moment <= self.moment,
             Order::UpTo(moment) => self.moment <= moment,
-        };
-        watch.order(left, right, Verdict::decided(held));
-        held
+        })
     }
 
     /// Whether the fact stands with the moment for ctime.

@@ -1,6 +1,6 @@
 //! A clause that is tried is told to the watch, and a refusal gets its number and place.
 
-use super::clauses::{Clause, Watch};
+use super::clauses::{Clause, Verdict, Watch};
 use super::reading::Reading;
 use crate::data::{Answer, Fact, Time};
 
@@ -40,7 +40,9 @@ impl<'a, R: Reading, W: Watch> Trial<'a, R, W> {
         right: Time,
         offset: u64,
     ) -> Result<(), Answer> {
-        let held = self.reading.not_after(left, right, self.watch);
+        let verdict = self.reading.not_after(left, right);
+        self.watch.order(clause, left, right, verdict);
+        let held = verdict != Verdict::Fails;
         self.settle(clause, held, Answer::refused(4, offset))
     }
 

@@ -1,6 +1,6 @@
 //! What a case would ask of the state at a press.
 
-use super::clauses::{Clause, NoWatch, Watch};
+use super::clauses::{Clause, NoWatch, Verdict};
 use super::judging::walk;
 use super::reading::{Press, Reading};
 use super::state::State;
@@ -17,9 +17,9 @@ struct Granting {
 impl Reading for Granting {
     const FACT_CLAUSE: Clause = Press::FACT_CLAUSE;
 
-    /// Whether it holds at the press.
-    fn not_after(&mut self, left: Time, right: Time, watch: &mut impl Watch) -> bool {
-        self.press.not_after(left, right, watch)
+    /// Decides it at the press.
+    fn not_after(&mut self, left: Time, right: Time) -> Verdict {
+        self.press.not_after(left, right)
     }
 
     /// Grants the fact.

@@ -1,7 +1,7 @@
 //! Which case belongs to a seed and an index, and the random numbers for its questions.
 
 use second_opinion::data::Case;
-use second_opinion::generate::{at_a_limit, damaged, raw, valid, Random};
+use second_opinion::generate::{at_a_limit, damaged, in_a_view, raw, valid, Random};
 
 /// What the random numbers are for.
 #[derive(Clone, Copy)]
@@ -28,6 +28,7 @@ pub fn case_for(seed: u64, index: u64) -> Case {
             let case = valid(&mut random);
             damaged(&mut random, &case)
         }
+        7 if random.one_in(3) => in_a_view(&mut random),
         7 => at_a_limit(&mut random),
         _ => raw(&mut random),
     }

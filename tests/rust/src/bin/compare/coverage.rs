@@ -30,6 +30,8 @@ pub struct Walked {
     pub clauses: Vec<[u64; 2]>,
     /// By the kind of the left time, the kind of the right time, and the verdict.
     pub orders: [[[u64; Verdict::ALL.len()]; Kind::ALL.len()]; Kind::ALL.len()],
+    /// By the clause that asked, and the verdict.
+    pub orders_of: Vec<[u64; Verdict::ALL.len()]>,
     pub steps: Vec<u64>,
     pub formulas: Vec<u64>,
 }
@@ -73,6 +75,7 @@ impl Walked {
         Walked {
             clauses: vec![[0; 2]; Clause::ALL.len()],
             orders: Default::default(),
+            orders_of: vec![Default::default(); Clause::ALL.len()],
             steps: vec![0; 256],
             formulas: vec![0; 256],
         }
@@ -80,12 +83,16 @@ impl Walked {
 
     /// Adds what came up elsewhere.
     fn add(&mut self, other: &Walked) {
-        for (here, there) in self.clauses.iter_mut().zip(&other.clauses) {
-            here[0] += there[0];
-            here[1] += there[1];
-        }
+        add_each(
+            self.clauses.as_flattened_mut(),
+            other.clauses.as_flattened(),
+        );
         let orders = self.orders.as_flattened_mut().as_flattened_mut();
         add_each(orders, other.orders.as_flattened().as_flattened());
+        add_each(
+            self.orders_of.as_flattened_mut(),
+            other.orders_of.as_flattened(),
+        );
         add_each(&mut self.steps, &other.steps);
         add_each(&mut self.formulas, &other.formulas);
     }
@@ -109,9 +116,10 @@ impl Watch for Walked {
     fn clause(&mut self, clause: Clause, held: bool) {
         self.clauses[clause as usize][usize::from(held)] += 1;
     }
-    fn order(&mut self, left: Time, right: Time, verdict: Verdict) {
+    fn order(&mut self, clause: Clause, left: Time, right: Time, verdict: Verdict) {
         let [left, right] = [left, right].map(|time| Kind::of(time) as usize);
         self.orders[left][right][verdict as usize] += 1;
+        self.orders_of[clause as usize][verdict as usize] += 1;
     }
     fn step(&mut self, tag: u8) {
         self.steps[usize::from(tag)] += 1;
