@@ -26,16 +26,16 @@ enum From {
 }
 
 /// The rows: presses with one fact and with sixteen; case P, three proofs of 30 steps, the deepest proofs and the longest. The seeds are the first
-/// that give such proofs.
+/// that give such proofs and are issued.
 const PLANS: [(What, From); 14] = [
     (What::DoorOnValue, From::Example("p")),
     (What::DoorOnText, From::Example("p")),
     (What::DoorOnValue, From::Example("sixteen_facts")),
     (What::DoorOnText, From::Example("sixteen_facts")),
     (What::Verify, From::Example("p")),
-    (What::Verify, From::Valid(13)),
-    (What::Verify, From::Valid(183)),
-    (What::Verify, From::Valid(578)),
+    (What::Verify, From::Valid(299)),
+    (What::Verify, From::Valid(339)),
+    (What::Verify, From::Valid(502)),
     (What::Verify, From::Example("thirty_implications")),
     (What::Verify, From::Example("thirty_assumptions")),
     (What::Verify, From::Example("sixteen_facts")),

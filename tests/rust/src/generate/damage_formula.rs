@@ -10,7 +10,7 @@ use crate::data::Time;
 /// The formula with one damage.
 pub fn damaged_formula(random: &mut Random, mut formula: Formula) -> Formula {
     let whole = formula.clone();
-    if random.one_in(3) && aimed(random, &mut formula) {
+    if random.one_in(2) && aimed(random, &mut formula) {
         return formula;
     }
     for _ in 0..20 {

@@ -53,7 +53,7 @@ fn small(steps: i64) -> Habits {
         always: 1,
         facts: 3,
         pairs: 2,
-        views: 1,
+        views: 0,
         breadth: 3,
     }
 }
@@ -93,7 +93,7 @@ fn middle(steps: i64) -> Habits {
         always: 2,
         facts: 2,
         pairs: 4,
-        views: 1,
+        views: 0,
         breadth: 3,
     }
 }
@@ -109,7 +109,7 @@ fn large(steps: i64) -> Habits {
         always: 7,
         facts: 1,
         pairs: 8,
-        views: 1,
+        views: 0,
         breadth: 4,
     }
 }
