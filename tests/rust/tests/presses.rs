@@ -1,14 +1,10 @@
 //! The presses that docs/SCOPE.md lists, and the one that is run.
 
-use second_opinion::data::{Answer, Case, Fact, Procap, Record, Request, Term, Time, LATEST};
-use second_opinion::second::{direct, door, door_on_text, text_of, verify, write_text, NoWatch};
+mod by_hand;
 
-/// The request of case P.
-const REQUEST: Request = Request {
-    who: 2,
-    what: 7,
-    right: 9,
-};
+use by_hand::{bytes, Said, REQUEST};
+use second_opinion::data::{Answer, Case, Fact, Procap, Request, Term, Time, LATEST};
+use second_opinion::second::{direct, door, door_on_text, text_of, verify, write_text, NoWatch};
 
 /// The formula of case P's certificate.
 const SAID: &str = "13121800c801000007170064030500000007000009";
@@ -22,32 +18,11 @@ const PROOF: &str = "2a262700000221002c0404";
 /// The state where 200(7) stands.
 const LOADED: &str = "00c801000007";
 
-/// The bytes that hex digits spell.
-fn bytes(hex: &str) -> Vec<u8> {
-    let digit = |place: usize| u8::from_str_radix(&hex[place..place + 2], 16).expect("hex");
-    (0..hex.len()).step_by(2).map(digit).collect()
-}
-
 /// A case with certificates of 1 that say these formulas, each on its interval.
 fn case(said: &[(Time, Time, &str)], proof: &str) -> Case {
-    let mut case = Case {
-        request: REQUEST,
-        records: Vec::new(),
-        buffer: Vec::new(),
-        proof: bytes(proof),
-    };
-    for (from, to, formula) in said {
-        let formula = bytes(formula);
-        case.records.push(Record {
-            principal: 1,
-            from: *from,
-            to: *to,
-            start: case.buffer.len() as u64,
-            length: formula.len() as u64,
-        });
-        case.buffer.extend(formula);
-    }
-    case
+    let of_1 = |(from, to, formula): &(Time, Time, _)| -> Said { (1, (*from, *to), *formula) };
+    let said: Vec<Said> = said.iter().map(of_1).collect();
+    by_hand::case(&said, proof)
 }
 
 /// Case P with another proof.

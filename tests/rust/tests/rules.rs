@@ -1,69 +1,25 @@
 //! Each rule of the walk in a small case made by hand, and the limits from both sides.
 
-use second_opinion::data::{Answer, Case, Record, Request, Time, LATEST};
+mod by_hand;
+
+use by_hand::{briefly, if_so, Said, Told, ALWAYS, ATOM, EVER, MAY};
+use second_opinion::data::{Answer, Case, Time, LATEST};
 use second_opinion::second::{direct, verify, NoWatch};
-
-/// That 2 may use 7 by the right 9.
-const MAY: &str = "17006403000002000007000009";
-
-/// An atom without terms.
-const ATOM: &str = "17012c00";
-
-/// What verify says, told briefly: from and to of its procap, or number and place.
-type Told = Result<(u64, u64), (u64, u64)>;
-
-/// Issued for the whole clock.
-const ALWAYS: Told = Ok((0, LATEST));
-
-/// The bytes that hex digits spell, blanks left out.
-fn bytes(hex: &str) -> Vec<u8> {
-    let hex = hex.replace(' ', "");
-    let digit = |place: usize| u8::from_str_radix(&hex[place..place + 2], 16).expect("hex");
-    (0..hex.len()).step_by(2).map(digit).collect()
-}
 
 /// A case where 1 says these formulas for all time.
 fn case(said: &[&str], proof: &str) -> Case {
-    let mut case = Case {
-        request: Request {
-            who: 2,
-            what: 7,
-            right: 9,
-        },
-        records: Vec::new(),
-        buffer: Vec::new(),
-        proof: bytes(proof),
-    };
-    for formula in said {
-        let formula = bytes(formula);
-        case.records.push(Record {
-            principal: 1,
-            from: Time::MinusInfinity,
-            to: Time::PlusInfinity,
-            start: case.buffer.len() as u64,
-            length: formula.len() as u64,
-        });
-        case.buffer.extend(formula);
-    }
-    case
+    let said: Vec<Said> = said.iter().map(|formula| (1, EVER, *formula)).collect();
+    by_hand::case(&said, proof)
 }
 
 /// What verify says to a case.
 fn told_of(case: &Case) -> Told {
-    match verify(case, &mut NoWatch) {
-        Ok(procap) => Ok((procap.from, procap.to)),
-        Err(refusal) => Err((refusal.number, refusal.place)),
-    }
+    briefly(verify(case, &mut NoWatch))
 }
 
 /// What verify says where 1 says these formulas for all time.
 fn told(said: &[&str], proof: &str) -> Told {
     told_of(&case(said, proof))
-}
-
-/// The formula that a condition implies the "may".
-fn if_so(condition: &str) -> String {
-    format!("12 {condition} {MAY}")
 }
 
 /// Conjunctions are taken apart, and top is shown.

@@ -1,70 +1,26 @@
 //! Views with their intervals, in small cases made by hand: whose words can be used in a view, and from when until when.
 
-use second_opinion::data::{Answer, Case, Record, Request, Time, LATEST};
+mod by_hand;
+
+use by_hand::{briefly, case, if_so, Said, Told, ALWAYS, ATOM, EVER, MAY};
+use second_opinion::data::{Answer, Time, LATEST};
 use second_opinion::second::{direct, door, verify, NoWatch};
 
-/// That 2 may use 7 by the right 9.
-const MAY: &str = "17006403000002000007000009";
-
-/// Two atoms without terms.
-const ATOM: &str = "17012c00";
+/// Another atom without terms.
 const OTHER: &str = "17012d00";
 
 /// From 1000 to 2000, and from 3000 to 4000.
 const MARCH: &str = "0100000003e8 0100000007d0";
 const JUNE: &str = "010000000bb8 010000000fa0";
 
-/// The same, and all time.
+/// The same.
 const IN_MARCH: (Time, Time) = (Time::Moment(1000), Time::Moment(2000));
 const IN_JUNE: (Time, Time) = (Time::Moment(3000), Time::Moment(4000));
-const EVER: (Time, Time) = (Time::MinusInfinity, Time::PlusInfinity);
 
 /// Moments in, between and just beside them.
 const MOMENTS: [u64; 16] = [
     0, 999, 1000, 1001, 1500, 1999, 2000, 2001, 2999, 3000, 3001, 3500, 3999, 4000, 4001, LATEST,
 ];
-
-/// Who says what, and on which interval.
-type Said<'a> = (u16, (Time, Time), &'a str);
-
-/// What verify says, told briefly: from and to of its procap, or number and place.
-type Told = Result<(u64, u64), (u64, u64)>;
-
-/// Issued for the whole clock.
-const ALWAYS: Told = Ok((0, LATEST));
-
-/// The bytes that hex digits spell, blanks left out.
-fn bytes(hex: &str) -> Vec<u8> {
-    let hex = hex.replace(' ', "");
-    let digit = |place: usize| u8::from_str_radix(&hex[place..place + 2], 16).expect("hex");
-    (0..hex.len()).step_by(2).map(digit).collect()
-}
-
-/// A case with these certificates.
-fn case(said: &[Said], proof: &str) -> Case {
-    let mut case = Case {
-        request: Request {
-            who: 2,
-            what: 7,
-            right: 9,
-        },
-        records: Vec::new(),
-        buffer: Vec::new(),
-        proof: bytes(proof),
-    };
-    for (principal, (from, to), formula) in said {
-        let formula = bytes(formula);
-        case.records.push(Record {
-            principal: *principal,
-            from: *from,
-            to: *to,
-            start: case.buffer.len() as u64,
-            length: formula.len() as u64,
-        });
-        case.buffer.extend(formula);
-    }
-    case
-}
 
 /// What verify says where these certificates are; the direct check must accept just where its procap opens.
 fn told(said: &[Said], proof: &str) -> Told {
@@ -75,20 +31,12 @@ fn told(said: &[Said], proof: &str) -> Told {
         let opened = |procap| door(procap, case.request, moment, &[]) == Answer::GRANTED;
         assert_eq!(accepted, issued.as_ref().is_ok_and(opened), "at {moment}");
     }
-    match issued {
-        Ok(procap) => Ok((procap.from, procap.to)),
-        Err(refusal) => Err((refusal.number, refusal.place)),
-    }
+    briefly(issued)
 }
 
 /// What the direct check says where these certificates are.
 fn pressed(said: &[Said], proof: &str, moment: u64) -> Answer {
     direct(&case(said, proof), moment, &[], &mut NoWatch)
-}
-
-/// The formula that a condition implies the "may".
-fn if_so(condition: &str) -> String {
-    format!("12 {condition} {MAY}")
 }
 
 /// From one moment to another.
