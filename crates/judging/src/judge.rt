@@ -16,7 +16,7 @@ use formula::terms::Place;
 use formula::terms::Terms;
 use ledger::Ledger;
 use ledger::ask_fact;
-use ledger::ask_numbers;
+use ledger::ask_order;
 use procap::bytes::past;
 use procap::fact::Term;
 use procap::time::Time;
@@ -24,7 +24,6 @@ use procap::time::TimeNumbers;
 use steps::reader::index_at;
 use steps::time_at;
 ghost use mathlib.Core.Path.{_≡_};
-ghost use Rattle.procap.specs.Numbered.{«time-of»};
 ghost use Rattle.procap.specs.Writable.{TermInForm};
 ghost use Rattle.bl.specs.Walk as walk;
 ghost use Rattle.ledger.specs.Books.{misfitted, Leads};
@@ -180,19 +179,13 @@ impl Scope {
 }
 
 // The interval of a judgement must cover another: it begins no later, and then it ends no earlier.
-fn covers(
-    ledger: Ledger,
-    offset: usize,
-    judgement: Judgement,
-    from: TimeNumbers,
-    to: TimeNumbers,
-) -> Ledger
-    ensures { λ r. ⌜ Leads ledger (walk.«need-cover» offset («from-of» judgement) («to-of» judgement) («time-of» from) («time-of» to)) r ⌝ }
+fn covers(ledger: Ledger, offset: usize, judgement: Judgement, from: Time, to: Time) -> Ledger
+    ensures { λ r. ⌜ Leads ledger (walk.«need-cover» offset («from-of» judgement) («to-of» judgement) from to) r ⌝ }
 {
     let begin = judgement.from;
     let end = judgement.to;
-    let asked = ask_numbers(ledger, offset, begin, from);
-    ask_numbers(asked, offset, to, end)
+    let asked = ask_order(ledger, offset, begin.time(), from);
+    ask_order(asked, offset, to, end.time())
 }
 
 // What a principal claims or certifies must be usable in the view: the view must be the principal's, and then the judgement's interval must cover the view's.
@@ -208,7 +201,7 @@ fn in_view(
     let viewer = view.viewer;
     let from = view.from;
     let to = view.to;
-    let covered = covers(ledger, offset, judgement, from, to);
+    let covered = covers(ledger, offset, judgement, from.time(), to.time());
     match viewer {
         Viewer::Nobody => ledger.misfit(offset),
         Viewer::Principal(own) => {
@@ -409,9 +402,9 @@ fn applied(
     let t2 = time_at(proof, t1.next);
     let begin = t1.time;
     let end = t2.time;
+    let after_asked = covers(after_parts, offset, judgement, begin, end);
     let starts = begin.numbers();
     let ends = end.numbers();
-    let after_asked = covers(after_parts, offset, judgement, starts, ends);
     let one = FormulaAt {
         at: parts.first,
         terms: terms,
@@ -655,7 +648,7 @@ pub fn order(bytes: &[u8], offset: usize, goal: Judgement, ledger: Ledger) -> Le
     let after_span = span.ledger;
     let left = span.from;
     let right = span.to;
-    ask_numbers(after_span, offset, left, right)
+    ask_order(after_span, offset, left.time(), right.time())
 }
 
 // An inferring step where one is checked: the same formula, on an interval around the goal's.
@@ -679,7 +672,7 @@ fn within(buffer: &[u8], bytes: &[u8], offset: usize, inferred: Inferred, goal: 
         MOST_FORMULA_LEVELS,
     );
     let after_compared = compared.ledger;
-    covers(after_compared, offset, judgement, from, to)
+    covers(after_compared, offset, judgement, from.time(), to.time())
 }
 
 // An inferring step where one is checked: where it has stopped, so has the whole.

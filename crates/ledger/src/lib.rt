@@ -13,7 +13,6 @@ use procap::procap::Request;
 use procap::procap::VERSION;
 use procap::time::LATEST_SECOND;
 use procap::time::Time;
-use procap::time::TimeNumbers;
 use state::stands_in;
 ghost use mathlib.Core.Path.{_≡_};
 ghost use Prim.Native.Nat.{_+_, _*_, _≤_, _<_, min, max};
@@ -23,7 +22,7 @@ ghost use lib.Seq.{sets};
 ghost use Rattle.procap.specs.Lists.{In};
 ghost use Rattle.procap.specs.Tells.{Tells};
 ghost use Rattle.procap.specs.Facts.{spelled, «argument-of»};
-ghost use Rattle.procap.specs.Numbered.{«kind-of», «value-of», «time-of»};
+ghost use Rattle.procap.specs.Numbered.{«kind-of», «value-of»};
 ghost use Rattle.procap.specs.Procaps.{«most-facts»};
 ghost use Rattle.ledger.specs.Books.{begun, opened, keeping, «stop-of», book, «list-numbers», «fact-numbers», «argument-in», «facts-in», «fact-in», «stopped-by», misfitted};
 ghost use Rattle.ledger.specs.Asking.{«narrowed-by», «order-asked», «fact-listed», «fact-asked», AsksFact, ListsFact, «held-procap»};
@@ -187,13 +186,6 @@ pub fn ask_order(ledger: Ledger, offset: usize, left: Time, right: Time) -> Ledg
         return ledger;
     }
     ledger.stopped(Answer::OrderFalse(offset))
-}
-
-// The same of two times in numbers.
-pub fn ask_numbers(ledger: Ledger, offset: usize, left: TimeNumbers, right: TimeNumbers) -> Ledger
-    ensures { λ r. ⌜ r ≡ «order-asked» ledger offset («time-of» left) («time-of» right) ⌝ }
-{
-    ask_order(ledger, offset, left.time(), right.time())
 }
 
 // Does the fact hold?

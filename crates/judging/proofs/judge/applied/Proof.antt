@@ -1,7 +1,6 @@
 -- The two sides of the implication, the two times after the second step, and then the intervals, over which a stopped ledger stays as it is.
 use borrow.Author.Needs.{needs}
 use mathlib.Core.Path.{refl}
-use Rattle.procap.proofs.Numbered.{time-back}
 use Rattle.steps.proofs.TermsGiven.{time-found}
 use Rattle.judging.specs.Judging.{sides, TwoSided}
 use Rattle.judging.proofs.JudgingLaws.{put-to-use}
@@ -11,11 +10,9 @@ use Rattle.judging.proofs.judge.applied.Tie as tie
 returns : tie.Need-returns
 unfolding sides TwoSided
 returns c =
-    let asked = c .before in
-    let stored = asked .before in
-    let read = stored .before .before in
-    let starts = stored .before .numbers .ensures in
-    let stops = stored .numbers2 .ensures in
+    let stored = c .before in
+    let asked = stored .before .before in
+    let read = asked .before in
     let sided = read .before .before .before .before .before in
     let start = sided .before .before .before .before .before in
     let one = read .before .time-at .ensures in
@@ -25,8 +22,8 @@ returns c =
     let ends = time-found _ _ other k t2 e₄ (rw (begins .1) time₂) in
     put-to-use (start .args .inferred .judgement) (sided .sides-of .result .first) (sided .sides-of .result .second) _ (on .from) (on .to) (begins .0) (ends .0) s
     (sided .sides-of .ensures F tt (on .means))
-    (λ sound. rw (starts, stops, time-back (read .before .time-at .result .time), time-back (read .time-at2 .result .time)) at (asked .covers .ensures state list sound))
-    (rw (starts, stops) at (c .on-interval .ensures))
+    (λ sound. asked .covers .ensures state list sound)
+    (rw (stored .before .numbers .ensures, stored .numbers2 .ensures) at (c .on-interval .ensures))
     refl
     refl
     (ends .1)

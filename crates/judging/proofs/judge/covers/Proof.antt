@@ -8,8 +8,9 @@ use Rattle.judging.proofs.judge.covers.Tie as tie
 returns : tie.Need-returns
 returns c =
     λ state list s.
-    let one = order-leads _ _ _ _ (c .before .ask-numbers .ensures) state list s in
-    both-orders one (order-leads _ _ _ _ (c .ask-numbers2 .ensures) state list (one .sound))
+    let first = c .before .before in
+    let one = rw (first .before .time .ensures) at (order-leads _ _ _ _ (first .ask-order .ensures) state list s) in
+    both-orders one (rw (c .before .time2 .ensures) at (order-leads _ _ _ _ (c .ask-order2 .ensures) state list (one .sound)))
 
 pub covers-spec : {M : Type 1} → statement M
-covers-spec = tie.close (tie.spec (λ c κs. search needs) (λ c κs. search needs) returns)
+covers-spec = tie.close (tie.spec (λ c κs. search needs) (λ c κs. search needs) (λ c κs. search needs) (λ c κs. search needs) returns)

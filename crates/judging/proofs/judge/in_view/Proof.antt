@@ -10,8 +10,10 @@ returns c = λ state list s. stops s (nobodys-view _ _ _ _ _ _ _ (c .before .enu
 
 returns-2 : tie.Need-returns-2
 returns-2 c =
+    let asked = c .before .before .before .before in
     λ state list s.
-    rw (own-view _ _ _ _ _ _ _ _ (c .before .before .viewer .given .1) (c .if1 .taken)) (c .before .before .before .before .covers .ensures state list s)
+    rw (own-view _ _ _ _ _ _ _ _ (c .before .before .viewer .given .1) (c .if1 .taken))
+    (rw (asked .before .time2 .ensures, asked .before .before .time .ensures) at (asked .covers .ensures state list s))
 
 returns-3 : tie.Need-returns-3
 returns-3 c = λ state list s. stops s (other-view _ _ _ _ _ _ _ _ (c .before .before .before .viewer .given .1) (c .before .if1 .left)) (c .misfit2 .ensures)
@@ -19,4 +21,4 @@ returns-3 c = λ state list s. stops s (other-view _ _ _ _ _ _ _ _ (c .before .b
 pub in-view-spec : {M : Type 1} → statement M
 in-view-spec =
     tie.close
-    (tie.spec (λ c κs. search needs) (λ c. search needs) (λ c κs. search needs) (λ c. search needs) (λ c κs. search needs) returns returns-2 returns-3)
+    (tie.spec (λ c κs. search needs) (λ c κs. search needs) (λ c κs. search needs) (λ c. search needs) (λ c κs. search needs) (λ c. search needs) (λ c κs. search needs) returns returns-2 returns-3)
