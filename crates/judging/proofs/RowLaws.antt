@@ -10,7 +10,7 @@ use native.Mathlib.Omega.{arith}
 use borrow.Author.Tests.{eq-eqb, ne-eqb, lt-ltb, le-ltb}
 use borrow.Author.Count.{below-more}
 use lib.ListN.{length, getD, take, set, length-set}
-use lib.Seq.{sets, getD-set-same, getD-set-other, getD-append-add, length-take-le, take-suc, ext-getD}
+use lib.Seq.{sets, length-sets, getD-set-same, getD-set-other, getD-append-add, length-take-le, take-suc, ext-getD}
 use lib.Dec.{ltb, eqb}
 use Rattle.procap.specs.Tells.{pick}
 use Rattle.ledger.proofs.Stored.{sets-after}
@@ -18,7 +18,8 @@ use Rattle.judging.specs.declared.rows.Row.{Row}
 use Rattle.judging.specs.declared.rows.Whose.{Whose}
 use Rattle.judging.specs.declared.rows.Whose.the-variants.{Plain, Claim}
 use Rattle.formula.specs.PutIn.{terms-numbers}
-use Rattle.judging.specs.RowsOf.{numbers-in, time-in, whose-in, row-in, most-rows, row-numbers, all-numbers}
+use Rattle.formula.specs.PartPromises.{front-on-ctime}
+use Rattle.judging.specs.RowsOf.{numbers-in, time-in, whose-in, row-from, row-in, most-rows, row-numbers, all-numbers}
 use Rattle.judging.specs.RowNumbers.{whose-kind, whose-value, numbers-of, rows-with}
 
 -- ── Numbers stored one after another ──
@@ -114,8 +115,8 @@ module _ (xs ys : List ℕ) (s t : ℕ) where
   further : (n m j : ℕ) → m + j ≤ n → Alike n xs s ys t → Alike j xs (s + m) ys (t + m)
   further n m j fits same k inside = simp add-assoc (same (m + k) (omega arith))
 
-rows-alike : (xs ys : List ℕ) (i j : ℕ) → Alike row-numbers xs (i * row-numbers) ys (j * row-numbers) → row-in xs i ≡ row-in ys j
-unfolding row-in
+rows-alike : (xs ys : List ℕ) (i j : ℕ) → Alike row-numbers xs (i * row-numbers) ys (j * row-numbers) → row-from xs i ≡ row-from ys j
+unfolding row-from
 rows-alike xs ys i j same =
     let s = i * row-numbers in
     let t = j * row-numbers in
@@ -145,6 +146,21 @@ module _ (rows : List ℕ) (at : ℕ) {kind : ℕ} (e : kind ≡ getD rows at 0)
   unfolding whose-in
   whose-claimed other f = rw (← e, ne-eqb kind 0 other, ← f)
 
+-- All rows are there, or not.
+module _ (rows : List ℕ) (i : ℕ) where
+  pub row-whole : length rows ≡ all-numbers → row-in rows i ≡ row-from rows i
+  unfolding row-in
+  row-whole all = rw (eq-eqb (length rows) all-numbers all)
+
+  pub row-of-none : (length rows ≡ all-numbers → ⊥) → row-in rows i ≡ record { whose = Plain; judgement = front-on-ctime }
+  unfolding row-in
+  row-of-none apart = rw (ne-eqb (length rows) all-numbers apart)
+
+-- In rows of as many numbers, a row that is the same in its own is the same.
+same-row : (xs ys : List ℕ) (i : ℕ) → length xs ≡ length ys → row-from xs i ≡ row-from ys i → row-in xs i ≡ row-in ys i
+unfolding row-in
+same-row xs ys i n same = rw (n, same)
+
 -- ── A row that is put ──
 
 -- Its parts put one after another are all of them.
@@ -162,8 +178,8 @@ whose-back : (w : Whose) → pick (eqb (whose-kind w) 0) Plain (Claim (whose-val
 whose-back Plain = refl
 whose-back (Claim k) = refl
 
-row-back : (row : Row) → length (row .judgement .formula .terms .numbers) ≡ terms-numbers → row-in (numbers-of row) 0 ≡ row
-unfolding row-in whose-in
+row-back : (row : Row) → length (row .judgement .formula .terms .numbers) ≡ terms-numbers → row-from (numbers-of row) 0 ≡ row
+unfolding row-from whose-in
 row-back row e = λ d. record {
   whose = whose-back (row .whose) d;
   judgement = record {
@@ -211,7 +227,8 @@ module _ (rows : List ℕ) (index : ℕ) (row : Row) {after : List ℕ} (put : a
   -- The row stands there, where all rows are there and it is one of theirs, and it has all its numbers.
   pub row-there : length rows ≡ all-numbers → index < most-rows → length (row .judgement .formula .terms .numbers) ≡ terms-numbers → row-in after index ≡ row
   row-there all below full =
-      rows-alike after (numbers-of row) index 0
+      row-whole after index (ap length (put ∙ put-there rows index row all below) ∙ length-sets rows (index * row-numbers) (numbers-of row) ∙ all)
+      ∙ rows-alike after (numbers-of row) index 0
       (λ k inside. rw (put ∙ put-there rows index row all below, zero-add) (stands rows (index * row-numbers) (numbers-of row) k (omega arith) (omega arith)))
       ∙ row-back row full
 
@@ -221,8 +238,9 @@ module _ (rows : List ℕ) (index : ℕ) (row : Row) {after : List ℕ} (put : a
   stays-outside i outside =
       rw put
       (with-either (λ after. row-in after i ≡ row-in rows i) rows index row refl
+      (same-row (sets rows (index * row-numbers) (numbers-of row)) rows i (length-sets rows (index * row-numbers) (numbers-of row))
       (rows-alike (sets rows (index * row-numbers) (numbers-of row)) rows i i
-      (λ k inside. stays rows (index * row-numbers) (numbers-of row) (i * row-numbers + k) (outside k inside))))
+      (λ k inside. stays rows (index * row-numbers) (numbers-of row) (i * row-numbers + k) (outside k inside)))))
 
   -- as each before it does, and, where it has all its numbers, every other.
   pub earlier-stay : (i : ℕ) → i < index → row-in after i ≡ row-in rows i

@@ -17,6 +17,7 @@ use Rattle.judging.specs.declared.rows.Whose.{Whose}
 use Rattle.judging.specs.declared.rows.Whose.the-variants.{Plain, Claim}
 use Rattle.formula.specs.PutIn.{terms-numbers}
 use Rattle.formula.specs.Meaning.{On}
+use Rattle.formula.specs.PartPromises.{front-on-ctime}
 
 -- How many rows there are at the most.
 abbrev pub most-rows : ℕ
@@ -43,9 +44,9 @@ time-in rows at = record { kind = getD rows at 0; second = getD rows (at + 1) 0 
 unfoldable pub whose-in : List ℕ → ℕ → Whose
 whose-in rows at = pick (eqb (getD rows at 0) 0) Plain (Claim (getD rows (at + 1) 0))
 
--- The row at an index.
-unfoldable pub row-in : List ℕ → ℕ → Row
-row-in rows i =
+-- The row that sixteen numbers are, by its index.
+unfoldable pub row-from : List ℕ → ℕ → Row
+row-from rows i =
     let start = i * row-numbers in
     record {
       whose = whose-in rows start;
@@ -58,6 +59,10 @@ row-in rows i =
         to = time-in rows (start + 4);
       };
     }
+
+-- The row at an index, where all rows are there; else a plain one that says nothing.
+unfoldable pub row-in : List ℕ → ℕ → Row
+row-in rows i = pick (eqb (length rows) all-numbers) (row-from rows i) (record { whose = Plain; judgement = front-on-ctime })
 
 -- The row of an index is an assumption, where the plain ones below `below` are shut out.
 pub data RowIs (buffer : List ℕ) (row : Row) (index below : ℕ) : Assumption → Type 0 where
