@@ -4,6 +4,7 @@ use mathlib.Core.Path.{_≡_, refl}
 use mathlib.Core.List.{List, map}
 use mathlib.Core.Option.{Option, some, none}
 use mathlib.Core.Logic.{if-pos, if-neg}
+use borrow.Author.Tests.{ne-eqb}
 use Rattle.procap.specs.declared.time.Time.{Time}
 use Rattle.procap.specs.declared.fact.Term.{Term}
 use Rattle.procap.specs.declared.fact.Term.the-variants.{Name, When}
@@ -12,8 +13,6 @@ use Rattle.bl.specs.Questions.{Walk, done, misfit, _>>=_, ask-order, ask-fact, 
 use Rattle.bl.specs.Kinds.{as-name, as-time, as-terms, as-top, as-and, as-implies, as-all, as-says, as-at, as-fact, as-order}
 use Rattle.bl.specs.Rules.{InView}
 use Rattle.bl.specs.Walk.{need-cover, in-view?, need-in-view, need-view, need-sort}
-use Rattle.judging.specs.declared.judge.Viewer.{Viewer}
-use Rattle.judging.specs.declared.judge.Viewer.the-variants.{Nobody, Principal}
 use Rattle.judging.specs.Judging.{view-by, and-sides, implies-sides, at-parts, says-parts, top-goal, fact-goal, order-goal, put-in}
 use Rattle.judging.specs.Pieces.{two-times}
 
@@ -21,18 +20,18 @@ module _ (q : ℕ) where
   -- ── Views ──
 
   -- The view of the principal, of another, of nobody.
-  module _ (v : Viewer) (k : ℕ) (a b c d : Time) where
-    pub own-view : (j : ℕ) → v ≡ Principal j → j ≡ k → need-view q (view-by v c d) k a b ≡ need-cover q a b c d
+  module _ (kind j k : ℕ) (a b c d : Time) where
+    pub own-view : (kind ≡ 0 → ⊥) → j ≡ k → need-view q (view-by kind j c d) k a b ≡ need-cover q a b c d
     unfolding need-view need-in-view InView view-by _>>=_
-    own-view j e f = rw (e, if-pos (in-view? j k) f (done (tt {0})) (misfit q))
+    own-view somebodys own = rw (ne-eqb kind 0 somebodys, if-pos (in-view? j k) own (done (tt {0})) (misfit q))
 
-    pub other-view : (j : ℕ) → v ≡ Principal j → (j ≡ k → ⊥) → need-view q (view-by v c d) k a b ≡ misfit q
+    pub other-view : (kind ≡ 0 → ⊥) → (j ≡ k → ⊥) → need-view q (view-by kind j c d) k a b ≡ misfit q
     unfolding need-view need-in-view InView view-by _>>=_
-    other-view j e n = rw (e, if-neg (in-view? j k) n (done (tt {0})) (misfit q))
+    other-view somebodys other = rw (ne-eqb kind 0 somebodys, if-neg (in-view? j k) other (done (tt {0})) (misfit q))
 
-    pub nobodys-view : v ≡ Nobody → need-view q (view-by v c d) k a b ≡ misfit q
+    pub nobodys-view : kind ≡ 0 → need-view q (view-by kind j c d) k a b ≡ misfit q
     unfolding need-view view-by
-    nobodys-view e = rw e
+    nobodys-view nobodys = rw nobodys
 
   -- ── What must be there ──
 

@@ -2,6 +2,8 @@
 use Prim.Native.Nat.{ℕ}
 use mathlib.Core.Path.{_≡_}
 use mathlib.Core.List.{List}
+use lib.Dec.{eqb}
+use Rattle.procap.specs.Tells.{pick}
 use Rattle.procap.specs.declared.time.Time.{Time}
 use Rattle.procap.specs.declared.time.Time.the-variants.{Ctime}
 use Rattle.procap.specs.declared.fact.Term.{Term}
@@ -21,8 +23,6 @@ use Rattle.ledger.specs.declared.Ledger.{Ledger}
 use Rattle.ledger.specs.declared.Stop.the-variants.{Going}
 use Rattle.formula.specs.declared.parts.Judgement.{Judgement}
 use Rattle.judging.specs.declared.judge.View.{View}
-use Rattle.judging.specs.declared.judge.Viewer.{Viewer}
-use Rattle.judging.specs.declared.judge.Viewer.the-variants.{Nobody, Principal}
 use Rattle.judging.specs.declared.judge.Scope.{Scope}
 use Rattle.judging.specs.declared.judge.Shell.{Shell}
 use Rattle.judging.specs.declared.judge.Shell.the-variants.{AtShell, SaysShell}
@@ -40,22 +40,21 @@ use Rattle.formula.specs.PartPromises.{front-on-ctime}
 abbrev pub and-then : {A B : Type 0} → Walk A → (A → Walk B) → Walk B
 and-then w g = w >>= g
 
--- The view of a viewer on an interval.
-unfoldable pub view-by : Viewer → Time → Time → rules.View
-view-by Nobody c d = no-view
-view-by (Principal k) c d = view-of k c d
+-- Nobody's view, by the kind 0, or that of k on an interval.
+unfoldable pub view-by : ℕ → ℕ → Time → Time → rules.View
+view-by kind k c d = pick (eqb kind 0) no-view (view-of k c d)
 
 -- In whose view a step stands, and on which interval.
 abbrev pub view-in : View → rules.View
-view-in v = view-by (v .viewer) (time-of (v .from)) (time-of (v .to))
+view-in v = view-by (v .kind) (v .principal) (time-of (v .from)) (time-of (v .to))
 
 -- [Rules, judgements] The scope at the start of a walk: nothing is assumed, and the view is nobody's; its interval says nothing.
 abbrev pub outermost : Scope
-outermost = record { count = 0; shut = 0; view = record { viewer = Nobody; from = time-numbers Ctime; to = time-numbers Ctime } }
+outermost = record { count = 0; shut = 0; view = record { kind = 0; principal = 0; from = time-numbers Ctime; to = time-numbers Ctime } }
 
 -- The view of k on the interval of a judgement.
 abbrev pub view-on : ℕ → Judgement → View
-view-on k j = record { viewer = Principal k; from = j .from; to = j .to }
+view-on k j = record { kind = 1; principal = k; from = j .from; to = j .to }
 
 -- The same, by whose the row inside of the shell is.
 abbrev pub scope-by : Scope → Whose → Judgement → Scope

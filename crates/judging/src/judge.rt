@@ -32,15 +32,10 @@ ghost use Rattle.judging.specs.Judging.{«view-in», outermost, «scope-
 ghost use Rattle.judging.specs.StepPromises.{UsesRow, UsesLocal, UsesCertificate, TakesSides, TakesConjuncts, StaysStopped, TakesTimes, TakesAt, TakesSays, TakesInside, TakesInsideInferred, Continues, PutsToUse, MeetsGoal, MeetsFact, FitsGoal, ChecksInferred};
 ghost use Rattle.judging.specs.Pieces.{«binder-of»};
 
-// Whose a view is: nobody's, or a principal's.
-pub enum Viewer {
-    Nobody,
-    Principal(u64),
-}
-
-// In whose view a step stands, and on which interval, which says nothing where it is nobody's.
+// In whose view a step stands, and on which interval, in plain numbers: 0 for nobody's view, where the rest says nothing, and 1 for a principal's.
 pub struct View {
-    pub viewer: Viewer,
+    pub kind: u64,
+    pub principal: u64,
     pub from: TimeNumbers,
     pub to: TimeNumbers,
 }
@@ -148,7 +143,8 @@ impl Scope {
             count: 0,
             shut: 0,
             view: View {
-                viewer: Viewer::Nobody,
+                kind: 0,
+                principal: 0,
                 from: Time::ctime().numbers(),
                 to: Time::ctime().numbers(),
             },
@@ -169,7 +165,8 @@ impl Scope {
                 count: self.count,
                 shut: self.count,
                 view: View {
-                    viewer: Viewer::Principal(principal),
+                    kind: 1,
+                    principal: principal,
                     from: from,
                     to: to,
                 },
@@ -198,20 +195,17 @@ fn in_view(
 ) -> Ledger
     ensures { λ r. ⌜ Leads ledger (walk.«need-view» offset («view-in» view) principal («from-of» judgement) («to-of» judgement)) r ⌝ }
 {
-    let viewer = view.viewer;
     let from = view.from;
     let to = view.to;
     let covered = covers(ledger, offset, judgement, from.time(), to.time());
-    match viewer {
-        Viewer::Nobody => ledger.misfit(offset),
-        Viewer::Principal(own) => {
-            if own == principal {
-                covered
-            } else {
-                ledger.misfit(offset)
-            }
-        }
+    let unfit = ledger.misfit(offset);
+    if view.kind == 0 {
+        return unfit;
     }
+    if view.principal != principal {
+        return unfit;
+    }
+    covered
 }
 
 // A row, used as it stands: a plain assumption unless it is shut out, a claim in a view of its principal that it covers.
