@@ -11,7 +11,7 @@ ghost use Prim.Native.Nat.{_+_, _≤_, _<_};
 ghost use lib.ListN.{length};
 ghost use lib.Seq.{sets};
 ghost use Rattle.formula.specs.PutIn.{«terms-numbers»};
-ghost use Rattle.judging.specs.RowsOf.{«row-in», «whose-in», «time-in», «numbers-in», «most-rows»};
+ghost use Rattle.judging.specs.RowsOf.{«row-from», «row-in», «whose-in», «time-in», «numbers-in», «most-rows»};
 ghost use Rattle.judging.specs.RowNumbers.{«whose-kind», «whose-value», «rows-with»};
 
 // How many rows there are at the most.
@@ -92,17 +92,11 @@ fn whose_in(rows: &[u64], at: usize) -> Whose
     }
 }
 
-// The row at an index. Whether all rows are there is asked once, so that no number of the row is looked for in vain.
-pub(crate) fn row_at(rows: &[u64], index: usize) -> Row
+// The row that sixteen numbers are, by its index.
+fn row_from(rows: &[u64], index: usize) -> Row
     requires { ⌜ index < «most-rows» ⌝ }
-    ensures { λ r. ⌜ r ≡ «row-in» (now (rows .entry)) index ⌝ }
+    ensures { λ r. ⌜ r ≡ «row-from» (now (rows .entry)) index ⌝ }
 {
-    if rows.len() != ALL_NUMBERS {
-        return Row {
-            whose: Whose::Plain,
-            judgement: Judgement::front_on_ctime(),
-        };
-    }
     let start = index * ROW_NUMBERS;
     let terms = Terms {
         count: number_in(rows, start + 7) as usize,
@@ -120,6 +114,20 @@ pub(crate) fn row_at(rows: &[u64], index: usize) -> Row
     Row {
         whose: whose_in(rows, start),
         judgement: judgement,
+    }
+}
+
+// The row at an index. Whether all rows are there is asked once, and then not for each number of the row.
+pub(crate) fn row_at(rows: &[u64], index: usize) -> Row
+    requires { ⌜ index < «most-rows» ⌝ }
+    ensures { λ r. ⌜ r ≡ «row-in» (now (rows .entry)) index ⌝ }
+{
+    if rows.len() == ALL_NUMBERS {
+        return row_from(rows, index);
+    }
+    Row {
+        whose: Whose::Plain,
+        judgement: Judgement::front_on_ctime(),
     }
 }
 
