@@ -4,6 +4,7 @@ use mathlib.Core.Path.{_≡_}
 use mathlib.Core.List.{List}
 use lib.Dec.{eqb}
 use Rattle.procap.specs.Tells.{pick}
+use Rattle.procap.specs.Numbered.{time-of, time-numbers}
 use Rattle.procap.specs.declared.time.Time.{Time}
 use Rattle.procap.specs.declared.time.Time.the-variants.{Ctime}
 use Rattle.procap.specs.declared.fact.Term.{Term}
@@ -15,7 +16,6 @@ use Rattle.bl.specs.Kinds.{as-name, as-time, as-terms, as-top, as-and, as-impli
 use Rattle.bl.specs.Rules as rules
 use Rattle.procap.specs.Lists.{nth}
 use Rattle.bl.specs.Certificates.{Statement}
-use Rattle.procap.specs.Numbered.{time-of, time-numbers}
 use Rattle.bl.specs.Rules.{Assumption, plain, claim, no-view, view-of}
 use Rattle.bl.specs.Walk as walk
 use Rattle.bl.specs.Walk.{same, need-cover, need-sort}
@@ -33,7 +33,7 @@ use Rattle.judging.specs.declared.judge.Inferred.{Inferred}
 use Rattle.judging.specs.declared.judge.Checked.{Checked}
 use Rattle.judging.specs.declared.judge.Application.{Application}
 use Rattle.ledger.specs.Books.{stop-of, Book, book, Gives, misfitted}
-use Rattle.formula.specs.Meaning.{begin, from-of, to-of, On}
+use Rattle.formula.specs.Meaning.{begin, On}
 use Rattle.formula.specs.PartPromises.{front-on-ctime}
 
 -- One walk, and then another.
@@ -56,7 +56,7 @@ outermost = record { count = 0; shut = 0; view = record { kind = 0; principal = 
 abbrev pub view-on : ℕ → Judgement → View
 view-on k j = record { kind = 1; principal = k; from = j .from; to = j .to }
 
--- The same, by whose the row inside of the shell is.
+-- The scope inside of a shell, by whose the row is that stands there, and by its judgement.
 abbrev pub scope-by : Scope → Whose → Judgement → Scope
 scope-by scope Plain j = scope
 scope-by scope (Claim k) j = record { count = scope .count; shut = scope .count; view = view-on k j }
