@@ -52,7 +52,7 @@ impl Office<'_> {
         let helped = self.helped(goal, false);
         let formula = self.helpful(&helped.formula, helped.levels - 2);
         let span = self.clock.around(self.random, helped.span);
-        let whole = Formula::at(Word::when(span.from), Word::when(span.to), formula.clone());
+        let whole = Formula::at_span(span, formula.clone());
         let anywhere = Span {
             from: self.time(),
             to: self.time(),

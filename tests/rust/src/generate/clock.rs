@@ -119,10 +119,7 @@ impl Clock {
         let mut times = self.fixed();
         times.retain(|time| self.at_most(low, *time) && self.at_most(*time, high));
         times.push(if low == Time::Ctime { high } else { low });
-        match *random.pick(&times) {
-            Time::Ctime => Time::Moment(self.press),
-            time => time,
-        }
+        self.without_ctime(*random.pick(&times))
     }
 
     /// A span that covers another at the press.
@@ -133,15 +130,19 @@ impl Clock {
         }
     }
 
-    /// The same span at the press, without ctime.
-    pub fn without_ctime(&self, span: Span) -> Span {
-        let fixed = |time| match time {
+    /// The same time, with the press for ctime.
+    fn without_ctime(&self, time: Time) -> Time {
+        match time {
             Time::Ctime => Time::Moment(self.press),
             time => time,
-        };
+        }
+    }
+
+    /// The same span, with the press for ctime.
+    pub fn fixed_span(&self, span: Span) -> Span {
         Span {
-            from: fixed(span.from),
-            to: fixed(span.to),
+            from: self.without_ctime(span.from),
+            to: self.without_ctime(span.to),
         }
     }
 

@@ -60,6 +60,11 @@ impl Formula {
         plain(tags::AT, vec![from, to], vec![body])
     }
 
+    /// A formula at a span.
+    pub fn at_span(span: Span, body: Formula) -> Formula {
+        Formula::at(Word::when(span.from), Word::when(span.to), body)
+    }
+
     /// An atom.
     pub fn atom(predicate: u16, words: Vec<Word>) -> Formula {
         let mut atom = plain(tags::ATOM, words, vec![]);

@@ -86,22 +86,33 @@ impl Office<'_> {
         let asking = self.restless(goal) && !self.random.one_in(6);
         let (grown, plan) = self.grown(goal.formula.clone(), goal.levels, moves, asking);
         let (formula, plan) = self.without_ctime(grown, plan);
+        let both = self.clock.around_both(goal.span, goal.view.span);
+        let head = self.certified(goal.view.principal, both, formula)?;
+        self.followed(head, &plan, goal)
+    }
+
+    /// A new certificate of a principal around a span, if there is room for it.
+    pub fn certified(
+        &mut self,
+        principal: u16,
+        around: Span,
+        formula: Formula,
+    ) -> Option<Inferred> {
         if self.policy.len() >= 32 || !formula.fits(0) {
             return None;
         }
-        let both = self.clock.around_both(goal.span, goal.view.span);
-        let span = self.certified_around(both);
+        let span = self.certified_around(around);
         let step = Step::certificate(self.policy.len());
         self.policy.push(Certificate {
-            principal: goal.view.principal,
+            principal,
             span,
             formula,
         });
-        self.followed(Inferred { step, span }, &plan, goal)
+        Some(Inferred { step, span })
     }
 
     /// A span for a certificate that covers another.
-    pub fn certified_around(&mut self, span: Span) -> Span {
+    fn certified_around(&mut self, span: Span) -> Span {
         if self.random.below(8) < self.habits.always {
             return Span::ALWAYS;
         }

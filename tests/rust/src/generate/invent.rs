@@ -119,7 +119,7 @@ impl Office<'_> {
             None => assumption.formula,
         };
         if hidden || self.random.one_in(2) {
-            return Formula::at(Word::when(span.from), Word::when(span.to), shown);
+            return Formula::at_span(span, shown);
         }
         shown
     }

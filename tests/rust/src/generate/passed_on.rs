@@ -2,7 +2,7 @@
 
 use super::clock::Span;
 use super::formula::Formula;
-use super::office::{Certificate, Office};
+use super::office::Office;
 use super::step::Step;
 use super::tags;
 use super::valid::ADMINISTRATOR;
@@ -59,18 +59,9 @@ impl Office<'_> {
         Some(Step::apply(first, shown, passed.span.from, passed.span.to))
     }
 
-    /// A new certificate of the administrator around a span, if there is room for it.
+    /// A step that names a new certificate of the administrator around a span, if there is room for it.
     fn told(&mut self, formula: Formula, around: Span) -> Option<Step> {
-        if self.policy.len() >= 32 || !formula.fits(0) {
-            return None;
-        }
-        let step = Step::certificate(self.policy.len());
-        let span = self.certified_around(around);
-        self.policy.push(Certificate {
-            principal: ADMINISTRATOR,
-            span,
-            formula,
-        });
-        Some(step)
+        let told = self.certified(ADMINISTRATOR, around, formula)?;
+        Some(told.step)
     }
 }

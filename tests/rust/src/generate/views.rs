@@ -78,7 +78,7 @@ impl Use {
     fn certified(&self, random: &mut Random) -> Case {
         let certificate = Certificate {
             principal: self.speaker,
-            span: self.clock.without_ctime(self.words),
+            span: self.clock.fixed_span(self.words),
             formula: said(),
         };
         let inside = self.viewed(Step::over(tags::AT_IN, vec![Step::certificate(1)]));
@@ -104,8 +104,8 @@ impl Use {
 
     /// The words are an assumption that is nobody's.
     fn plain(&self, random: &mut Random) -> Case {
-        let span = self.clock.without_ctime(self.words);
-        let mut certificate = always(at(span, said()));
+        let span = self.clock.fixed_span(self.words);
+        let mut certificate = always(Formula::at_span(span, said()));
         certificate.principal = self.viewer;
         let shown = Step::over(tags::AT_IN, vec![Step::named(tags::LOCAL, 0)]);
         let inside = Step::over(tags::AT_OUT, vec![Step::certificate(1), shown]);
@@ -140,8 +140,8 @@ impl Use {
         claim: impl Fn(Step) -> Step,
     ) -> Case {
         let request = some_request(random);
-        let viewed = Formula::says(Word::name(self.viewer), at(self.goal, said()));
-        let rule = Formula::implies(at(self.view, viewed), may(request));
+        let viewed = Formula::says(Word::name(self.viewer), Formula::at_span(self.goal, said()));
+        let rule = Formula::implies(Formula::at_span(self.view, viewed), may(request));
         let ctime = Term::When(Time::Ctime);
         let rule = always(rule.abstracted(ctime, Sort::Time, &mut || true));
         let first = Step::instance(ctime, Step::certificate(0));
@@ -153,9 +153,4 @@ impl Use {
 /// What is said.
 fn said() -> Formula {
     Formula::atom(300, vec![])
-}
-
-/// A formula at a span.
-fn at(span: Span, formula: Formula) -> Formula {
-    Formula::at(Word::when(span.from), Word::when(span.to), formula)
 }
