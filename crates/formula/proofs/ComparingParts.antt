@@ -5,10 +5,10 @@ use mathlib.Core.List.{List}
 use native.Mathlib.Omega.{arith}
 use lib.ListN.{length}
 use Rattle.bl.specs.declared.FormulaTag.{FormulaTag}
-use Rattle.bl.specs.declared.FormulaTag.the-variants.{TopTag, AndTag, ImpliesTag, SaysTag, AtTag, AtomTag, FactTag, OrderTag, NoFormulaTag}
-use Rattle.bl.specs.Trees.{Place, Sort, names, times, Formula, all}
+use Rattle.bl.specs.declared.FormulaTag.the-variants.{TopTag, AndTag, ImpliesTag, SaysTag, AtTag, AtomTag, FactTag, OrderTag, OrTag, FalsityTag, NoFormulaTag}
+use Rattle.bl.specs.Trees.{Place, Sort, names, times, Formula, and, implies, all, or}
 use Rattle.bl.specs.Questions.{done, _>>=_, _>>_, Test, need, need-equal}
-use Rattle.bl.specs.Kinds.{as-top, as-and, as-implies, as-all, as-says, as-at, as-atom, as-fact, as-order}
+use Rattle.bl.specs.Kinds.{as-top, as-and, as-implies, as-all, as-says, as-at, as-atom, as-fact, as-order, as-or, as-falsity}
 use Rattle.bl.specs.Walk.{same-place, same-places, same-sort, same}
 use Rattle.ledger.specs.declared.Ledger.{Ledger}
 use Rattle.formula.specs.declared.parts.FormulaAt.{FormulaAt}
@@ -99,29 +99,48 @@ module _ (left-bytes right-bytes : List ℕ) (pair parts : Pair) (l : Ledger) (l
 
   -- ── Kinds ──
 
-  pub top-same : tag ≡ TopTag → r ≡ record { ledger = l; «left_next» = parts .left .at; «right_next» = parts .right .at } → Tagged
-  unfolding same need as-top _>>=_
-  top-same told is t t′ F G m n low =
-      let x = shapes.top-shape left-bytes d left m (t ∙ told) in
-      let y = shapes.top-shape right-bytes d right n (t′ ∙ told) in
-      seen m n low (done tt) (x .is) (y .is) refl
+  -- Two formulas without parts.
+  leaves-same : (leaf : Formula) → same q leaf leaf ≡ done tt → r ≡ record { ledger = l; «left_next» = parts .left .at; «right_next» = parts .right .at }
+      → {F G : Formula} (m : Means left-bytes d left F) (n : Means right-bytes d right G) → m .level ≤ suc levels
+      → shapes.LeafShape left-bytes d left m leaf → shapes.LeafShape right-bytes d right n leaf → LeadsTo l (same q F G) r (m .end) (n .end)
+  leaves-same leaf walk is m n low x y =
+      seen m n low (done tt) (x .is) (y .is) walk
       (ap (λ z. z .«left_next») is ∙ ap (λ z. z .left .at) (at-parts m n low) ∙ x .ends)
       (ap (λ z. z .«right_next») is ∙ ap (λ z. z .right .at) (at-parts m n low) ∙ y .ends)
       (agrees l r (ap (λ z. z .ledger) is))
 
+  pub top-same : tag ≡ TopTag → r ≡ record { ledger = l; «left_next» = parts .left .at; «right_next» = parts .right .at } → Tagged
+  unfolding same need as-top _>>=_
+  top-same told is t t′ F G m n low =
+      leaves-same _ refl is m n low (shapes.top-shape left-bytes d left m (t ∙ told)) (shapes.top-shape right-bytes d right n (t′ ∙ told))
+
+  pub falsity-same : tag ≡ FalsityTag → r ≡ record { ledger = l; «left_next» = parts .left .at; «right_next» = parts .right .at } → Tagged
+  unfolding same need as-falsity _>>=_
+  falsity-same told is t t′ F G m n low =
+      leaves-same _ refl is m n low (shapes.falsity-shape left-bytes d left m (t ∙ told)) (shapes.falsity-shape right-bytes d right n (t′ ∙ told))
+
+  -- Two formulas made of two.
+  sides-same : (make : Formula → Formula → Formula) → ((A B A′ B′ : Formula) → same q (make A B) (make A′ B′) ≡ (same q A A′ >> same q B B′))
+      → (one : Compared) → ComparesPair left-bytes right-bytes parts l levels one → After one
+      → {F G : Formula} (m : Means left-bytes d left F) (n : Means right-bytes d right G) → m .level ≤ suc levels
+      → shapes.SidesShape left-bytes d left m make → shapes.SidesShape right-bytes d right n make → LeadsTo l (same q F G) r (m .end) (n .end)
+  sides-same make walk one first second m n low x y =
+      seen m n low _ (x .is) (y .is) (walk (x .left) (x .right) (y .left) (y .right)) refl refl (two-parts m n low (x .parts) (y .parts) one first second)
+
   pub and-same : tag ≡ AndTag → (one : Compared) → ComparesPair left-bytes right-bytes parts l levels one → After one → Tagged
   unfolding same need as-and _>>=_
   and-same told one first second t t′ F G m n low =
-      let x = shapes.and-shape left-bytes d left m (t ∙ told) in
-      let y = shapes.and-shape right-bytes d right n (t′ ∙ told) in
-      seen m n low _ (x .is) (y .is) refl refl refl (two-parts m n low (x .parts) (y .parts) one first second)
+      sides-same and (λ A B A′ B′. refl) one first second m n low (shapes.and-shape left-bytes d left m (t ∙ told)) (shapes.and-shape right-bytes d right n (t′ ∙ told))
 
   pub implies-same : tag ≡ ImpliesTag → (one : Compared) → ComparesPair left-bytes right-bytes parts l levels one → After one → Tagged
   unfolding same need as-implies _>>=_
   implies-same told one first second t t′ F G m n low =
-      let x = shapes.implies-shape left-bytes d left m (t ∙ told) in
-      let y = shapes.implies-shape right-bytes d right n (t′ ∙ told) in
-      seen m n low _ (x .is) (y .is) refl refl refl (two-parts m n low (x .parts) (y .parts) one first second)
+      sides-same implies (λ A B A′ B′. refl) one first second m n low (shapes.implies-shape left-bytes d left m (t ∙ told)) (shapes.implies-shape right-bytes d right n (t′ ∙ told))
+
+  pub or-same : tag ≡ OrTag → (one : Compared) → ComparesPair left-bytes right-bytes parts l levels one → After one → Tagged
+  unfolding same need as-or _>>=_
+  or-same told one first second t t′ F G m n low =
+      sides-same or (λ A B A′ B′. refl) one first second m n low (shapes.or-shape left-bytes d left m (t ∙ told)) (shapes.or-shape right-bytes d right n (t′ ∙ told))
 
   pub all-same : (s : Sort) → tag ≡ shapes.binder-tag s → ComparesBody left-bytes right-bytes parts l levels r → Tagged
   all-same s told h t t′ F G m n low =

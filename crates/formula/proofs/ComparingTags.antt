@@ -5,11 +5,11 @@ use mathlib.Core.List.{List}
 use mathlib.Core.Option.{Option, some, none}
 use native.Mathlib.Omega.{arith}
 use Rattle.bl.specs.declared.FormulaTag.{FormulaTag}
-use Rattle.bl.specs.declared.FormulaTag.the-variants.{TopTag, AndTag, ImpliesTag, AllNamesTag, AllTimesTag, SaysTag, AtTag, AtomTag, FactTag, OrderTag, NoFormulaTag}
+use Rattle.bl.specs.declared.FormulaTag.the-variants.{TopTag, AndTag, ImpliesTag, AllNamesTag, AllTimesTag, SaysTag, AtTag, AtomTag, FactTag, OrderTag, OrTag, FalsityTag, NoFormulaTag}
 use Rattle.bl.specs.Trees.{Sort, names, times, Formula, all}
 use Rattle.bl.specs.Formulas.{formula}
 use Rattle.bl.specs.Questions.{misfit, _>>=_, _>>_, need}
-use Rattle.bl.specs.Kinds.{as-top, as-and, as-implies, as-all, as-says, as-at, as-atom, as-fact, as-order}
+use Rattle.bl.specs.Kinds.{as-top, as-and, as-implies, as-all, as-says, as-at, as-atom, as-fact, as-order, as-or, as-falsity}
 use Rattle.bl.specs.Walk.{same-sort, same}
 use Rattle.ledger.specs.declared.Ledger.{Ledger}
 use Rattle.formula.specs.declared.parts.FormulaAt.{FormulaAt}
@@ -81,6 +81,9 @@ module _ (left-bytes right-bytes : List ℕ) (d : ℕ) (left right : FormulaAt) 
   other-tags FactTag e other = seen (shapes.fact-shape left-bytes d left m e .is) (not-there q (as-fact G) _ (shapes.not-fact right-bytes d right n other))
   other-tags OrderTag e other =
       seen (shapes.order-shape left-bytes d left m e .is) (not-there q (as-order G) _ (shapes.not-order right-bytes d right n other))
+  other-tags OrTag e other = seen (shapes.or-shape left-bytes d left m e .is) (not-there q (as-or G) _ (shapes.not-or right-bytes d right n other))
+  other-tags FalsityTag e other =
+      seen (shapes.falsity-shape left-bytes d left m e .is) (not-there q (as-falsity G) _ (shapes.not-falsity right-bytes d right n other))
   other-tags NoFormulaTag e other = absurd (shapes.tagged left-bytes d left m e)
 
 -- A formula has a level.

@@ -21,8 +21,8 @@ use Rattle.procap.specs.declared.time.Time.{Time}
 use Rattle.procap.proofs.Telling.{tells-picked}
 use Rattle.procap.proofs.ReadApart.{not-read}
 use Rattle.bl.specs.declared.FormulaTag.{FormulaTag}
-use Rattle.bl.specs.declared.FormulaTag.the-variants.{TopTag, AndTag, ImpliesTag, AllNamesTag, AllTimesTag, SaysTag, AtTag, AtomTag, FactTag, OrderTag, NoFormulaTag}
-use Rattle.bl.specs.Trees.{Place, fixed, bound, Sort, names, times, Formula, top, at, order}
+use Rattle.bl.specs.declared.FormulaTag.the-variants.{TopTag, AndTag, ImpliesTag, AllNamesTag, AllTimesTag, SaysTag, AtTag, AtomTag, FactTag, OrderTag, OrTag, FalsityTag, NoFormulaTag}
+use Rattle.bl.specs.Trees.{Place, fixed, bound, Sort, names, times, Formula, top, at, order, falsity}
 use Rattle.bl.specs.Tags.{formula-tag}
 use Rattle.bl.specs.Formulas.{most-formula-levels, most-binders, variable-of, place-of, fixed-by, place-by, argument, place, for-all, formula-by, formula, formula-in}
 use Rattle.formula.specs.declared.ends.End.{End}
@@ -283,6 +283,14 @@ module _ (part : List ℕ) (below : List Sort → Reader Formula) (sorts : List 
   pub order-ends : (r : End) → Ends (two-times part sorts from) r → Ends (formula-by part below sorts OrderTag from) r
   unfolding formula-by two-times
   order-ends r h = paired _ _ _ r (made-of _ (λ ts. order (ts .0) (ts .1)) r h)
+
+  pub or-ends : (b r : End) → Ends (below sorts from) b → EndsAfter (below sorts) b r → Ends (formula-by part below sorts OrTag from) r
+  unfolding formula-by
+  or-ends b r h k = both-ended _ _ _ b r h k
+
+  pub falsity-ends : Ends (formula-by part below sorts FalsityTag from) (At from)
+  unfolding formula-by
+  falsity-ends = (falsity, refl)
 
   pub no-formula : formula-by part below sorts NoFormulaTag from ≡ none
   unfolding formula-by

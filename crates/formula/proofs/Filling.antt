@@ -9,7 +9,7 @@ use native.Mathlib.Decide.{ℕ-discrete, decLt}
 use native.Mathlib.Omega.{arith}
 use Rattle.procap.specs.Lists.{nth}
 use Rattle.procap.specs.declared.fact.Term.{Term}
-use Rattle.bl.specs.Trees.{Place, fixed, bound, Formula, top, and, implies, all, says, at, atom, fact, order, put-place, put}
+use Rattle.bl.specs.Trees.{Place, fixed, bound, Formula, top, and, implies, all, says, at, atom, fact, order, or, falsity, put-place, put}
 use Rattle.formula.specs.PutIn.{put-for, fill-place, fill}
 
 -- ── One term more ──
@@ -76,6 +76,8 @@ module _ (t : Term) where
     put-fill d (atom p xs) = ap (atom p) (put-fill-places d xs)
     put-fill d (fact p xs) = ap (fact p) (put-fill-places d xs)
     put-fill d (order u v) = ap₂ order (put-fill-place d u) (put-fill-place d v)
+    put-fill d (or A B) = ap₂ or (put-fill d A) (put-fill d B)
+    put-fill d falsity = refl
 
 -- ── No terms ──
 
@@ -99,3 +101,5 @@ fill-nothing d (at t u A) = cc (fill-place-nothing d t, fill-place-nothing d u, 
 fill-nothing d (atom p xs) = ap (atom p) (fill-places-nothing d xs)
 fill-nothing d (fact p xs) = ap (fact p) (fill-places-nothing d xs)
 fill-nothing d (order t u) = ap₂ order (fill-place-nothing d t) (fill-place-nothing d u)
+fill-nothing d (or A B) = ap₂ or (fill-nothing d A) (fill-nothing d B)
+fill-nothing d falsity = refl

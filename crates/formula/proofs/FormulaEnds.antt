@@ -9,8 +9,8 @@ use Rattle.procap.specs.Bytes.{then, give, predicate-and}
 use Rattle.procap.proofs.Readers.{IfRead, unread, read, so-read, ensure-read}
 use Rattle.procap.proofs.ReadApart.{not-read, byte-then}
 use Rattle.bl.specs.declared.FormulaTag.{FormulaTag}
-use Rattle.bl.specs.declared.FormulaTag.the-variants.{TopTag, AndTag, ImpliesTag, AllNamesTag, AllTimesTag, SaysTag, AtTag, AtomTag, FactTag, OrderTag, NoFormulaTag}
-use Rattle.bl.specs.Trees.{Place, Sort, names, times, Formula, and, implies, atom, fact}
+use Rattle.bl.specs.declared.FormulaTag.the-variants.{TopTag, AndTag, ImpliesTag, AllNamesTag, AllTimesTag, SaysTag, AtTag, AtomTag, FactTag, OrderTag, OrTag, FalsityTag, NoFormulaTag}
+use Rattle.bl.specs.Trees.{Place, Sort, names, times, Formula, and, implies, atom, fact, or}
 use Rattle.bl.specs.Formulas.{argument, place, for-all, formula-by, formula}
 use Rattle.formula.specs.Meaning.{tag-of}
 use Rattle.formula.proofs.PartsRead.{EndsAt, after-end}
@@ -56,6 +56,10 @@ module _ (bytes : List ℕ) where
     unfolding formula-by
     top-ends k e = ends-by k (λ n sorts l. read e)
 
+    pub falsity-ends : tag ≡ FalsityTag → r ≡ after → FormulaEnds at left r
+    unfolding formula-by
+    falsity-ends k e = ends-by k (λ n sorts l. read e)
+
     pub not-tagged : tag ≡ NoFormulaTag → FormulaEnds at left r
     unfolding formula-by
     not-tagged k = ends-by k (λ n sorts l. unread)
@@ -76,6 +80,10 @@ module _ (bytes : List ℕ) where
       pub implies-ends : tag ≡ ImpliesTag → FormulaEnds at left r
       unfolding formula-by
       implies-ends k = ends-by k (both-end implies)
+
+      pub or-ends : tag ≡ OrTag → FormulaEnds at left r
+      unfolding formula-by
+      or-ends k = ends-by k (both-end or)
 
     -- A formula under a binder.
     module _ (h : FormulaEnds after (left - 1) r) where

@@ -10,8 +10,8 @@ use lib.ListN.{length}
 use Rattle.procap.specs.Facts.{most-terms}
 use Rattle.procap.specs.Bytes.{_>>=_, give, number, byte, many, predicate-and}
 use Rattle.bl.specs.declared.FormulaTag.{FormulaTag}
-use Rattle.bl.specs.declared.FormulaTag.the-variants.{TopTag, AndTag, ImpliesTag, AllNamesTag, AllTimesTag, SaysTag, AtTag, AtomTag, FactTag, OrderTag, NoFormulaTag}
-use Rattle.bl.specs.Trees.{Place, Sort, names, times, Formula, top, and, implies, all, says, at, atom, fact, order}
+use Rattle.bl.specs.declared.FormulaTag.the-variants.{TopTag, AndTag, ImpliesTag, AllNamesTag, AllTimesTag, SaysTag, AtTag, AtomTag, FactTag, OrderTag, OrTag, FalsityTag, NoFormulaTag}
+use Rattle.bl.specs.Trees.{Place, Sort, names, times, Formula, top, and, implies, all, says, at, atom, fact, order, or, falsity}
 use Rattle.bl.specs.Formulas.{most-binders, argument, for-all, formula-by, formula}
 use Rattle.formula.specs.declared.parts.FormulaAt.{FormulaAt}
 use Rattle.formula.specs.PutIn.{terms-of, fill-place, fill}
@@ -93,13 +93,18 @@ module _ (bytes : List ℕ) (d : ℕ) (f : FormulaAt) where
     unfolding formula-by
     tagged e = by-tag NoFormulaTag e λ n l. unread
 
-    pub record TopShape : Type 0 where
-      pub is : F ≡ top
+    -- A formula without parts.
+    pub record LeafShape (leaf : Formula) : Type 0 where
+      pub is : F ≡ leaf
       pub ends : f .at + 1 ≡ m .end
 
-    pub top-shape : tag-of bytes (f .at) ≡ TopTag → TopShape
+    pub top-shape : tag-of bytes (f .at) ≡ TopTag → LeafShape top
     unfolding formula-by fill
     top-shape e = by-tag TopTag e λ n l. read λ is ends. record { is = is; ends = ends }
+
+    pub falsity-shape : tag-of bytes (f .at) ≡ FalsityTag → LeafShape falsity
+    unfolding formula-by fill
+    falsity-shape e = by-tag FalsityTag e λ n l. read λ is ends. record { is = is; ends = ends }
 
     pub record TwoParts (A B : Formula) : Type 0 where
       pub first : Part d (f .at + 1) A
@@ -116,25 +121,23 @@ module _ (bytes : List ℕ) (d : ℕ) (f : FormulaAt) where
         then-read (as-read _) λ B e b.
         read λ is ends. h A B is (record { first = part-here n l A _ i a; second = part-here n l B _ e b; ends = ends })
 
-    pub record AndShape : Type 0 where
+    pub record SidesShape (make : Formula → Formula → Formula) : Type 0 where
       pub left : Formula
       pub right : Formula
-      pub is : F ≡ and left right
+      pub is : F ≡ make left right
       pub parts : TwoParts left right
 
-    pub and-shape : tag-of bytes (f .at) ≡ AndTag → AndShape
+    pub and-shape : tag-of bytes (f .at) ≡ AndTag → SidesShape and
     unfolding formula-by fill
     and-shape e = by-tag AndTag e (two-parts and λ A B is parts. record { left = put-in A; right = put-in B; is = is; parts = parts })
 
-    pub record ImpliesShape : Type 0 where
-      pub left : Formula
-      pub right : Formula
-      pub is : F ≡ implies left right
-      pub parts : TwoParts left right
-
-    pub implies-shape : tag-of bytes (f .at) ≡ ImpliesTag → ImpliesShape
+    pub implies-shape : tag-of bytes (f .at) ≡ ImpliesTag → SidesShape implies
     unfolding formula-by fill
     implies-shape e = by-tag ImpliesTag e (two-parts implies λ A B is parts. record { left = put-in A; right = put-in B; is = is; parts = parts })
+
+    pub or-shape : tag-of bytes (f .at) ≡ OrTag → SidesShape or
+    unfolding formula-by fill
+    or-shape e = by-tag OrTag e (two-parts or λ A B is parts. record { left = put-in A; right = put-in B; is = is; parts = parts })
 
     pub record AllShape (s : Sort) : Type 0 where
       pub body : Formula

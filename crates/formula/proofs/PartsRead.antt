@@ -16,7 +16,7 @@ use Rattle.procap.proofs.Telling.{tells-if}
 use Rattle.procap.proofs.Readers.{IfRead, unread, read, so-read, then-read, ensure-read}
 use Rattle.procap.proofs.ReadApart.{if-read, as-read, same-read, not-read, byte-then, first-of, none-of}
 use Rattle.bl.specs.declared.FormulaTag.{FormulaTag}
-use Rattle.bl.specs.declared.FormulaTag.the-variants.{TopTag, AndTag, ImpliesTag, AllNamesTag, AllTimesTag, SaysTag, AtTag, AtomTag, FactTag, OrderTag, NoFormulaTag}
+use Rattle.bl.specs.declared.FormulaTag.the-variants.{TopTag, AndTag, ImpliesTag, AllNamesTag, AllTimesTag, SaysTag, AtTag, AtomTag, FactTag, OrderTag, OrTag, FalsityTag, NoFormulaTag}
 use Rattle.bl.specs.Trees.{Place, fixed, bound, Sort}
 use Rattle.bl.specs.Tags.{formula-tag}
 use Rattle.bl.specs.Formulas.{fixed-by, place-by, argument}
@@ -40,6 +40,8 @@ tag-told AtTag = refl
 tag-told AtomTag = refl
 tag-told FactTag = refl
 tag-told OrderTag = refl
+tag-told OrTag = refl
+tag-told FalsityTag = refl
 tag-told NoFormulaTag = refl
 
 pub same-tags : (one other : FormulaTag) → tag-byte one ≡ tag-byte other → one ≡ other

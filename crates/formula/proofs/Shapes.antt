@@ -7,16 +7,16 @@ use mathlib.Core.Option.{Option, some, none}
 use native.Mathlib.Omega.{arith}
 use Rattle.procap.specs.declared.fact.Term.{Term}
 use Rattle.bl.specs.declared.FormulaTag.{FormulaTag}
-use Rattle.bl.specs.declared.FormulaTag.the-variants.{TopTag, AndTag, ImpliesTag, AllNamesTag, AllTimesTag, SaysTag, AtTag, AtomTag, FactTag, OrderTag, NoFormulaTag}
-use Rattle.bl.specs.Trees.{Sort, names, times, Formula, top, and, implies, all, says, at, atom, fact, order, put}
-use Rattle.bl.specs.Kinds.{as-top, as-and, as-implies, as-all, as-says, as-at, as-atom, as-fact, as-order}
+use Rattle.bl.specs.declared.FormulaTag.the-variants.{TopTag, AndTag, ImpliesTag, AllNamesTag, AllTimesTag, SaysTag, AtTag, AtomTag, FactTag, OrderTag, OrTag, FalsityTag, NoFormulaTag}
+use Rattle.bl.specs.Trees.{Sort, names, times, Formula, top, and, implies, all, says, at, atom, fact, order, or, falsity, put}
+use Rattle.bl.specs.Kinds.{as-top, as-and, as-implies, as-all, as-says, as-at, as-atom, as-fact, as-order, as-or, as-falsity}
 use Rattle.formula.specs.declared.terms.Terms.{Terms}
 use Rattle.formula.specs.declared.parts.FormulaAt.{FormulaAt}
 use Rattle.formula.specs.PutIn.{terms-of, FewTerms}
 use Rattle.formula.specs.Meaning.{tag-of, Means}
 use Rattle.formula.proofs.Filling.{put-fill}
 unfoldable pub use Rattle.formula.proofs.FormulaShapes.{binder-tag}
-pub use Rattle.formula.proofs.FormulaShapes.{Stands, Part, inside, tagged, TopShape, top-shape, TwoParts, AndShape, and-shape, ImpliesShape, implies-shape, AllShape, all-shape}
+pub use Rattle.formula.proofs.FormulaShapes.{Stands, Part, inside, tagged, LeafShape, top-shape, falsity-shape, TwoParts, SidesShape, and-shape, implies-shape, or-shape, AllShape, all-shape}
 pub use Rattle.formula.proofs.FormulaShapes.{SaysShape, says-shape, AtShape, at-shape, Headed, AtomShape, atom-shape, FactShape, fact-shape, OrderShape, order-shape}
 
 -- The tag that a formula begins with.
@@ -30,6 +30,8 @@ kind (at t u A) = AtTag
 kind (atom p ts) = AtomTag
 kind (fact p ts) = FactTag
 kind (order t u) = OrderTag
+kind (or A B) = OrTag
+kind falsity = FalsityTag
 
 -- Where there can be no value there is none.
 none-there : {X : Type 0} (o : Option X) → (X → ⊥) → o ≡ none
@@ -50,6 +52,8 @@ module _ (bytes : List ℕ) (d : ℕ) (f : FormulaAt) {F : Formula} (m : Means b
   kind-by AtomTag e = ap kind (atom-shape bytes d f m e .is)
   kind-by FactTag e = ap kind (fact-shape bytes d f m e .is)
   kind-by OrderTag e = ap kind (order-shape bytes d f m e .is)
+  kind-by OrTag e = ap kind (or-shape bytes d f m e .is)
+  kind-by FalsityTag e = ap kind (falsity-shape bytes d f m e .is)
   kind-by NoFormulaTag e = absurd (tagged bytes d f m e)
 
   -- So the tag is that of any formula that it is equal to.
@@ -96,6 +100,14 @@ module _ (bytes : List ℕ) (d : ℕ) (f : FormulaAt) {F : Formula} (m : Means b
   pub not-order : (tag-of bytes (f .at) ≡ OrderTag → ⊥) → as-order F ≡ none
   unfolding kind
   not-order n = none-there (as-order F) λ x. n (tag-is (x .2))
+
+  pub not-or : (tag-of bytes (f .at) ≡ OrTag → ⊥) → as-or F ≡ none
+  unfolding kind
+  not-or n = none-there (as-or F) λ x. n (tag-is (x .2))
+
+  pub not-falsity : (tag-of bytes (f .at) ≡ FalsityTag → ⊥) → as-falsity F ≡ none
+  unfolding kind
+  not-falsity n = none-there (as-falsity F) λ x. n (tag-is x)
 
 -- A for-all with a term put in.
 pub instance-means : (bytes : List ℕ) (f : FormulaAt) {F : Formula} (m : Means bytes 0 f F) (s : Sort) (shape : AllShape bytes 0 f m s) (t : Term) (more : Terms)

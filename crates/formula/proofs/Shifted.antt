@@ -15,7 +15,7 @@ use Rattle.procap.specs.declared.tag.TermTag.{TermTag}
 use Rattle.procap.specs.declared.tag.TermTag.the-variants.{NameTag, MomentTag, MinusInfinityTag, PlusInfinityTag, CtimeTag, VariableTag, NoTermTag}
 use Rattle.procap.proofs.ReadApart.{at-the-end}
 use Rattle.bl.specs.declared.FormulaTag.{FormulaTag}
-use Rattle.bl.specs.declared.FormulaTag.the-variants.{TopTag, AndTag, ImpliesTag, AllNamesTag, AllTimesTag, SaysTag, AtTag, AtomTag, FactTag, OrderTag, NoFormulaTag}
+use Rattle.bl.specs.declared.FormulaTag.the-variants.{TopTag, AndTag, ImpliesTag, AllNamesTag, AllTimesTag, SaysTag, AtTag, AtomTag, FactTag, OrderTag, OrTag, FalsityTag, NoFormulaTag}
 use Rattle.bl.specs.Trees.{Sort, names, times, Formula}
 use Rattle.bl.specs.Tags.{formula-tag}
 use Rattle.bl.specs.Formulas.{most-formula-levels, fixed-by, place-by, argument, place, for-all, formula-by, formula, formula-in}
@@ -195,6 +195,11 @@ module _ (buffer : List ℕ) (start size : ℕ) (fits : start + size ≤ length 
         both-shift (place-shifts sorts times) λ t1.
         both-shift (place-shifts sorts times) λ t2.
         give-shifts
+    formula-by-shifts OrTag =
+        both-shift (below sorts) λ A.
+        both-shift (below sorts) λ B.
+        give-shifts
+    formula-by-shifts FalsityTag = give-shifts
     formula-by-shifts NoFormulaTag = fail-shifts
 
   formula-shifts : (n : ℕ) (sorts : List Sort) → Shifts start (formula part n sorts) (formula buffer n sorts)

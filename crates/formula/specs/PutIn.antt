@@ -12,7 +12,7 @@ use Rattle.procap.specs.Lists.{nth}
 use Rattle.procap.specs.Numbered.{of-number, number-of-term}
 use Rattle.procap.specs.declared.fact.Term.{Term}
 use Rattle.bl.specs.Trees as tree
-use Rattle.bl.specs.Trees.{Formula, top, and, implies, all, says, at, atom, fact, order, fixed, bound}
+use Rattle.bl.specs.Trees.{Formula, top, and, implies, all, says, at, atom, fact, order, or, falsity, fixed, bound}
 use Rattle.bl.specs.Formulas.{most-binders}
 use Rattle.formula.specs.declared.terms.Terms.{Terms}
 use Rattle.formula.specs.declared.terms.Place.{Place}
@@ -75,3 +75,5 @@ fill d ρ (at t u A) = at (fill-place d ρ t) (fill-place d ρ u) (fill d ρ A)
 fill d ρ (atom p ts) = atom p (map (fill-place d ρ) ts)
 fill d ρ (fact p ts) = fact p (map (fill-place d ρ) ts)
 fill d ρ (order t u) = order (fill-place d ρ t) (fill-place d ρ u)
+fill d ρ (or A B) = or (fill d ρ A) (fill d ρ B)
+fill d ρ falsity = falsity

@@ -1,7 +1,7 @@
 -- The byte that a tag of a formula is, so that tags are told apart by bytes.
 use Prim.Native.Nat.{ℕ}
 use Rattle.bl.specs.declared.FormulaTag.{FormulaTag}
-use Rattle.bl.specs.declared.FormulaTag.the-variants.{TopTag, AndTag, ImpliesTag, AllNamesTag, AllTimesTag, SaysTag, AtTag, AtomTag, FactTag, OrderTag, NoFormulaTag}
+use Rattle.bl.specs.declared.FormulaTag.the-variants.{TopTag, AndTag, ImpliesTag, AllNamesTag, AllTimesTag, SaysTag, AtTag, AtomTag, FactTag, OrderTag, OrTag, FalsityTag, NoFormulaTag}
 
 -- Where there is no tag, 0.
 abbrev pub tag-byte : FormulaTag → ℕ
@@ -15,4 +15,6 @@ tag-byte AtTag = 0x16
 tag-byte AtomTag = 0x17
 tag-byte FactTag = 0x18
 tag-byte OrderTag = 0x19
+tag-byte OrTag = 0x1a
+tag-byte FalsityTag = 0x1b
 tag-byte NoFormulaTag = 0

@@ -135,6 +135,11 @@ fn same_tagged(
         FormulaTag::AtomTag => same_heads(left_bytes, right_bytes, parts, ledger),
         FormulaTag::FactTag => same_heads(left_bytes, right_bytes, parts, ledger),
         FormulaTag::OrderTag => same_places(left_bytes, right_bytes, 2, parts, ledger),
+        FormulaTag::OrTag => {
+            let one = same_pair(left_bytes, right_bytes, parts, ledger, levels);
+            same_after(left_bytes, right_bytes, one, pair, levels)
+        }
+        FormulaTag::FalsityTag => equal(ledger, parts),
         FormulaTag::NoFormulaTag => different(ledger, pair.offset),
     }
 }

@@ -111,6 +111,11 @@ fn formula_end(part: &[u8], binders: Binders, at: usize, left: u64) -> End
         FormulaTag::AtomTag => arguments_end(part, binders, after),
         FormulaTag::FactTag => arguments_end(part, binders, after),
         FormulaTag::OrderTag => two_times_end(part, binders, after),
+        FormulaTag::OrTag => {
+            let first = formula_end(part, binders, after, below);
+            next_formula_end(part, binders, first, below)
+        }
+        FormulaTag::FalsityTag => End::At(after),
         FormulaTag::NoFormulaTag => End::Nowhere,
     }
 }

@@ -79,6 +79,8 @@ pub(crate) fn formula_tag(byte: u8) -> FormulaTag
         0x17 => FormulaTag::AtomTag,
         0x18 => FormulaTag::FactTag,
         0x19 => FormulaTag::OrderTag,
+        0x1a => FormulaTag::OrTag,
+        0x1b => FormulaTag::FalsityTag,
         _ => FormulaTag::NoFormulaTag,
     }
 }
@@ -116,6 +118,8 @@ fn tag_byte(tag: FormulaTag) -> u8
         FormulaTag::AtomTag => 0x17,
         FormulaTag::FactTag => 0x18,
         FormulaTag::OrderTag => 0x19,
+        FormulaTag::OrTag => 0x1a,
+        FormulaTag::FalsityTag => 0x1b,
         FormulaTag::NoFormulaTag => 0,
     }
 }
@@ -317,6 +321,8 @@ pub fn past_formula(bytes: &[u8], at: usize, left: u64) -> usize
         FormulaTag::AtomTag => past_head(bytes, after),
         FormulaTag::FactTag => past_head(bytes, after),
         FormulaTag::OrderTag => past_place(bytes, past_place(bytes, after)),
+        FormulaTag::OrTag => past_formula(bytes, past_formula(bytes, after, lower), lower),
+        FormulaTag::FalsityTag => after,
         FormulaTag::NoFormulaTag => at,
     }
 }

@@ -4,7 +4,7 @@ use mathlib.Core.Path.{_≡_, refl, ap}
 use mathlib.Core.List.{List, _∷_, map}
 use Rattle.procap.specs.declared.time.Time.{Time}
 use Rattle.procap.specs.declared.fact.Term.{Term}
-use Rattle.bl.specs.Trees.{Formula, Infer, local, certificate, first, second, apply, instance, Check, pair, trivial, at-in, at-out, says-in, says-out, state, compare, inferred, offset}
+use Rattle.bl.specs.Trees.{Formula, Infer, local, certificate, first, second, apply, instance, Check, pair, trivial, at-in, at-out, says-in, says-out, state, compare, or-left, or-right, or-out, falsity-out, inferred, offset}
 use Rattle.bl.specs.Certificates.{Statement}
 use Rattle.bl.specs.Rules.{Assumption, plain, claim, shut, shut-out, View, view-of}
 use Rattle.bl.specs.Questions.{Walk, done, misfit, ask, _>>=_, _>>_, Test}

@@ -10,7 +10,7 @@ use Rattle.procap.specs.declared.fact.Term.{Term}
 use Rattle.procap.specs.declared.fact.Term.the-variants.{Name, When}
 use Rattle.bl.specs.Trees.{Place, fixed, Sort, Formula, top, and, implies, all, says, at, fact, order, put}
 use Rattle.bl.specs.Questions.{Walk, done, misfit, _>>=_, ask-order, ask-fact, need}
-use Rattle.bl.specs.Kinds.{as-name, as-time, as-terms, as-top, as-and, as-implies, as-all, as-says, as-at, as-fact, as-order}
+use Rattle.bl.specs.Kinds.{as-name, as-time, as-terms, as-top, as-and, as-implies, as-all, as-says, as-at, as-fact, as-order, as-or, as-falsity}
 use Rattle.bl.specs.Rules.{InView}
 use Rattle.bl.specs.Walk.{need-cover, in-view?, need-in-view, need-view, need-sort}
 use Rattle.judging.specs.Judging.{view-by, and-sides, implies-sides, at-parts, says-parts, top-goal, fact-goal, order-goal, put-in}

@@ -19,7 +19,7 @@ use Rattle.bl.proofs.Called.{proof-step}
 use Rattle.steps.specs.Ends.{slot, most-ends, ToldChecking}
 use Rattle.steps.specs.Todo.{Parts, parts, noted, left, todo-in, Small}
 use Rattle.steps.specs.declared.todo.Todo.{Todo}
-use Rattle.steps.specs.declared.todo.Todo.the-variants.{Times, Inferring, Checking, Second}
+use Rattle.steps.specs.declared.todo.Todo.the-variants.{Times, Inferring, Checking, Second, Both}
 use Rattle.steps.specs.declared.todo.Opened.{Opened}
 use Rattle.steps.specs.declared.todo.Opened.the-variants.{Nothing, Leaf, One, Two}
 use Rattle.steps.proofs.Marks.{marked, each-so, all-there}
@@ -34,6 +34,7 @@ noted-length (Times begin) at ends = length-set ends (slot begin) at
 noted-length (Inferring n h) at ends = refl
 noted-length (Checking n h) at ends = refl
 noted-length (Second n h) at ends = refl
+noted-length (Both n h) at ends = refl
 
 module _ (proof : List ℕ) (c : ℕ) (ends₀ : List ℕ) where
   -- The whole proof, read.

@@ -21,9 +21,9 @@ use Rattle.procap.proofs.Readers.{IfRead, read, unread, so-read, then-read, ens
 use Rattle.bl.specs.declared.InferTag.{InferTag}
 use Rattle.bl.specs.declared.InferTag.the-variants.{LocalTag, CertificateTag, FirstTag, SecondTag, ApplyTag, InstanceTag, NoInferTag}
 use Rattle.bl.specs.declared.CheckTag.{CheckTag}
-use Rattle.bl.specs.declared.CheckTag.the-variants.{PairTag, TopStepTag, AtInTag, AtOutTag, SaysInTag, SaysOutTag, StateTag, OrderStepTag, InferredTag, NoCheckTag}
+use Rattle.bl.specs.declared.CheckTag.the-variants.{PairTag, TopStepTag, AtInTag, AtOutTag, SaysInTag, SaysOutTag, StateTag, OrderStepTag, OrLeftTag, OrRightTag, OrOutTag, FalsityOutTag, InferredTag, NoCheckTag}
 use Rattle.bl.specs.Tags.{infer-tag, check-tag}
-use Rattle.bl.specs.Trees.{Infer, local, certificate, first, second, apply, instance, Check, pair, trivial, at-in, at-out, says-in, says-out, state, compare, inferred, offset}
+use Rattle.bl.specs.Trees.{Infer, local, certificate, first, second, apply, instance, Check, pair, trivial, at-in, at-out, says-in, says-out, state, compare, or-left, or-right, or-out, falsity-out, inferred, offset}
 use Rattle.bl.specs.Steps.{only-time, time, infer-by, check-by, infer-step, check-step}
 use Rattle.steps.specs.Ends.{time-bytes, term-bytes, bytes-inferring, bytes-checking, place, past, slot, EndTold, Told, ToldChecking}
 use Rattle.steps.proofs.Marks.{Mark, Each, the-one, each-split, Has, Spread, no-marks, wider, both-parts, with-mark}
@@ -49,6 +49,10 @@ unfoldable mutual
   marks-checking (says-out q M1 M2) = marks-inferring M1 ++ marks-checking M2
   marks-checking (state q) = []
   marks-checking (compare q) = []
+  marks-checking (or-left q M) = marks-checking M
+  marks-checking (or-right q M) = marks-checking M
+  marks-checking (or-out q M1 M2 M3) = marks-inferring M1 ++ (marks-checking M2 ++ marks-checking M3)
+  marks-checking (falsity-out q M) = marks-inferring M
   marks-checking (inferred M) = marks-inferring M
 
 -- A table that has each of them tells them.
@@ -82,6 +86,13 @@ module _ (ends : List ℕ) where
         (told M1 (parts .0), told-checking M2 (parts .1))
     told-checking (state q) h = tt
     told-checking (compare q) h = tt
+    told-checking (or-left q M) h = told-checking M h
+    told-checking (or-right q M) h = told-checking M h
+    told-checking (or-out q M1 M2 M3) h =
+        let parts = each-split (marks-inferring M1) _ h in
+        let later = each-split (marks-checking M2) _ (parts .1) in
+        (told M1 (parts .0), told-checking M2 (later .0), told-checking M3 (later .1))
+    told-checking (falsity-out q M) h = told M h
     told-checking (inferred M) h = told M h
 
 -- ── What is read takes its bytes ──
@@ -212,6 +223,21 @@ module _ (proof : List ℕ) where
           read record { begins = refl; ends = omega arith; long = omega arith; inside = b2 .inside; spread = after (b1 .spread) (b2 .spread) (omega arith) (omega arith) }
       check-by-placed i StateTag = read record { begins = refl; ends = before; long = omega arith; inside = inside; spread = still }
       check-by-placed i OrderStepTag = read record { begins = refl; ends = before; long = omega arith; inside = inside; spread = still }
+      check-by-placed i OrLeftTag =
+          then-read (checks-placed h at) λ M e b.
+          read record { begins = refl; ends = omega arith; long = omega arith; inside = b .inside; spread = wider q e (b .spread) (omega arith) (omega arith) }
+      check-by-placed i OrRightTag =
+          then-read (checks-placed h at) λ M e b.
+          read record { begins = refl; ends = omega arith; long = omega arith; inside = b .inside; spread = wider q e (b .spread) (omega arith) (omega arith) }
+      check-by-placed i OrOutTag =
+          then-read (infers-placed h at) λ M1 m b1.
+          then-read (checks-placed (suc h) m) λ M2 a b2.
+          then-read (checks-placed (suc h) a) λ M3 e b3.
+          let branches = both-parts (b2 .spread) (b3 .spread) (omega arith) (omega arith) in
+          read record { begins = refl; ends = omega arith; long = omega arith; inside = b3 .inside; spread = after (b1 .spread) branches (omega arith) (omega arith) }
+      check-by-placed i FalsityOutTag =
+          then-read (infers-placed h at) λ M e b.
+          read record { begins = refl; ends = omega arith; long = omega arith; inside = b .inside; spread = wider q e (b .spread) (omega arith) (omega arith) }
       check-by-placed i InferredTag =
           then-read (infer-by-placed i) λ M e b.
           read record { begins = b .begins; ends = b .ends; long = omega arith; inside = b .inside; spread = b .spread }

@@ -9,7 +9,7 @@ use Rattle.procap.specs.Bytes.{Reader, then, give, byte}
 use Rattle.bl.specs.declared.InferTag.{InferTag}
 use Rattle.bl.specs.declared.InferTag.the-variants.{LocalTag, CertificateTag, FirstTag, SecondTag, ApplyTag, InstanceTag, NoInferTag}
 use Rattle.bl.specs.declared.CheckTag.{CheckTag}
-use Rattle.bl.specs.declared.CheckTag.the-variants.{PairTag, TopStepTag, AtInTag, AtOutTag, SaysInTag, SaysOutTag, StateTag, OrderStepTag, InferredTag, NoCheckTag}
+use Rattle.bl.specs.declared.CheckTag.the-variants.{PairTag, TopStepTag, AtInTag, AtOutTag, SaysInTag, SaysOutTag, StateTag, OrderStepTag, OrLeftTag, OrRightTag, OrOutTag, FalsityOutTag, InferredTag, NoCheckTag}
 use Rattle.bl.specs.Tags.{infer-tag, check-tag}
 use Rattle.procap.specs.declared.time.Time.{Time}
 use Rattle.bl.specs.Trees.{Infer, apply, Check, states, states-inferring}
@@ -17,7 +17,7 @@ use Rattle.bl.specs.Steps.{time, infer-by, check-by, infer-step, check-step}
 use Rattle.steps.specs.Ends.{slot, place, past}
 use Rattle.steps.specs.Todo.{Parts, index-parts, time-parts, times-parts, inferring-parts, checking-parts, parts, noted}
 use Rattle.steps.specs.declared.todo.Todo.{Todo}
-use Rattle.steps.specs.declared.todo.Todo.the-variants.{Times, Inferring, Checking, Second}
+use Rattle.steps.specs.declared.todo.Todo.the-variants.{Times, Inferring, Checking, Second, Both}
 use Rattle.steps.proofs.Marks.{marked, marked-both}
 use Rattle.steps.proofs.StepPlaces.{marks-inferring, marks-checking, ends-there}
 
@@ -56,6 +56,7 @@ module _ (proof : List ℕ) (c : ℕ) where
   todo-read (Inferring n h) s at = then (infer-step proof c n h at) λ M. give (after-inferring M s)
   todo-read (Checking n h) s at = then (check-step proof c n h at) λ N. give (after-checking N s)
   todo-read (Second n h) s at = then (check-step proof c n h at) λ N. times-read at (after-checking N s)
+  todo-read (Both n h) s at = then (check-step proof c n h at) λ N b. then (check-step proof c n h b) λ O. give (after-checking O (after-checking N s))
 
   -- One thing after another.
   unfoldable pub all-read : List Todo → Found → Reader Found
@@ -104,6 +105,10 @@ module _ (proof : List ℕ) (c : ℕ) where
     checking-first n h q at i SaysOutTag = simp (in-turn, add-zero, add-assoc, marked-both)
     checking-first n h q at i StateTag = refl
     checking-first n h q at i OrderStepTag = simp (in-turn, add-zero)
+    checking-first n h q at i OrLeftTag = simp (in-turn, add-zero)
+    checking-first n h q at i OrRightTag = simp (in-turn, add-zero)
+    checking-first n h q at i OrOutTag = simp (in-turn, add-zero, add-assoc, marked-both)
+    checking-first n h q at i FalsityOutTag = simp (in-turn, add-zero)
     checking-first n h q at i InferredTag = simp in-turn (inferring-first n h q at i)
     checking-first n h q at i NoCheckTag = refl
 
@@ -119,6 +124,7 @@ module _ (proof : List ℕ) (c : ℕ) where
   first-read (Checking (suc n) h) ts s at =
       simp in-turn (alike (byte proof at) _ _ λ b e r. checking-first ts s n h at e (infer-tag b) (check-tag b))
   first-read (Second n h) ts s at = simp (in-turn, add-zero)
+  first-read (Both n h) ts s at = simp (in-turn, add-zero)
 
   -- One step that checks, alone: the proof's own reader.
   pub alone-read : (n h at : ℕ) (s : Found) → all-read (Checking n h ∷ []) s at ≡ then (check-step proof c n h at) (λ N. give (after-checking N s))

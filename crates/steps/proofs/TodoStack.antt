@@ -1,4 +1,4 @@
--- What is to be read, one thing at hand and the others on a stack, the newest last: it has room, since each level needs one place and the second part of a 26 one more; and opening goes forth.
+-- What is to be read, one thing at hand and the others on a stack, the newest last: it has room, since each level needs one place and the second part of a 26, or both branches of a 30, one more; and opening goes forth.
 use Prim.Native.Nat.{ℕ, zero, suc, _+_, _-_, _*_, _≤_, _<_}
 use mathlib.Core.Path.{_≡_, refl, ap, _∙_}
 use mathlib.Core.List.{List, [], _∷_, _++_}
@@ -10,12 +10,12 @@ use Rattle.procap.proofs.ReadApart.{byte-then}
 use Rattle.bl.specs.declared.InferTag.{InferTag}
 use Rattle.bl.specs.declared.InferTag.the-variants.{LocalTag, CertificateTag, FirstTag, SecondTag, ApplyTag, InstanceTag, NoInferTag}
 use Rattle.bl.specs.declared.CheckTag.{CheckTag}
-use Rattle.bl.specs.declared.CheckTag.the-variants.{PairTag, TopStepTag, AtInTag, AtOutTag, SaysInTag, SaysOutTag, StateTag, OrderStepTag, InferredTag, NoCheckTag}
+use Rattle.bl.specs.declared.CheckTag.the-variants.{PairTag, TopStepTag, AtInTag, AtOutTag, SaysInTag, SaysOutTag, StateTag, OrderStepTag, OrLeftTag, OrRightTag, OrOutTag, FalsityOutTag, InferredTag, NoCheckTag}
 use Rattle.bl.specs.Tags.{infer-tag, check-tag}
 use Rattle.bl.specs.Steps.{most-proof-bytes, most-proof-levels}
 use Rattle.steps.specs.Todo.{Parts, index-parts, time-parts, times-parts, inferring-parts, checking-parts, parts, todo-in, Small}
 use Rattle.steps.specs.declared.todo.Todo.{Todo}
-use Rattle.steps.specs.declared.todo.Todo.the-variants.{Times, Inferring, Checking, Second}
+use Rattle.steps.specs.declared.todo.Todo.the-variants.{Times, Inferring, Checking, Second, Both}
 use Rattle.steps.proofs.StepPlaces.{number-takes, term-takes, time-takes, some-bytes}
 
 -- ── The stack ──
@@ -68,6 +68,7 @@ size (Times begin) = 1
 size (Inferring n h) = n + 1
 size (Checking n h) = n + 1
 size (Second n h) = n + 2
+size (Both n h) = n + 2
 
 -- All fit on a stack for a whole proof.
 abbrev pub room : ℕ
@@ -83,16 +84,18 @@ some-size (Times begin) = omega arith
 some-size (Inferring n h) = omega arith
 some-size (Checking n h) = omega arith
 some-size (Second n h) = omega arith
+some-size (Both n h) = omega arith
 
 -- ── Turns ──
 
--- A second part is opened without a byte, and then a byte at least is read.
+-- A second part, or two steps, are opened without a byte, and then a byte at least is read.
 unfoldable pub eager : List Todo → ℕ
 eager [] = 0
 eager (Times begin ∷ ts) = 0
 eager (Inferring n h ∷ ts) = 0
 eager (Checking n h ∷ ts) = 0
 eager (Second n h ∷ ts) = 1
+eager (Both n h ∷ ts) = 1
 
 at-most-one : (ts : List Todo) → eager ts ≤ 1
 unfolding eager
@@ -101,6 +104,7 @@ at-most-one (Times begin ∷ ts) = omega arith
 at-most-one (Inferring n h ∷ ts) = omega arith
 at-most-one (Checking n h ∷ ts) = omega arith
 at-most-one (Second n h ∷ ts) = omega arith
+at-most-one (Both n h ∷ ts) = omega arith
 
 -- How many turns may be left.
 unfoldable pub turns : List ℕ → List Todo → ℕ → ℕ
@@ -147,6 +151,10 @@ module _ (proof : List ℕ) (c : ℕ) (t : Todo) (ts : List Todo) (at : ℕ) (re
     unfolding Fit size Small
     out-fit = (omega arith, omega arith, (omega arith, omega arith, rest))
 
+    branches-fit : Fit (Inferring n h ∷ Both n (suc h) ∷ ts)
+    unfolding Fit size Small
+    branches-fit = (omega arith, omega arith, (omega arith, omega arith, rest))
+
     apply-fit : Fit (Inferring n h ∷ Second n h ∷ ts)
     unfolding Fit size Small
     apply-fit = (omega arith, omega arith, (omega arith, omega arith, rest))
@@ -172,6 +180,10 @@ module _ (proof : List ℕ) (c : ℕ) (t : Todo) (ts : List Todo) (at : ℕ) (re
       checking-leaves i SaysOutTag = read (forth (0, Inferring n h ∷ Checking n (suc h) ∷ []) (at + 1) (omega arith) inside (omega arith) out-fit)
       checking-leaves i StateTag = read (forth (1, []) (at + 1) (omega arith) inside (omega arith) rest)
       checking-leaves i OrderStepTag = read (forth (0, []) (at + 1) (omega arith) inside (omega arith) rest)
+      checking-leaves i OrLeftTag = read (forth (0, Checking n h ∷ []) (at + 1) (omega arith) inside (omega arith) check-fits)
+      checking-leaves i OrRightTag = read (forth (0, Checking n h ∷ []) (at + 1) (omega arith) inside (omega arith) check-fits)
+      checking-leaves i OrOutTag = read (forth (0, Inferring n h ∷ Both n (suc h) ∷ []) (at + 1) (omega arith) inside (omega arith) branches-fit)
+      checking-leaves i FalsityOutTag = read (forth (0, Inferring n h ∷ []) (at + 1) (omega arith) inside (omega arith) one-fits)
       checking-leaves i InferredTag = inferring-leaves i
       checking-leaves i NoCheckTag = unread
 
@@ -180,6 +192,12 @@ second-leaves : (proof : List ℕ) (n h : ℕ) (ts : List Todo) (at : ℕ) → F
     → Leaves proof (Second n h) ts at (0, Checking n h ∷ Times at ∷ []) at
 unfolding Fit size Small eager turns
 second-leaves proof n h ts at fit l short = record { counted = omega arith; inside = l; fewer = omega arith; fit = (omega arith, fit .1, (omega arith, omega arith, fit .2)) }
+
+-- Two steps that check, without a byte.
+both-leaves : (proof : List ℕ) (n h : ℕ) (ts : List Todo) (at : ℕ) → Fit (Both n h ∷ ts) → at ≤ length proof
+    → Leaves proof (Both n h) ts at (0, Checking n h ∷ Checking n h ∷ []) at
+unfolding Fit size Small eager turns
+both-leaves proof n h ts at fit l = record { counted = omega arith; inside = l; fewer = omega arith; fit = (omega arith, fit .1, (omega arith, fit .1, fit .2)) }
 
 -- What is opened leaves that.
 pub leaves : (proof : List ℕ) (c : ℕ) (t : Todo) (ts : List Todo) (at : ℕ) → Fit (t ∷ ts) → at ≤ length proof → length proof ≤ most-proof-bytes → IfRead (Leaves proof t ts at) (parts proof c t at)
@@ -196,3 +214,4 @@ leaves proof c (Checking zero h) ts at fit l short = unread
 leaves proof c (Checking (suc n) h) ts at fit l short =
     byte-then proof at _ λ k. checking-leaves proof c (Checking (suc n) h) ts at (fit .2) refl n h (omega arith) (fit .1) (omega arith) (infer-tag (getD proof at 0)) (check-tag (getD proof at 0))
 leaves proof c (Second n h) ts at fit l short = read (second-leaves proof n h ts at fit l short)
+leaves proof c (Both n h) ts at fit l short = read (both-leaves proof n h ts at fit l)

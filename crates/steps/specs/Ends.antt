@@ -9,7 +9,7 @@ use Rattle.procap.specs.declared.time.Time.{Time}
 use Rattle.procap.specs.declared.time.Time.the-variants.{Moment, MinusInfinity, PlusInfinity, Ctime}
 use Rattle.procap.specs.declared.fact.Term.{Term}
 use Rattle.procap.specs.declared.fact.Term.the-variants.{Name, When}
-use Rattle.bl.specs.Trees.{Infer, local, certificate, first, second, apply, instance, Check, pair, trivial, at-in, at-out, says-in, says-out, state, compare, inferred, offset}
+use Rattle.bl.specs.Trees.{Infer, local, certificate, first, second, apply, instance, Check, pair, trivial, at-in, at-out, says-in, says-out, state, compare, or-left, or-right, or-out, falsity-out, inferred, offset}
 use Rattle.bl.specs.Steps.{proof-in}
 use Rattle.procap.specs.Lent.{Lent}
 
@@ -46,6 +46,10 @@ unfoldable mutual
   bytes-checking (says-out q M1 M2) = 1 + bytes-inferring M1 + bytes-checking M2
   bytes-checking (state q) = 1
   bytes-checking (compare q) = 1
+  bytes-checking (or-left q M) = 1 + bytes-checking M
+  bytes-checking (or-right q M) = 1 + bytes-checking M
+  bytes-checking (or-out q M1 M2 M3) = 1 + bytes-inferring M1 + bytes-checking M2 + bytes-checking M3
+  bytes-checking (falsity-out q M) = 1 + bytes-inferring M
   bytes-checking (inferred M) = bytes-inferring M
 
 -- The offset of a checking step's tag.
@@ -58,6 +62,10 @@ place (says-in q M) = q
 place (says-out q M1 M2) = q
 place (state q) = q
 place (compare q) = q
+place (or-left q M) = q
+place (or-right q M) = q
+place (or-out q M1 M2 M3) = q
+place (falsity-out q M) = q
 place (inferred M) = offset M
 
 -- The place after it.
@@ -98,6 +106,10 @@ module _ (ends : List ℕ) where
     ToldChecking (says-out q M1 M2) = Told M1 × ToldChecking M2
     ToldChecking (state q) = Unit {0}
     ToldChecking (compare q) = Unit {0}
+    ToldChecking (or-left q M) = ToldChecking M
+    ToldChecking (or-right q M) = ToldChecking M
+    ToldChecking (or-out q M1 M2 M3) = Told M1 × ToldChecking M2 × ToldChecking M3
+    ToldChecking (falsity-out q M) = Told M
     ToldChecking (inferred M) = Told M
 
 -- ── As a contract has it ──

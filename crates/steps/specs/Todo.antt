@@ -10,13 +10,13 @@ use Rattle.procap.specs.Bytes.{Reader, _>>=_, give, fail, ensure, byte, term}
 use Rattle.bl.specs.declared.InferTag.{InferTag}
 use Rattle.bl.specs.declared.InferTag.the-variants.{LocalTag, CertificateTag, FirstTag, SecondTag, ApplyTag, InstanceTag, NoInferTag}
 use Rattle.bl.specs.declared.CheckTag.{CheckTag}
-use Rattle.bl.specs.declared.CheckTag.the-variants.{PairTag, TopStepTag, AtInTag, AtOutTag, SaysInTag, SaysOutTag, StateTag, OrderStepTag, InferredTag, NoCheckTag}
+use Rattle.bl.specs.declared.CheckTag.the-variants.{PairTag, TopStepTag, AtInTag, AtOutTag, SaysInTag, SaysOutTag, StateTag, OrderStepTag, OrLeftTag, OrRightTag, OrOutTag, FalsityOutTag, InferredTag, NoCheckTag}
 use Rattle.bl.specs.Tags.{infer-tag, check-tag}
 use Rattle.bl.specs.Steps.{most-proof-bytes, most-proof-levels, time}
 use Rattle.procap.specs.Lent.{Lent}
 use Rattle.steps.specs.Ends.{slot}
 use Rattle.steps.specs.declared.todo.Todo.{Todo}
-use Rattle.steps.specs.declared.todo.Todo.the-variants.{Times, Inferring, Checking, Second}
+use Rattle.steps.specs.declared.todo.Todo.the-variants.{Times, Inferring, Checking, Second, Both}
 use Rattle.steps.specs.declared.todo.Opened.{Opened}
 use Rattle.steps.specs.declared.todo.Opened.the-variants.{Nothing, Leaf, One, Two}
 
@@ -67,6 +67,10 @@ module _ (proof : List ℕ) where
       checking-parts infers SaysOutTag = give (0, Inferring n h ∷ Checking n (suc h) ∷ [])
       checking-parts infers StateTag = give (1, [])
       checking-parts infers OrderStepTag = give (0, [])
+      checking-parts infers OrLeftTag = give (0, Checking n h ∷ [])
+      checking-parts infers OrRightTag = give (0, Checking n h ∷ [])
+      checking-parts infers OrOutTag = give (0, Inferring n h ∷ Both n (suc h) ∷ [])
+      checking-parts infers FalsityOutTag = give (0, Inferring n h ∷ [])
       checking-parts infers InferredTag = inferring-parts infers
       checking-parts infers NoCheckTag = fail
 
@@ -82,6 +86,7 @@ module _ (proof : List ℕ) where
       b ← byte proof
       checking-parts n h (infer-tag b) (check-tag b)
     parts (Second n h) = λ at. some ((0, Checking n h ∷ Times at ∷ []), at)
+    parts (Both n h) = give (0, Checking n h ∷ Checking n h ∷ [])
 
 -- The table after what is to be read at a place has been opened there.
 unfoldable pub noted : Todo → ℕ → List ℕ → List ℕ
@@ -89,6 +94,7 @@ noted (Times begin) at ends = set ends (slot begin) at
 noted (Inferring n h) at ends = ends
 noted (Checking n h) at ends = ends
 noted (Second n h) at ends = ends
+noted (Both n h) at ends = ends
 
 -- ── As the code has it ──
 
@@ -99,12 +105,13 @@ left (Leaf next states) = some ((states, []), next)
 left (One next t) = some ((0, t ∷ []), next)
 left (Two next t u) = some ((0, t ∷ u ∷ []), next)
 
--- What waits as a number: the kind in two bits, then a place, or levels and assumptions in six bits each.
+-- What waits as a number: the kind in three bits, then a place, or levels and assumptions in six bits each.
 unfoldable pub todo-in : ℕ → Todo
 todo-in x =
-    pick (eqb (x % 4) 0) (Times (x / 4))
-    (pick (eqb (x % 4) 1) (Inferring (x / 4 % 64) (x / 256 % 64))
-    (pick (eqb (x % 4) 2) (Checking (x / 4 % 64) (x / 256 % 64)) (Second (x / 4 % 64) (x / 256 % 64))))
+    pick (eqb (x % 8) 0) (Times (x / 8))
+    (pick (eqb (x % 8) 1) (Inferring (x / 8 % 64) (x / 512 % 64))
+    (pick (eqb (x % 8) 2) (Checking (x / 8 % 64) (x / 512 % 64))
+    (pick (eqb (x % 8) 3) (Second (x / 8 % 64) (x / 512 % 64)) (Both (x / 8 % 64) (x / 512 % 64)))))
 
 -- A place of a proof; levels and assumptions that are together within its levels.
 unfoldable pub Small : Todo → Type 0
@@ -112,6 +119,7 @@ Small (Times begin) = begin ≤ most-proof-bytes
 Small (Inferring n h) = n + h ≤ most-proof-levels
 Small (Checking n h) = n + h ≤ most-proof-levels
 Small (Second n h) = n + h ≤ most-proof-levels
+Small (Both n h) = n + h ≤ most-proof-levels
 
 module _ (proof : Lent) where
   -- What is opened leaves what the pages above say.

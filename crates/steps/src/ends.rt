@@ -37,5 +37,6 @@ pub(crate) fn note_end(ends: &mut [u16], todo: Todo, place: usize)
         Todo::Inferring(_, _) => {}
         Todo::Checking(_, _) => {}
         Todo::Second(_, _) => {}
+        Todo::Both(_, _) => {}
     }
 }

@@ -13,13 +13,14 @@ ghost use Prim.Native.Nat.{_+_, _*_, _≤_, _<_};
 ghost use Rattle.bl.specs.Steps.{«most-proof-levels»};
 ghost use Rattle.steps.specs.Todo.{Small, «todo-in», OpensIndex, OpensInferring, OpensChecking, OpensTime, OpensTimes, Opens};
 
-// The two times of the 26 whose second part began at a place; a step that must infer, or one that checks; the second part of a 26, which checks, and its times.
+// The two times of the 26 whose second part began at a place; a step that must infer, or one that checks; the second part of a 26, which checks, and its times; two steps that check.
 // A step has at most so many levels, and so many assumptions around it.
 pub(crate) enum Todo {
     Times(usize),
     Inferring(u64, u64),
     Checking(u64, u64),
     Second(u64, u64),
+    Both(u64, u64),
 }
 
 // What is there at a place: nothing of that kind; or something that goes on at a next place, and leaves nothing to be read (with so many steps 2C), one part, or two.
@@ -30,12 +31,12 @@ pub(crate) enum Opened {
     Two(usize, Todo, Todo),
 }
 
-// A step that waits, as a number: its kind in two bits, then levels and assumptions, in six bits each.
+// A step that waits, or two, as a number: the kind in three bits, then levels and assumptions, in six bits each.
 fn step_number(kind: u64, levels: u64, assumptions: u64) -> u64
-    requires { ⌜ (kind < 4) × (levels + assumptions ≤ «most-proof-levels») ⌝ }
-    ensures { λ r. ⌜ r ≡ kind + 4 * levels + 256 * assumptions ⌝ }
+    requires { ⌜ (kind < 8) × (levels + assumptions ≤ «most-proof-levels») ⌝ }
+    ensures { λ r. ⌜ r ≡ kind + 8 * levels + 512 * assumptions ⌝ }
 {
-    kind + 4 * levels + 256 * assumptions
+    kind + 8 * levels + 512 * assumptions
 }
 
 // What waits, as a number.
@@ -44,10 +45,11 @@ pub(crate) fn number_of(todo: Todo) -> u64
     ensures { λ r. ⌜ «todo-in» r ≡ todo ⌝ }
 {
     match todo {
-        Todo::Times(begin) => 4 * (begin as u64),
+        Todo::Times(begin) => 8 * (begin as u64),
         Todo::Inferring(levels, assumptions) => step_number(1, levels, assumptions),
         Todo::Checking(levels, assumptions) => step_number(2, levels, assumptions),
         Todo::Second(levels, assumptions) => step_number(3, levels, assumptions),
+        Todo::Both(levels, assumptions) => step_number(4, levels, assumptions),
     }
 }
 
@@ -55,13 +57,14 @@ pub(crate) fn number_of(todo: Todo) -> u64
 pub(crate) fn todo_of(number: u64) -> Todo
     ensures { λ r. ⌜ r ≡ «todo-in» number ⌝ }
 {
-    let levels = number / 4 % 64;
-    let assumptions = number / 256 % 64;
-    match number % 4 {
-        0 => Todo::Times((number / 4) as usize),
+    let levels = number / 8 % 64;
+    let assumptions = number / 512 % 64;
+    match number % 8 {
+        0 => Todo::Times((number / 8) as usize),
         1 => Todo::Inferring(levels, assumptions),
         2 => Todo::Checking(levels, assumptions),
-        _ => Todo::Second(levels, assumptions),
+        3 => Todo::Second(levels, assumptions),
+        _ => Todo::Both(levels, assumptions),
     }
 }
 
@@ -122,7 +125,9 @@ fn open_checking(
     let begin = past(proof, at);
     let part = Todo::Checking(levels, assumptions);
     let inferring = Todo::Inferring(levels, assumptions);
-    let assuming = Todo::Checking(levels, assumptions + 1);
+    let more = assumptions + 1;
+    let assuming = Todo::Checking(levels, more);
+    let both_assuming = Todo::Both(levels, more);
     match check_tag_at(proof, at) {
         CheckTag::PairTag => Opened::Two(begin, part, part),
         CheckTag::TopStepTag => Opened::Leaf(begin, 0),
@@ -132,6 +137,10 @@ fn open_checking(
         CheckTag::SaysOutTag => Opened::Two(begin, inferring, assuming),
         CheckTag::StateTag => Opened::Leaf(begin, 1),
         CheckTag::OrderStepTag => Opened::Leaf(begin, 0),
+        CheckTag::OrLeftTag => Opened::One(begin, part),
+        CheckTag::OrRightTag => Opened::One(begin, part),
+        CheckTag::OrOutTag => Opened::Two(begin, inferring, both_assuming),
+        CheckTag::FalsityOutTag => Opened::One(begin, inferring),
         CheckTag::InferredTag => {
             let tag = infer_tag_at(proof, at);
             open_inferring(proof, certificates, levels, assumptions, tag, begin)
@@ -191,6 +200,10 @@ pub(crate) fn open_todo(proof: &[u8], certificates: usize, todo: Todo, at: usize
             let part = Todo::Checking(levels, assumptions);
             let times = Todo::Times(at);
             Opened::Two(at, part, times)
+        }
+        Todo::Both(levels, assumptions) => {
+            let part = Todo::Checking(levels, assumptions);
+            Opened::Two(at, part, part)
         }
     }
 }

@@ -12,7 +12,7 @@ use Rattle.bl.specs.Trees.{names, times}
 use Rattle.formula.proofs.Shapes.{binder-tag}
 use Rattle.formula.proofs.Comparing.{stops-before, goes-on-after}
 use Rattle.formula.proofs.ComparingTags.{no-levels, unlike}
-use Rattle.formula.proofs.ComparingParts.{top-same, and-same, implies-same, all-same, says-same, at-same, atom-same, fact-same, order-same, no-formula}
+use Rattle.formula.proofs.ComparingParts.{top-same, and-same, implies-same, all-same, says-same, at-same, atom-same, fact-same, order-same, or-same, falsity-same, no-formula}
 use Rattle.formula.proofs.compare.same_after.Reads as same-after
 use Rattle.formula.proofs.compare.same_after.Kinds as same-after-kinds
 use Rattle.formula.proofs.compare.+same_after+same_body+same_pair+same_tagged.Lts-same_after as same-after-lts
@@ -344,7 +344,17 @@ same-tagged-returns-10 t c =
 
 same-tagged-returns-11 : (t : ℕ) → same-tagged-lts.Need-returns-11 (same-tagged-calls t) (same-tagged-at t) same-tagged.Post
 same-tagged-returns-11 t c =
-    no-formula _ _ _ _ _ _ _ _ (c .before .before .before .after-tags .ensures) (c .before .enum-told11 .given .1)
+    or-same _ _ _ _ _ _ _ _ (c .before .before .before .before .after-tags .ensures) (c .before .before .enum-told11 .given .1) (c .before .same-pair3 .result)
+    (c .before .same-pair3 .ensures)
+    (c .same-after5 .ensures)
+
+same-tagged-returns-12 : (t : ℕ) → same-tagged-lts.Need-returns-12 (same-tagged-calls t) (same-tagged-at t) same-tagged.Post
+same-tagged-returns-12 t c =
+    falsity-same _ _ _ _ _ _ _ _ (c .before .before .before .after-tags .ensures) (c .before .enum-told12 .given .1) (c .equal2 .ensures)
+
+same-tagged-returns-13 : (t : ℕ) → same-tagged-lts.Need-returns-13 (same-tagged-calls t) (same-tagged-at t) same-tagged.Post
+same-tagged-returns-13 t c =
+    no-formula _ _ _ _ _ _ _ _ (c .before .before .before .after-tags .ensures) (c .before .enum-told13 .given .1)
 
 pub +same-after+same-body+same-pair+same-tagged-spec : {M : Type 1} → statement M
 +same-after+same-body+same-pair+same-tagged-spec =
@@ -406,6 +416,11 @@ pub +same-after+same-body+same-pair+same-tagged-spec : {M : Type 1} → statemen
     (same-tagged-enum-told-10 t)
     (same-tagged-same-places-requires-3 t)
     (same-tagged-enum-told-11 t)
+    (λ c κs. search needs)
+    (λ c κs. search needs)
+    (λ c. search needs)
+    (λ c κs. search needs)
+    (λ c. search needs)
     (same-tagged-different-requires t)
     (same-tagged-returns t)
     (same-tagged-returns-2 t)
@@ -418,3 +433,5 @@ pub +same-after+same-body+same-pair+same-tagged-spec : {M : Type 1} → statemen
     (same-tagged-returns-9 t)
     (same-tagged-returns-10 t)
     (same-tagged-returns-11 t)
+    (same-tagged-returns-12 t)
+    (same-tagged-returns-13 t)

@@ -14,7 +14,7 @@ use Rattle.formula.specs.declared.ends.End.{End}
 use Rattle.formula.specs.declared.ends.End.the-variants.{At, Nowhere}
 use Rattle.formula.specs.Ends.{Ends, sort-of, sorts-of}
 use Rattle.formula.proofs.SortsAround.{sorts-length}
-use Rattle.formula.proofs.Endings.{no-level, no-tag, formula-announced, ninth-binder, body-ends, top-ends, and-ends, implies-ends, all-names-ends, all-times-ends, says-ends, at-ends, atom-ends, fact-ends, order-ends, no-formula}
+use Rattle.formula.proofs.Endings.{no-level, no-tag, formula-announced, ninth-binder, body-ends, top-ends, and-ends, implies-ends, all-names-ends, all-times-ends, says-ends, at-ends, atom-ends, fact-ends, order-ends, or-ends, falsity-ends, no-formula}
 use Rattle.formula.proofs.ends.body_end.Reads as body-end
 use Rattle.formula.proofs.ends.body_end.Kinds as body-end-kinds
 use Rattle.formula.proofs.ends.+body_end+formula_end+next_formula_end.Lts-body_end as body-end-lts
@@ -217,6 +217,16 @@ formula-end-two-times-end-requires-2 t c κs = c .before .before .before .before
 formula-end-enum-told-12 : (t : ℕ) → formula-end-lts.Need-enum-told-12 (formula-end-calls t) (formula-end-at t) formula-end.Post
 formula-end-enum-told-12 t c = search needs
 
+formula-end-formula-end-requires-3 : (t : ℕ) → formula-end-lts.Need-formula-end-requires-3 (formula-end-calls t) (formula-end-at t) formula-end.Post
+formula-end-formula-end-requires-3 t c κs =
+    let tag = c .before .before in
+    (omega (arith, tag .before .before .before .before .before .if1 .left), tag .before .before .before .before .before .before .before .pre .1)
+
+formula-end-next-formula-end-requires-5 : (t : ℕ) → formula-end-lts.Need-next-formula-end-requires-5 (formula-end-calls t) (formula-end-at t) formula-end.Post
+formula-end-next-formula-end-requires-5 t c κs =
+    let tag = c .before .before .before in
+    (omega (arith, tag .before .before .before .before .before .if1 .left), tag .before .before .before .before .before .before .before .pre .1)
+
 formula-end-returns-3 : (t : ℕ) → formula-end-lts.Need-returns-3 (formula-end-calls t) (formula-end-at t) formula-end.Post
 formula-end-returns-3 t c = announced t (c .before .before) _ (At _) (c .enum-told2 .given .1) (top-ends _ _ _ _)
 
@@ -264,7 +274,15 @@ formula-end-returns-12 t c =
     announced t (c .before .before .before) _ (c .two-times-end2 .result) (c .before .enum-told11 .given .1) (order-ends _ _ _ _ (c .two-times-end2 .result) (c .two-times-end2 .ensures))
 
 formula-end-returns-13 : (t : ℕ) → formula-end-lts.Need-returns-13 (formula-end-calls t) (formula-end-at t) formula-end.Post
-formula-end-returns-13 t c = announced t (c .before .before) NoFormulaTag Nowhere (c .enum-told12 .given .1) (no-formula _ _ _ _)
+formula-end-returns-13 t c =
+    announced t (c .before .before .before .before) _ (c .next-formula-end5 .result) (c .before .before .enum-told12 .given .1)
+    (or-ends _ _ _ _ (c .before .formula-end3 .result) (c .next-formula-end5 .result) (c .before .formula-end3 .ensures) (c .next-formula-end5 .ensures))
+
+formula-end-returns-14 : (t : ℕ) → formula-end-lts.Need-returns-14 (formula-end-calls t) (formula-end-at t) formula-end.Post
+formula-end-returns-14 t c = announced t (c .before .before) _ (At _) (c .enum-told13 .given .1) (falsity-ends _ _ _ _)
+
+formula-end-returns-15 : (t : ℕ) → formula-end-lts.Need-returns-15 (formula-end-calls t) (formula-end-at t) formula-end.Post
+formula-end-returns-15 t c = announced t (c .before .before) NoFormulaTag Nowhere (c .enum-told14 .given .1) (no-formula _ _ _ _)
 
 -- ── A formula after something else ──
 
@@ -326,6 +344,10 @@ pub +body-end+formula-end+next-formula-end-spec : {M : Type 1} → statement M
     (formula-end-enum-told-11 t)
     (formula-end-two-times-end-requires-2 t)
     (formula-end-enum-told-12 t)
+    (formula-end-formula-end-requires-3 t)
+    (formula-end-next-formula-end-requires-5 t)
+    (λ c. search needs)
+    (λ c. search needs)
     (formula-end-returns-3 t)
     (formula-end-returns-4 t)
     (formula-end-returns-5 t)
@@ -336,7 +358,9 @@ pub +body-end+formula-end+next-formula-end-spec : {M : Type 1} → statement M
     (formula-end-returns-10 t)
     (formula-end-returns-11 t)
     (formula-end-returns-12 t)
-    (formula-end-returns-13 t))
+    (formula-end-returns-13 t)
+    (formula-end-returns-14 t)
+    (formula-end-returns-15 t))
     λ t. next-formula-end-lts.spec (next-formula-end-calls t) (next-formula-end-at t) next-formula-end.Post
     (next-formula-end-enum-known-before t)
     (next-formula-end-formula-end-requires t)

@@ -6,7 +6,7 @@ use borrow.Fn.PlainCycle.{Measures, is, falls, and}
 use mathlib.Core.Path.{refl}
 use native.Mathlib.Omega.{arith}
 use Rattle.procap.proofs.bytes.past.Reads as past-reads
-use Rattle.formula.proofs.FormulaEnds.{none-left, top-ends, and-ends, implies-ends, all-names-end, all-times-end, says-ends, at-ends, atom-ends, fact-ends, order-ends, not-tagged}
+use Rattle.formula.proofs.FormulaEnds.{none-left, top-ends, and-ends, implies-ends, all-names-end, all-times-end, says-ends, at-ends, atom-ends, fact-ends, order-ends, or-ends, falsity-ends, not-tagged}
 use Rattle.formula.proofs.parts.past_formula.Reads as past-formula
 use Rattle.formula.proofs.parts.past_formula.Kinds as past-formula-kinds
 use Rattle.formula.proofs.parts.+past_formula.Lts-past_formula as past-formula-lts
@@ -105,8 +105,19 @@ past-formula-returns-11 t c =
 
 past-formula-returns-12 : (t : ℕ) → past-formula-lts.Need-returns-12 (past-formula-calls t) (past-formula-at t) past-formula.Post
 past-formula-returns-12 t c =
+    let told = c .before .before in
+    let there = told .before .before in
+    or-ends _ _ _ _ _ _ (there .before .tag-at .ensures) (there .past .ensures .0) _ (c .before .past-formula9 .ensures) (c .past-formula10 .ensures) (told .enum-told11 .given .1)
+
+past-formula-returns-13 : (t : ℕ) → past-formula-lts.Need-returns-13 (past-formula-calls t) (past-formula-at t) past-formula.Post
+past-formula-returns-13 t c =
     let there = c .before .before in
-    not-tagged _ _ _ _ _ _ (there .before .tag-at .ensures) (there .past .ensures .0) (c .enum-told11 .given .1)
+    falsity-ends _ _ _ _ _ _ (there .before .tag-at .ensures) (there .past .ensures .0) (c .enum-told12 .given .1) refl
+
+past-formula-returns-14 : (t : ℕ) → past-formula-lts.Need-returns-14 (past-formula-calls t) (past-formula-at t) past-formula.Post
+past-formula-returns-14 t c =
+    let there = c .before .before in
+    not-tagged _ _ _ _ _ _ (there .before .tag-at .ensures) (there .past .ensures .0) (c .enum-told13 .given .1)
 
 -- The other needs: the levels left, and that each call may be made.
 pub +past-formula-spec : {M : Type 1} → statement M
@@ -143,6 +154,10 @@ pub +past-formula-spec : {M : Type 1} → statement M
     (λ c κs. search needs)
     (λ c κs. search needs)
     (λ c. search needs)
+    (λ c κs. (omega arith, tt))
+    (λ c κs. (omega arith, tt))
+    (λ c. search needs)
+    (λ c. search needs)
     (past-formula-returns-2 t)
     (past-formula-returns-3 t)
     (past-formula-returns-4 t)
@@ -154,3 +169,5 @@ pub +past-formula-spec : {M : Type 1} → statement M
     (past-formula-returns-10 t)
     (past-formula-returns-11 t)
     (past-formula-returns-12 t)
+    (past-formula-returns-13 t)
+    (past-formula-returns-14 t)

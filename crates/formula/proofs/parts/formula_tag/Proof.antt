@@ -1,4 +1,4 @@
--- A byte that is a tag's picks it; a byte that is none of the ten picks none.
+-- A byte that is a tag's picks it; a byte that is none of the twelve picks none.
 use borrow.Author.Tests.{ne-eqb}
 use mathlib.Core.Path.{ap, sym}
 use Rattle.bl.specs.Tags.{formula-tag}
@@ -36,8 +36,16 @@ returns-10 : tie.Need-returns-10
 returns-10 c = sym (ap formula-tag (c .match .keys10))
 
 returns-11 : tie.Need-returns-11
-returns-11 c =
+returns-11 c = sym (ap formula-tag (c .match .keys11))
+
+returns-12 : tie.Need-returns-12
+returns-12 c = sym (ap formula-tag (c .match .keys12))
+
+returns-13 : tie.Need-returns-13
+returns-13 c =
     simp (
+      ne-eqb _ _ (c .match .rest .0 .0 .0 .0 .0 .0 .0 .0 .0 .0 .0 .1),
+      ne-eqb _ _ (c .match .rest .0 .0 .0 .0 .0 .0 .0 .0 .0 .0 .1),
       ne-eqb _ _ (c .match .rest .0 .0 .0 .0 .0 .0 .0 .0 .0 .1),
       ne-eqb _ _ (c .match .rest .0 .0 .0 .0 .0 .0 .0 .0 .1),
       ne-eqb _ _ (c .match .rest .0 .0 .0 .0 .0 .0 .0 .1),
@@ -64,4 +72,6 @@ formula-tag-spec =
     returns-8
     returns-9
     returns-10
-    returns-11)
+    returns-11
+    returns-12
+    returns-13)

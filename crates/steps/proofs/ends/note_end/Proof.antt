@@ -26,6 +26,10 @@ returns-5 : tie.Need-returns-5
 unfolding noted
 returns-5 c = rw (c .enum-told3 .given .1) refl
 
+returns-6 : tie.Need-returns-6
+unfolding noted
+returns-6 c = rw (c .enum-told4 .given .1) refl
+
 pub note-end-spec : {M : Type 1} → statement M
 note-end-spec =
     tie.close
@@ -38,8 +42,10 @@ note-end-spec =
     (λ c. search needs)
     (λ c. search needs)
     (λ c. search needs)
+    (λ c. search needs)
     returns
     returns-2
     returns-3
     returns-4
-    returns-5)
+    returns-5
+    returns-6)

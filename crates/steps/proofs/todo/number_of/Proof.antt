@@ -2,7 +2,7 @@
 use native.Mathlib.Omega.{arith}
 use mathlib.Core.Path.{refl}
 use borrow.Author.Needs.{needs}
-use Rattle.steps.proofs.TodoNumbers.{times-small, times-back, inferring-small, checking-small, second-small, inferring-back, checking-back, second-back}
+use Rattle.steps.proofs.TodoNumbers.{times-small, times-back, inferring-small, checking-small, second-small, both-small, inferring-back, checking-back, second-back, both-back}
 use Rattle.steps.proofs.todo.number_of.Statement.{statement}
 use Rattle.steps.proofs.todo.number_of.Tie as tie
 
@@ -18,6 +18,9 @@ step-number-requires-2 c κs = (omega arith, checking-small _ (c .before .before
 step-number-requires-3 : tie.Need-step-number-requires-3
 step-number-requires-3 c κs = (omega arith, second-small _ (c .before .before .before .pre) 0 _ _ (c .before .todo4 .given .1))
 
+step-number-requires-4 : tie.Need-step-number-requires-4
+step-number-requires-4 c κs = (omega arith, both-small _ (c .before .before .before .pre) 0 _ _ (c .before .todo5 .given .1))
+
 returns : tie.Need-returns
 returns c = times-back _ (c .before .before .before .pre) _ _ (c .before .todo .given .1) refl
 
@@ -29,6 +32,9 @@ returns-3 c = checking-back _ (c .before .before .before .before .pre) _ _ _ (c 
 
 returns-4 : tie.Need-returns-4
 returns-4 c = second-back _ (c .before .before .before .before .pre) _ _ _ (c .before .before .todo4 .given .1) (c .step-number3 .ensures)
+
+returns-5 : tie.Need-returns-5
+returns-5 c = both-back _ (c .before .before .before .before .pre) _ _ _ (c .before .before .todo5 .given .1) (c .step-number4 .ensures)
 
 pub number-of-spec : {M : Type 1} → statement M
 number-of-spec =
@@ -42,7 +48,10 @@ number-of-spec =
     step-number-requires-2
     (λ c. search needs)
     step-number-requires-3
+    (λ c. search needs)
+    step-number-requires-4
     returns
     returns-2
     returns-3
-    returns-4)
+    returns-4
+    returns-5)

@@ -3,7 +3,7 @@ use mathlib.Core.Path.{_∙_}
 use native.Mathlib.Numerals.{add-one}
 use borrow.Author.Needs.{needs}
 use Rattle.bl.specs.declared.CheckTag.{CheckTag}
-use Rattle.bl.specs.declared.CheckTag.the-variants.{PairTag, TopStepTag, AtInTag, AtOutTag, SaysInTag, SaysOutTag, StateTag, OrderStepTag, InferredTag, NoCheckTag}
+use Rattle.bl.specs.declared.CheckTag.the-variants.{PairTag, TopStepTag, AtInTag, AtOutTag, SaysInTag, SaysOutTag, StateTag, OrderStepTag, OrLeftTag, OrRightTag, OrOutTag, FalsityOutTag, InferredTag, NoCheckTag}
 use Rattle.steps.specs.Todo.{checking-parts, left}
 use Rattle.steps.proofs.TodoTags.{checking-by-tag}
 use Rattle.steps.proofs.todo.open_checking.Statement.{statement}
@@ -60,15 +60,39 @@ returns-8 c =
 returns-9 : tie.Need-returns-9
 unfolding checking-parts left
 returns-9 c =
-    let t = c .before .before .before .before in
-    (rw (c .before .infer-tag-at .ensures) at (c .open-inferring .ensures))
-    ∙ checking-by-tag _ _ _ (t .before .past .ensures .0) _ _ _ _ InferredTag (t .check-tag-at .ensures) (c .before .before .enum-told9 .given .1)
+    let t = c .before .before in
+    checking-by-tag _ _ _ (t .before .past .ensures .0) _ _ _ _ OrLeftTag (t .check-tag-at .ensures) (c .enum-told9 .given .1)
 
 returns-10 : tie.Need-returns-10
 unfolding checking-parts left
 returns-10 c =
     let t = c .before .before in
-    checking-by-tag _ _ _ (t .before .past .ensures .0) _ _ _ _ NoCheckTag (t .check-tag-at .ensures) (c .enum-told10 .given .1)
+    checking-by-tag _ _ _ (t .before .past .ensures .0) _ _ _ _ OrRightTag (t .check-tag-at .ensures) (c .enum-told10 .given .1)
+
+returns-11 : tie.Need-returns-11
+unfolding checking-parts left
+returns-11 c =
+    let t = c .before .before in
+    rw add-one (checking-by-tag _ _ _ (t .before .past .ensures .0) _ _ _ _ OrOutTag (t .check-tag-at .ensures) (c .enum-told11 .given .1))
+
+returns-12 : tie.Need-returns-12
+unfolding checking-parts left
+returns-12 c =
+    let t = c .before .before in
+    checking-by-tag _ _ _ (t .before .past .ensures .0) _ _ _ _ FalsityOutTag (t .check-tag-at .ensures) (c .enum-told12 .given .1)
+
+returns-13 : tie.Need-returns-13
+unfolding checking-parts left
+returns-13 c =
+    let t = c .before .before .before .before in
+    (rw (c .before .infer-tag-at .ensures) at (c .open-inferring .ensures))
+    ∙ checking-by-tag _ _ _ (t .before .past .ensures .0) _ _ _ _ InferredTag (t .check-tag-at .ensures) (c .before .before .enum-told13 .given .1)
+
+returns-14 : tie.Need-returns-14
+unfolding checking-parts left
+returns-14 c =
+    let t = c .before .before in
+    checking-by-tag _ _ _ (t .before .past .ensures .0) _ _ _ _ NoCheckTag (t .check-tag-at .ensures) (c .enum-told14 .given .1)
 
 pub open-checking-spec : {M : Type 1} → statement M
 open-checking-spec =
@@ -77,6 +101,10 @@ open-checking-spec =
     (λ c κs. search needs)
     (λ c. search needs)
     (λ c κs. search needs)
+    (λ c. search needs)
+    (λ c. search needs)
+    (λ c. search needs)
+    (λ c. search needs)
     (λ c. search needs)
     (λ c. search needs)
     (λ c. search needs)
@@ -98,4 +126,8 @@ open-checking-spec =
     returns-7
     returns-8
     returns-9
-    returns-10)
+    returns-10
+    returns-11
+    returns-12
+    returns-13
+    returns-14)

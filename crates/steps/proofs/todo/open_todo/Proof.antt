@@ -1,4 +1,4 @@
--- By what is to be read: the second part of a 26 leaves itself and its times; a step goes by its tag.
+-- By what is to be read: the second part of a 26 leaves itself and its times, two steps are left as they are; a step goes by its tag.
 use mathlib.Core.Path.{refl, _∙_}
 use native.Mathlib.Omega.{arith}
 use borrow.Author.Needs.{needs}
@@ -40,6 +40,10 @@ returns-6 : tie.Need-returns-6
 unfolding parts left
 returns-6 c = rw (c .before .todo3 .given .1) refl
 
+returns-7 : tie.Need-returns-7
+unfolding parts left
+returns-7 c = rw (c .before .todo4 .given .1) refl
+
 pub open-todo-spec : {M : Type 1} → statement M
 open-todo-spec =
     tie.close
@@ -57,7 +61,9 @@ open-todo-spec =
     (λ c. search needs)
     open-checking-requires
     (λ c. search needs)
+    (λ c. search needs)
     returns-3
     returns-4
     returns-5
-    returns-6)
+    returns-6
+    returns-7)

@@ -1,7 +1,7 @@
--- By the kind in two bits.
+-- By the kind in three bits.
 use mathlib.Core.Path.{sym}
 use native.Mathlib.Omega.{arith}
-use Rattle.steps.proofs.TodoNumbers.{times-in, inferring-in, checking-in, second-in}
+use Rattle.steps.proofs.TodoNumbers.{times-in, inferring-in, checking-in, second-in, both-in}
 use Rattle.steps.proofs.todo.todo_of.Statement.{statement}
 use Rattle.steps.proofs.todo.todo_of.Tie as tie
 
@@ -15,7 +15,10 @@ returns-3 : tie.Need-returns-3
 returns-3 c = sym (checking-in _ (omega arith))
 
 returns-4 : tie.Need-returns-4
-returns-4 c = sym (second-in _ (λ k. omega arith) (λ k. omega arith) (λ k. omega arith))
+returns-4 c = sym (second-in _ (omega arith))
+
+returns-5 : tie.Need-returns-5
+returns-5 c = sym (both-in _ (λ k. omega arith) (λ k. omega arith) (λ k. omega arith) (λ k. omega arith))
 
 pub todo-of-spec : {M : Type 1} → statement M
-todo-of-spec = tie.close (tie.spec returns returns-2 returns-3 returns-4)
+todo-of-spec = tie.close (tie.spec returns returns-2 returns-3 returns-4 returns-5)
