@@ -108,6 +108,12 @@ comes-passes : (state : List ℕ) (b : Book) (w : Test) (e : ℕ) (r : Checked) 
     → Passes state b w e r list
 comes-passes state b w e r list c = record { gives = c .gives; ends = c .so }
 
+-- A test that is passed as something is taken, or does not fit.
+pub passes-taken : {state list : List ℕ} {w : Test} {q : ℕ} {l : Ledger} {e : ℕ} {r : Checked} → Sound (book l list) → Takes w q l (r .ledger) (λ _. r .next ≡ e)
+    → Passes state (book l list) w e r list
+passes-taken {state} {list} {w} {q} {l} {e} {r} s t =
+    comes-passes state (book l list) w e r list (comes-taken state list w q l (r .ledger) (λ _. r .next ≡ e) tt s t)
+
 -- A test on the interval of a judgement is one on the interval that it is of.
 pub passes-on : (state bytes : List ℕ) (j : Judgement) (A : Formula) (a b : Time) → On bytes j A a b → (w : Time → Time → Test) (k : Book) (e : ℕ) (r : Checked) (list : List ℕ)
     → Passes state k (w (from-of j) (to-of j)) e r list → Passes state k (w a b) e r list

@@ -15,8 +15,8 @@ use Rattle.formula.specs.declared.parts.Judgement.{Judgement}
 use Rattle.ledger.specs.Books.{misfitted}
 use Rattle.formula.specs.Meaning.{from-of, to-of, tag-of, begin, Means, On}
 use Rattle.judging.specs.Judging.{part-of, sides, TwoSided, Takes, takes, unfit}
-use Rattle.formula.proofs.Shapes.{inside, TwoParts, and-shape, implies-shape, not-and, not-implies}
-use Rattle.judging.proofs.WalkParts.{and-parts, no-and, implies-parts, no-implies}
+use Rattle.formula.proofs.Shapes.{inside, TwoParts, and-shape, implies-shape, or-shape, not-and, not-implies, not-or}
+use Rattle.judging.proofs.WalkParts.{and-parts, no-and, implies-parts, no-implies, or-parts, no-or}
 
 -- The place after a byte that stands inside.
 abbrev pub After : List ℕ → ℕ → ℕ → Type 0
@@ -60,6 +60,12 @@ module _ {bytes : List ℕ} {f : FormulaAt} {F : Formula} (m : Means bytes 0 f F
   sided AtomTag t = absurd t
   sided FactTag t = absurd t
   sided OrderTag t = absurd t
+  sided OrTag t =
+      record {
+        there = λ e. let s = or-shape bytes 0 f m e in (s .left, s .right, or-parts q (s .is), s .parts);
+        missing = λ n. no-or q (not-or bytes 0 f m n);
+      }
+  sided FalsityTag t = absurd t
   sided NoFormulaTag t = absurd t
 
   -- Another tag than the one wanted.

@@ -9,8 +9,8 @@ use Rattle.bl.specs.Certificates.{Statement}
 use Rattle.bl.specs.Rules.{Assumption, plain, claim, shut, shut-out, View, view-of}
 use Rattle.bl.specs.Questions.{Walk, done, misfit, ask, _>>=_, _>>_, Test}
 use Rattle.bl.specs.Walk.{Judgement, need-cover, infer, check}
-use Rattle.judging.specs.declared.judge.Shell.the-variants.{AtShell, SaysShell}
-use Rattle.judging.specs.Judging.{and-then, use-local, use-certificate, and-sides, implies-sides, at-parts, says-parts, inside, top-goal, fact-goal, order-goal, first-side, second-side, put-in, fits-goal}
+use Rattle.judging.specs.declared.judge.Shell.the-variants.{AtShell, SaysShell, LeftShell, RightShell}
+use Rattle.judging.specs.Judging.{and-then, use-local, use-certificate, and-sides, implies-sides, or-sides, at-parts, says-parts, inside, branches, falsity-inferred, top-goal, fact-goal, order-goal, first-side, second-side, put-in, fits-goal}
 
 -- Three walks, one after another.
 in-turn : {A B C : Type 0} (w : Walk A) (f : A → Walk B) (g : B → Walk C) → w >>= f >>= g ≡ w >>= (λ a. f a >>= g)
@@ -19,7 +19,7 @@ in-turn (done a) f g = refl
 in-turn (misfit q) f g = refl
 in-turn (ask x q w) f g = ap (ask x q) (in-turn w f g)
 
--- 28 and 2A: the step inside checks what stands inside of the goal: where the goal stood, or in the view of who says it with the plain assumptions shut out.
+-- 28, 2A, 2E and 2F: the step inside checks what stands inside of the goal: where the goal stood, or in the view of who says it with the plain assumptions shut out.
 unfoldable pub check-inside : List Statement → List Assumption → View → Check → Assumption → Test
 check-inside cs Γ v M (plain A a b) = check cs Γ v M A a b
 check-inside cs Γ v M (claim k A a b) = check cs (map shut-out Γ) (view-of k a b) M A a b
@@ -94,6 +94,23 @@ module _ (cs : List Statement) (Γ : List Assumption) (v : View) (q : ℕ) where
         ≡ and-then (and-then (infer cs Γ v M) (inside SaysShell q)) (λ x. check cs (x ∷ Γ) v N G a b)
     unfolding check inside says-parts _>>=_
     says-out-walk M N = simp in-turn
+
+    pub or-left-walk : (M : Check) → check cs Γ v (or-left q M) G a b ≡ and-then (inside LeftShell q (G, a, b)) (check-inside cs Γ v M)
+    unfolding check inside check-inside or-sides _>>=_
+    or-left-walk M = simp in-turn
+
+    pub or-right-walk : (M : Check) → check cs Γ v (or-right q M) G a b ≡ and-then (inside RightShell q (G, a, b)) (check-inside cs Γ v M)
+    unfolding check inside check-inside or-sides _>>=_
+    or-right-walk M = simp in-turn
+
+    pub or-out-walk : (M : Infer) (N O : Check) → check cs Γ v (or-out q M N O) G a b
+        ≡ and-then (and-then (infer cs Γ v M) (branches q)) (λ x. check cs (x .0 ∷ Γ) v N G a b >> check cs (x .1 ∷ Γ) v O G a b)
+    unfolding check branches or-sides _>>=_
+    or-out-walk M N O = simp in-turn
+
+    pub falsity-out-walk : (M : Infer) → check cs Γ v (falsity-out q M) G a b ≡ and-then (infer cs Γ v M) (falsity-inferred q)
+    unfolding check falsity-inferred _>>=_
+    falsity-out-walk M = refl
 
     -- An inferring step where one is checked, at the offset of its own tag.
     pub inferred-walk : (M : Infer) → offset M ≡ q → check cs Γ v (inferred M) G a b ≡ and-then (infer cs Γ v M) (λ j. fits-goal q (j .0) (j .1) (j .2) G a b)

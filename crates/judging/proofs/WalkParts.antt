@@ -8,12 +8,12 @@ use borrow.Author.Tests.{ne-eqb}
 use Rattle.procap.specs.declared.time.Time.{Time}
 use Rattle.procap.specs.declared.fact.Term.{Term}
 use Rattle.procap.specs.declared.fact.Term.the-variants.{Name, When}
-use Rattle.bl.specs.Trees.{Place, fixed, Sort, Formula, top, and, implies, all, says, at, fact, order, put}
+use Rattle.bl.specs.Trees.{Place, fixed, Sort, Formula, top, and, implies, all, says, at, fact, order, or, falsity, put}
 use Rattle.bl.specs.Questions.{Walk, done, misfit, _>>=_, ask-order, ask-fact, need}
 use Rattle.bl.specs.Kinds.{as-name, as-time, as-terms, as-top, as-and, as-implies, as-all, as-says, as-at, as-fact, as-order, as-or, as-falsity}
 use Rattle.bl.specs.Rules.{InView}
 use Rattle.bl.specs.Walk.{need-cover, in-view?, need-in-view, need-view, need-sort}
-use Rattle.judging.specs.Judging.{view-by, and-sides, implies-sides, at-parts, says-parts, top-goal, fact-goal, order-goal, put-in}
+use Rattle.judging.specs.Judging.{view-by, and-sides, implies-sides, or-sides, falsity-inferred, at-parts, says-parts, top-goal, fact-goal, order-goal, put-in}
 use Rattle.judging.specs.Pieces.{two-times}
 
 module _ (q : ℕ) where
@@ -82,6 +82,14 @@ module _ (q : ℕ) where
     unfolding implies-sides need _>>=_
     no-implies e = rw e
 
+    pub or-parts : {A B : Formula} → F ≡ or A B → or-sides q F ≡ done (A, B)
+    unfolding or-sides need as-or _>>=_
+    or-parts e = rw e
+
+    pub no-or : as-or F ≡ none → or-sides q F ≡ misfit q
+    unfolding or-sides need _>>=_
+    no-or e = rw e
+
     pub top-there : F ≡ top → top-goal q F ≡ done tt
     unfolding top-goal need as-top _>>=_
     top-there e = rw e
@@ -89,6 +97,14 @@ module _ (q : ℕ) where
     pub no-top : as-top F ≡ none → top-goal q F ≡ misfit q
     unfolding top-goal need _>>=_
     no-top e = rw e
+
+    pub falsity-there : (a b : Time) → F ≡ falsity → falsity-inferred q (F, a, b) ≡ done tt
+    unfolding falsity-inferred need as-falsity _>>=_
+    falsity-there a b e = rw e
+
+    pub no-falsity : (a b : Time) → as-falsity F ≡ none → falsity-inferred q (F, a, b) ≡ misfit q
+    unfolding falsity-inferred need _>>=_
+    no-falsity a b e = rw e
 
     -- An "at" and an order begin with two times.
     pub at-there : {x y : Place} {A : Formula} → F ≡ at x y A → at-parts q F ≡ two-times q x y >>= (λ t. done (A, t .0, t .1))

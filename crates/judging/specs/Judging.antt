@@ -1,11 +1,12 @@
 -- What one step makes of a goal or of what was inferred: the parts of the walk that look at no other step.
-use Prim.Native.Nat.{ℕ}
+use Prim.Native.Nat.{ℕ, _+_}
 use mathlib.Core.Path.{_≡_}
 use mathlib.Core.List.{List}
-use lib.Dec.{eqb}
+use lib.Dec.{eqb, ltb}
 use Rattle.procap.specs.Tells.{pick}
 use Rattle.procap.specs.Numbered.{time-of, time-numbers}
 use Rattle.procap.specs.declared.time.Time.{Time}
+use Rattle.procap.specs.declared.time.TimeNumbers.{TimeNumbers}
 use Rattle.procap.specs.declared.time.Time.the-variants.{Ctime}
 use Rattle.procap.specs.declared.fact.Term.{Term}
 use Rattle.bl.specs.declared.FormulaTag.{FormulaTag}
@@ -25,7 +26,7 @@ use Rattle.formula.specs.declared.parts.Judgement.{Judgement}
 use Rattle.judging.specs.declared.judge.View.{View}
 use Rattle.judging.specs.declared.judge.Scope.{Scope}
 use Rattle.judging.specs.declared.judge.Shell.{Shell}
-use Rattle.judging.specs.declared.judge.Shell.the-variants.{AtShell, SaysShell}
+use Rattle.judging.specs.declared.judge.Shell.the-variants.{AtShell, SaysShell, LeftShell, RightShell}
 use Rattle.judging.specs.declared.rows.Row.{Row}
 use Rattle.judging.specs.declared.rows.Whose.{Whose}
 use Rattle.judging.specs.declared.rows.Whose.the-variants.{Plain, Claim}
@@ -35,6 +36,7 @@ use Rattle.judging.specs.declared.judge.Application.{Application}
 use Rattle.ledger.specs.Books.{stop-of, Book, book, Gives, misfitted}
 use Rattle.formula.specs.Meaning.{begin, On}
 use Rattle.formula.specs.PartPromises.{front-on-ctime}
+use Rattle.judging.specs.RowsOf.{most-rows}
 
 -- One walk, and then another.
 abbrev pub and-then : {A B : Type 0} → Walk A → (A → Walk B) → Walk B
@@ -55,6 +57,10 @@ outermost = record { count = 0; shut = 0; view = record { kind = 0; principal = 
 -- The view of k on the interval of a judgement.
 abbrev pub view-on : ℕ → Judgement → View
 view-on k j = record { kind = 1; principal = k; from = j .from; to = j .to }
+
+-- One assumption more, where a row has room for it.
+unfoldable pub scope-with : Scope → Scope
+scope-with s = pick (ltb (s .count) most-rows) (record { count = s .count + 1; shut = s .shut; view = s .view }) s
 
 -- The scope inside of a shell, by whose the row is that stands there, and by its judgement.
 abbrev pub scope-by : Scope → Whose → Judgement → Scope
@@ -81,11 +87,15 @@ use-certificate q v cs i = do
 abbrev pub part-of : Judgement → ℕ → Judgement
 part-of j at = record { formula = begin (j .formula) at; from = j .from; to = j .to }
 
+-- The side of a formula that begins at a place, as a plain assumption on an interval.
+abbrev pub plain-side : Judgement → ℕ → TimeNumbers → TimeNumbers → Row
+plain-side j at from to = record { whose = Plain; judgement = record { formula = begin (j .formula) at; from = from; to = to } }
+
 -- Nothing is inferred: beside the ledger stand the front of the bytes on [ctime,ctime] and the place 0, which say nothing.
 abbrev pub nothing-inferred : Ledger → Inferred
 nothing-inferred l = record { ledger = l; judgement = front-on-ctime; next = 0 }
 
--- Both sides of a conjunction, of an implication.
+-- Both sides of a conjunction, of an implication, of an "or".
 unfoldable pub and-sides : ℕ → Formula → Walk (Formula × Formula)
 and-sides q F = do
   (A, B, _) ← need q (as-and F)
@@ -96,10 +106,16 @@ implies-sides q F = do
   (A, B, _) ← need q (as-implies F)
   done (A, B)
 
+unfoldable pub or-sides : ℕ → Formula → Walk (Formula × Formula)
+or-sides q F = do
+  (A, B, _) ← need q (as-or F)
+  done (A, B)
+
 -- The same by the tag wanted; no other has two sides.
 unfoldable pub sides : FormulaTag → ℕ → Formula → Walk (Formula × Formula)
 sides AndTag q F = and-sides q F
 sides ImpliesTag q F = implies-sides q F
+sides OrTag q F = or-sides q F
 sides TopTag q F = misfit q
 sides AllNamesTag q F = misfit q
 sides AllTimesTag q F = misfit q
@@ -108,6 +124,7 @@ sides AtTag q F = misfit q
 sides AtomTag q F = misfit q
 sides FactTag q F = misfit q
 sides OrderTag q F = misfit q
+sides FalsityTag q F = misfit q
 sides NoFormulaTag q F = misfit q
 
 -- The tags of formulas with two sides.
@@ -122,6 +139,8 @@ TwoSided AtTag = ⊥
 TwoSided AtomTag = ⊥
 TwoSided FactTag = ⊥
 TwoSided OrderTag = ⊥
+TwoSided OrTag = Unit {0}
+TwoSided FalsityTag = ⊥
 TwoSided NoFormulaTag = ⊥
 
 -- The formula of an "at" and its interval.
@@ -139,7 +158,7 @@ says-parts q F = do
   (k, _) ← need q (as-name x)
   done (k, A)
 
--- [Rules 28, 29, 2A, 2B] What stands inside of a shell, as an assumption: a plain one on the interval of the "at", a claim of who says it on the same interval.
+-- [Rules 28, 29, 2A, 2B, 2E, 2F] What stands inside of a shell, as an assumption: a plain one on the interval of the "at", a claim of who says it on the same interval, a side of an "or" as a plain one on the same interval.
 unfoldable pub inside : Shell → ℕ → walk.Judgement → Walk Assumption
 inside AtShell q (F, a, b) = do
   (A, t1, t2) ← at-parts q F
@@ -147,6 +166,24 @@ inside AtShell q (F, a, b) = do
 inside SaysShell q (F, a, b) = do
   (k, A) ← says-parts q F
   done (claim k A a b)
+inside LeftShell q (F, a, b) = do
+  (A, B) ← or-sides q F
+  done (plain A a b)
+inside RightShell q (F, a, b) = do
+  (A, B) ← or-sides q F
+  done (plain B a b)
+
+-- [Rules 30] Both sides of an "or", each as a plain assumption on its interval.
+unfoldable pub branches : ℕ → walk.Judgement → Walk (Assumption × Assumption)
+branches q (F, a, b) = do
+  (A, B) ← or-sides q F
+  done (plain A a b, plain B a b)
+
+-- [Rules 31] Falsity is what was inferred.
+unfoldable pub falsity-inferred : ℕ → walk.Judgement → Test
+falsity-inferred q (F, a, b) = do
+  _ ← need q (as-falsity F)
+  done tt
 
 -- 25, 2C and 2D on their goal.
 unfoldable pub top-goal : ℕ → Formula → Test

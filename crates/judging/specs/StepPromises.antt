@@ -32,7 +32,7 @@ use Rattle.judging.specs.declared.rows.Whose.the-variants.{Plain, Claim}
 use Rattle.judging.specs.declared.judge.Inside.{Inside}
 use Rattle.judging.specs.declared.judge.Application.{Application}
 use Rattle.judging.specs.RowsOf.{RowIs, Assumed, Certified, most-rows, row-in}
-use Rattle.judging.specs.Judging.{view-in, use-local, use-certificate, part-of, sides, TwoSided, and-sides, at-parts, says-parts, inside, fact-goal, fits-goal, and-then, Takes, Yields, Passes, Used}
+use Rattle.judging.specs.Judging.{view-in, use-local, use-certificate, part-of, sides, TwoSided, at-parts, says-parts, inside, falsity-inferred, fact-goal, fits-goal, and-then, Takes, Yields, Passes, Used}
 use Rattle.judging.specs.Pieces.{two-times}
 
 -- A row that is an assumption is used as it stands.
@@ -61,12 +61,9 @@ TakesSides bytes q wanted j l r =
     (F : Formula) → TwoSided wanted → Means bytes 0 (j .formula) F
     → Takes (sides wanted q F) q l (r .ledger) (λ x. On bytes (part-of j (r .first)) (x .0) (from-of j) (to-of j) × On bytes (part-of j (r .second)) (x .1) (from-of j) (to-of j))
 
--- Where what was inferred goes on, the conjunction that it is is taken apart.
-abbrev pub TakesConjuncts : List ℕ → ℕ → Inferred → Sides → Type 0
-TakesConjuncts buffer q inferred r =
-    let j = inferred .judgement in
-    (F : Formula) → stop-of (inferred .ledger) ≡ Going → Means buffer 0 (j .formula) F
-    → Takes (and-sides q F) q (inferred .ledger) (r .ledger) (λ x. On buffer (part-of j (r .first)) (x .0) (from-of j) (to-of j) × On buffer (part-of j (r .second)) (x .1) (from-of j) (to-of j))
+-- The same of what was inferred, where the walk goes on.
+abbrev pub TakesSidesInferred : List ℕ → ℕ → FormulaTag → Inferred → Sides → Type 0
+TakesSidesInferred buffer q wanted inferred r = stop-of (inferred .ledger) ≡ Going → TakesSides buffer q wanted (inferred .judgement) (inferred .ledger) r
 
 -- Where it has stopped, the ledger stays.
 abbrev pub StaysStopped : Inferred → Ledger → Type 0
@@ -91,7 +88,7 @@ TakesSays bytes q j l r =
     (F : Formula) → Means bytes 0 (j .formula) F
     → Takes (says-parts q F) q l (r .ledger) (λ x. (r .row .whose ≡ Claim (x .0)) × On bytes (r .row .judgement) (x .1) (from-of j) (to-of j))
 
--- 28, 29, 2A, 2B: what stands inside of a shell is taken out, as a row that is that assumption.
+-- 28, 29, 2A, 2B, 2E, 2F: what stands inside of a shell is taken out, as a row that is that assumption.
 abbrev pub TakesInside : List ℕ → ℕ → Shell → Judgement → Ledger → Inside → Type 0
 TakesInside bytes q shell j l r =
     (F : Formula) → Means bytes 0 (j .formula) F → Takes (inside shell q (F, from-of j, to-of j)) q l (r .ledger) (RowIs bytes (r .row) 0 0)
@@ -138,3 +135,9 @@ ChecksInferred buffer bytes q inferred goal r =
     (state : List ℕ) (b : Book) (w : Walk walk.Judgement) (e : ℕ) (list : List ℕ) (G : Formula)
     → Yields state buffer b w e inferred list → Means bytes 0 (goal .formula) G
     → Passes state b (and-then w (λ j. fits-goal q (j .0) (j .1) (j .2) G (from-of goal) (to-of goal))) e r list
+
+-- 31: the walk that inferred it, and then that it is falsity.
+abbrev pub ChecksFalsity : List ℕ → ℕ → Inferred → Checked → Type 0
+ChecksFalsity buffer q inferred r =
+    (state : List ℕ) (b : Book) (w : Walk walk.Judgement) (e : ℕ) (list : List ℕ)
+    → Yields state buffer b w e inferred list → Passes state b (and-then w (falsity-inferred q)) e r list

@@ -1,7 +1,10 @@
 // What one step makes of a goal, or of what its parts inferred. Nothing here looks at other steps.
+use crate::either::left_of;
+use crate::either::right_of;
 use crate::rows::MOST_ROWS;
 use crate::rows::Row;
 use crate::rows::Whose;
+use crate::rows::put_row;
 use crate::rows::row_at;
 use bl::FormulaTag;
 use formula::compare::same;
@@ -28,9 +31,10 @@ ghost use Rattle.procap.specs.Writable.{TermInForm};
 ghost use Rattle.bl.specs.Walk as walk;
 ghost use Rattle.ledger.specs.Books.{misfitted, Leads};
 ghost use Rattle.formula.specs.Meaning.{«from-of», «to-of»};
-ghost use Rattle.judging.specs.Judging.{«view-in», outermost, «scope-inside», «part-of», «nothing-inferred», «top-goal», «order-goal», «first-side», «second-side», «put-in»};
-ghost use Rattle.judging.specs.StepPromises.{UsesRow, UsesLocal, UsesCertificate, TakesSides, TakesConjuncts, StaysStopped, TakesTimes, TakesAt, TakesSays, TakesInside, TakesInsideInferred, Continues, PutsToUse, MeetsGoal, MeetsFact, FitsGoal, ChecksInferred};
+ghost use Rattle.judging.specs.Judging.{«view-in», outermost, «scope-inside», «scope-with», «part-of», «nothing-inferred», «top-goal», «order-goal», «first-side», «second-side», «put-in»};
+ghost use Rattle.judging.specs.StepPromises.{UsesRow, UsesLocal, UsesCertificate, TakesSides, TakesSidesInferred, StaysStopped, TakesTimes, TakesAt, TakesSays, TakesInside, TakesInsideInferred, Continues, PutsToUse, MeetsGoal, MeetsFact, FitsGoal, ChecksInferred};
 ghost use Rattle.judging.specs.Pieces.{«binder-of»};
+ghost use Rattle.judging.specs.RowNumbers.{«rows-with»};
 
 // In whose view a step stands, and on which interval, in plain numbers: 0 for nobody's view, where the rest says nothing, and 1 for a principal's.
 pub struct View {
@@ -67,10 +71,12 @@ pub struct Sides {
     pub second: usize,
 }
 
-// What stands around a formula that a step takes out, or puts in: an "at" or a "says".
+// What stands around a formula that a step takes out, or puts in: an "at", a "says", or an "or" around its left or its right side.
 pub enum Shell {
     AtShell,
     SaysShell,
+    LeftShell,
+    RightShell,
 }
 
 // A judgement inside of another, as the row that it is assumed by: a plain one, or a claim of who says it.
@@ -172,6 +178,24 @@ impl Scope {
                 },
             },
         }
+    }
+}
+
+// One assumption more: its row is put past those that are there. Where no row has room any more, the scope stays as it was.
+pub fn assume(assumptions: &mut [u64], scope: Scope, row: Row) -> Scope
+    ensures rows { λ _. ⌜ now (assumptions .exit) ≡ «rows-with» (now (assumptions .entry)) (scope .count) row ⌝ }
+    ensures scope { λ r. ⌜ r ≡ «scope-with» scope ⌝ }
+{
+    let count = scope.count;
+    let view = scope.view;
+    put_row(assumptions, count, row);
+    if MOST_ROWS <= count {
+        return scope;
+    }
+    Scope {
+        count: count + 1,
+        shut: scope.shut,
+        view: view,
     }
 }
 
@@ -279,7 +303,7 @@ pub fn certificate(
     row_used(certificates, index, scope, offset, ledger, next)
 }
 
-// Where the two sides of a conjunction or of an implication begin, by the tag wanted.
+// Where the two sides of a conjunction, of an implication or of an "or" begin, by the tag wanted.
 pub fn sides_of(
     bytes: &[u8],
     offset: usize,
@@ -306,9 +330,14 @@ pub fn sides_of(
     }
 }
 
-// Both sides of the conjunction that was inferred, where the walk goes on.
-fn conjuncts(buffer: &[u8], offset: usize, inferred: Inferred) -> Sides
-    ensures going { λ r. ⌜ TakesConjuncts (now (buffer .entry)) offset inferred r ⌝ }
+// The same of what was inferred, where the walk goes on.
+pub fn sides_inferred(
+    buffer: &[u8],
+    offset: usize,
+    wanted: FormulaTag,
+    inferred: Inferred,
+) -> Sides
+    ensures going { λ r. ⌜ TakesSidesInferred (now (buffer .entry)) offset wanted inferred r ⌝ }
     ensures stopped { λ r. ⌜ StaysStopped inferred (r .ledger) ⌝ }
 {
     let ledger = inferred.ledger;
@@ -320,14 +349,14 @@ fn conjuncts(buffer: &[u8], offset: usize, inferred: Inferred) -> Sides
             second: 0,
         };
     }
-    sides_of(buffer, offset, FormulaTag::AndTag, judgement, ledger)
+    sides_of(buffer, offset, wanted, judgement, ledger)
 }
 
 // 23: the first side of the conjunction that was inferred.
 pub fn first(buffer: &[u8], offset: usize, inferred: Inferred) -> Inferred
     ensures { λ r. ⌜ Continues (now (buffer .entry)) inferred («first-side» offset) r ⌝ }
 {
-    let parts = conjuncts(buffer, offset, inferred);
+    let parts = sides_inferred(buffer, offset, FormulaTag::AndTag, inferred);
     let after_parts = parts.ledger;
     let judgement = inferred.judgement;
     Inferred {
@@ -341,7 +370,7 @@ pub fn first(buffer: &[u8], offset: usize, inferred: Inferred) -> Inferred
 pub fn second(buffer: &[u8], offset: usize, inferred: Inferred) -> Inferred
     ensures { λ r. ⌜ Continues (now (buffer .entry)) inferred («second-side» offset) r ⌝ }
 {
-    let parts = conjuncts(buffer, offset, inferred);
+    let parts = sides_inferred(buffer, offset, FormulaTag::AndTag, inferred);
     let after_parts = parts.ledger;
     let judgement = inferred.judgement;
     Inferred {
@@ -450,7 +479,7 @@ fn binder_of(term: Term) -> FormulaTag
     }
 }
 
-// 28, 29, 2A and 2B: what stands inside of the shell that is wanted.
+// 28, 29, 2A, 2B, 2E and 2F: what stands inside of the shell that is wanted.
 pub fn inside_of(
     bytes: &[u8],
     offset: usize,
@@ -463,6 +492,8 @@ pub fn inside_of(
     match shell {
         Shell::AtShell => lifted(bytes, offset, judgement, ledger),
         Shell::SaysShell => said(bytes, offset, judgement, ledger),
+        Shell::LeftShell => left_of(bytes, offset, judgement, ledger),
+        Shell::RightShell => right_of(bytes, offset, judgement, ledger),
     }
 }
 

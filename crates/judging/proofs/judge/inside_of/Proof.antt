@@ -1,4 +1,4 @@
--- What is inside of an "at" is a plain assumption on its own interval, what someone says a claim of theirs.
+-- What is inside of an "at" is a plain assumption on its own interval, what someone says a claim of theirs, a side of an "or" a plain one on the same interval.
 use borrow.Author.Needs.{needs}
 use mathlib.Core.Path.{refl}
 use native.Mathlib.Omega.{arith}
@@ -21,5 +21,13 @@ returns-2 c F m =
     rw (c .before .enum-told2 .given .1)
     (takes-then _ (λ x. claim (x .0) (x .1) _ _) refl (λ x so. is-claim (so .0) (so .1)) (c .said .ensures F m))
 
+returns-3 : tie.Need-returns-3
+returns-3 c F m = rw (c .before .enum-told3 .given .1) (c .left-of .ensures F m)
+
+returns-4 : tie.Need-returns-4
+returns-4 c F m = rw (c .before .enum-told4 .given .1) (c .right-of .ensures F m)
+
 pub inside-of-spec : {M : Type 1} → statement M
-inside-of-spec = tie.close (tie.spec (λ c. search needs) (λ c κs. search needs) (λ c. search needs) (λ c κs. search needs) returns returns-2)
+inside-of-spec = tie.close 
+    (tie.spec (λ c. search needs) (λ c κs. search needs) (λ c. search needs) (λ c κs. search needs) (λ c. search needs) (λ c κs. search needs) (λ c. search needs) (λ c κs. search needs)
+    returns returns-2 returns-3 returns-4)
