@@ -38,12 +38,7 @@ pub fn side_on(judgement: Judgement, at: usize, from: TimeNumbers, to: TimeNumbe
 }
 
 // 2E: the left side of an "or", on the same interval.
-pub(crate) fn left_of(
-    bytes: &[u8],
-    offset: usize,
-    judgement: Judgement,
-    ledger: Ledger,
-) -> Inside
+pub(crate) fn left_of(bytes: &[u8], offset: usize, judgement: Judgement, ledger: Ledger) -> Inside
     ensures { λ r. ⌜ TakesInside (now (bytes .entry)) offset Shell.LeftShell judgement ledger r ⌝ }
 {
     let sides = sides_of(bytes, offset, FormulaTag::OrTag, judgement, ledger);
@@ -57,12 +52,7 @@ pub(crate) fn left_of(
 }
 
 // 2F: the right side of an "or", on the same interval.
-pub(crate) fn right_of(
-    bytes: &[u8],
-    offset: usize,
-    judgement: Judgement,
-    ledger: Ledger,
-) -> Inside
+pub(crate) fn right_of(bytes: &[u8], offset: usize, judgement: Judgement, ledger: Ledger) -> Inside
     ensures { λ r. ⌜ TakesInside (now (bytes .entry)) offset Shell.RightShell judgement ledger r ⌝ }
 {
     let sides = sides_of(bytes, offset, FormulaTag::OrTag, judgement, ledger);

@@ -331,12 +331,7 @@ pub fn sides_of(
 }
 
 // The same of what was inferred, where the walk goes on.
-pub fn sides_inferred(
-    buffer: &[u8],
-    offset: usize,
-    wanted: FormulaTag,
-    inferred: Inferred,
-) -> Sides
+pub fn sides_inferred(buffer: &[u8], offset: usize, wanted: FormulaTag, inferred: Inferred) -> Sides
     ensures going { λ r. ⌜ TakesSidesInferred (now (buffer .entry)) offset wanted inferred r ⌝ }
     ensures stopped { λ r. ⌜ StaysStopped inferred (r .ledger) ⌝ }
 {

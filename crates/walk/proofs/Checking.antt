@@ -4,7 +4,6 @@ use mathlib.Core.Path.{_≡_, refl, ap, _∙_}
 use mathlib.Core.List.{List, _∷_, map}
 use mathlib.Core.Option.{some}
 use native.Mathlib.Omega.{arith}
-use native.Mathlib.Numerals.{add-one}
 use lib.ListN.{length, getD}
 use Rattle.procap.specs.Bytes.{Reader}
 use Rattle.bl.specs.declared.InferTag.{InferTag}
@@ -28,23 +27,24 @@ use Rattle.judging.specs.declared.judge.Scope.{Scope}
 use Rattle.judging.specs.declared.judge.Inferred.{Inferred}
 use Rattle.judging.specs.declared.judge.Checked.{Checked}
 use Rattle.judging.specs.declared.judge.Shell.{Shell}
-use Rattle.judging.specs.declared.judge.Shell.the-variants.{AtShell, SaysShell}
+use Rattle.judging.specs.declared.judge.Shell.the-variants.{AtShell, SaysShell, LeftShell, RightShell}
 use Rattle.judging.specs.declared.judge.Sides.{Sides}
 use Rattle.judging.specs.declared.judge.Inside.{Inside}
 use Rattle.ledger.specs.Books.{stop-of, book, Sound, Gives}
 use Rattle.formula.specs.Meaning.{from-of, to-of, Means, On}
-use Rattle.judging.specs.RowsOf.{RowIs, is-plain, is-claim, is-shut, most-rows}
+use Rattle.judging.specs.RowsOf.{RowIs, is-plain, is-claim, is-shut}
 use Rattle.judging.specs.RowNumbers.{rows-with}
-use Rattle.judging.specs.Judging.{view-by, view-in, view-on, scope-inside, part-of, and-then, sides, TwoSided, and-sides, inside, top-goal, fact-goal, order-goal, Passes}
+use Rattle.judging.specs.Judging.{view-by, view-in, view-on, scope-inside, scope-with, part-of, and-then, sides, TwoSided, and-sides, inside, top-goal, fact-goal, order-goal, Passes}
 use Rattle.judging.specs.StepPromises.{TakesSides, TakesInside, TakesInsideInferred, StaysStopped, ChecksInferred}
 use Rattle.walk.specs.Walking.{Sources, Around, Keeps, InfersAt, ChecksAt, ChecksBy}
-use Rattle.walk.specs.WalkCalls.{Puts, puts-at, puts-says, TakesOut, takes-at, takes-says}
-use Rattle.steps.proofs.StepsRead.{check-read, pair-read, trivial-read, state-read, compare-read, at-in-read, says-in-read, at-out-read, says-out-read, no-check-read, inferred-read, begins-there}
-use Rattle.judging.proofs.StepWalks.{check-inside, pair-walk, trivial-walk, state-walk, compare-walk, at-in-walk, says-in-walk, at-out-walk, says-out-walk, inferred-walk}
+use Rattle.walk.specs.WalkCalls.{Puts, puts-at, puts-says, puts-left, puts-right, TakesOut, takes-at, takes-says}
+use Rattle.steps.proofs.StepsRead.{check-read, pair-read, trivial-read, state-read, compare-read, at-in-read, says-in-read, at-out-read, says-out-read, or-left-read, or-right-read, no-check-read, inferred-read, begins-there}
+use Rattle.judging.proofs.StepWalks.{check-inside, pair-walk, trivial-walk, state-walk, compare-walk, at-in-walk, says-in-walk, at-out-walk, says-out-walk, or-left-walk, or-right-walk, inferred-walk}
 use Rattle.judging.proofs.Coming.{Comes, comes-taken, comes-inferred, comes-checked, comes-or-stays, passes-on, passes-halted, passes-then}
 use Rattle.judging.proofs.JudgingLaws.{takes-so}
-use Rattle.walk.proofs.Surroundings.{around-part, around-said, around-more, around-kept}
+use Rattle.walk.proofs.Surroundings.{around-part, around-said}
 use Rattle.walk.proofs.Inferring.{first-part}
+use Rattle.walk.proofs.Assuming.{part-assuming}
 
 -- With no level left nothing is read.
 no-check-step : (proof : List ℕ) (c n h q : ℕ) (N : Check) (e : ℕ) → n ≡ 0 → check-step proof c n h q ≡ some (N, e) → ⊥
@@ -67,6 +67,10 @@ ChecksItself SaysInTag = Unit {0}
 ChecksItself SaysOutTag = Unit {0}
 ChecksItself StateTag = Unit {0}
 ChecksItself OrderStepTag = Unit {0}
+ChecksItself OrLeftTag = Unit {0}
+ChecksItself OrRightTag = Unit {0}
+ChecksItself OrOutTag = Unit {0}
+ChecksItself FalsityOutTag = Unit {0}
 ChecksItself InferredTag = ⊥
 ChecksItself NoCheckTag = Unit {0}
 
@@ -82,11 +86,15 @@ same-reader proof c f g h q i SaysInTag own = refl
 same-reader proof c f g h q i SaysOutTag own = refl
 same-reader proof c f g h q i StateTag own = refl
 same-reader proof c f g h q i OrderStepTag own = refl
+same-reader proof c f g h q i OrLeftTag own = refl
+same-reader proof c f g h q i OrRightTag own = refl
+same-reader proof c f g h q i OrOutTag own = refl
+same-reader proof c f g h q i FalsityOutTag own = refl
 same-reader proof c f g h q i InferredTag own = absurd own
 same-reader proof c f g h q i NoCheckTag own = refl
 
 -- What is told of a step is told of the step that it is.
-told-is : (ends : List ℕ) {N N′ : Check} → N ≡ N′ → ToldChecking ends N → ToldChecking ends N′
+pub told-is : (ends : List ℕ) {N N′ : Check} → N ≡ N′ → ToldChecking ends N → ToldChecking ends N′
 told-is ends e told = rw e at told
 
 -- ── Steps with a shell ──
@@ -109,6 +117,12 @@ put-read proof ends c n h q AtInTag AtShell N e puts-at reads told =
 put-read proof ends c n h q SaysInTag SaysShell N e puts-says reads told =
     let found = says-in-read proof c n h q NoInferTag N e reads in
     record { part = found .part; reads = found .reads; told = told-is ends (found .is) told; walks = λ cs Γ v j. ap (λ N. check cs Γ v N (j .0) (j .1) (j .2)) (found .is) ∙ says-in-walk cs Γ v q (j .0) (j .1) (j .2) (found .part) }
+put-read proof ends c n h q OrLeftTag LeftShell N e puts-left reads told =
+    let found = or-left-read proof c n h q NoInferTag N e reads in
+    record { part = found .part; reads = found .reads; told = told-is ends (found .is) told; walks = λ cs Γ v j. ap (λ N. check cs Γ v N (j .0) (j .1) (j .2)) (found .is) ∙ or-left-walk cs Γ v q (j .0) (j .1) (j .2) (found .part) }
+put-read proof ends c n h q OrRightTag RightShell N e puts-right reads told =
+    let found = or-right-read proof c n h q NoInferTag N e reads in
+    record { part = found .part; reads = found .reads; told = told-is ends (found .is) told; walks = λ cs Γ v j. ap (λ N. check cs Γ v N (j .0) (j .1) (j .2)) (found .is) ∙ or-right-walk cs Γ v q (j .0) (j .1) (j .2) (found .part) }
 
 -- A step that takes a formula out of a shell: the part that infers it, the part that assumes what is inside, and its walk.
 record TakeRead (proof ends : List ℕ) (c n h q : ℕ) (shell : Shell) (N : Check) (e : ℕ) : Type 0 where
@@ -328,19 +342,15 @@ module _ (S : Sources) (rows : List ℕ) (scope : Scope) (ledger : Ledger) (list
             rw (found .walks cs Γ view (G, from-of goal, to-of goal))
             (passes-halted (S .state) (book ledger list) _ (held .ledger) list₁ (taken-comes cs Γ N e sound around found) _ e n next)
 
-        -- There is room for the row, and it is the assumption more.
-        pub check-take-full : most-rows ≤ scope .count → {r : Checked} {list′ : List ℕ} → (tag : CheckTag) → TakesOut tag shell → By tag r list′
-        check-take-full full tag is cs Γ N e sound around reads told G means = let room = around .room in absurd (omega arith)
-
+        -- The row is the assumption more.
         pub check-take : stop-of (held .ledger) ≡ Going → {between more : List ℕ} → Keeps (scope .count) rows between
-            → more ≡ rows-with between (scope .count) (held .row) → Keeps (scope .count) between more
+            → more ≡ rows-with between (scope .count) (held .row) → length more ≡ length between
             → {r : Checked} {list₂ : List ℕ}
-            → ChecksAt S more (record { count = scope .count + 1; shut = scope .shut; view = scope .view }) (held .ledger) list₁ left goal-bytes goal (inferred .next) r list₂
+            → ChecksAt S more (scope-with scope) (held .ledger) list₁ left goal-bytes goal (inferred .next) r list₂
             → (tag : CheckTag) → TakesOut tag shell → By tag r list₂
-        check-take going {between} {more} kept put keeps {r} {list₂} checks tag is cs Γ N e sound around reads told G means =
+        check-take going {between} {more} kept put all {r} {list₂} checks tag is cs Γ N e sound around reads told G means =
             let found = take-read (S .proof) (S .ends) (length cs) left (scope .count) at tag shell N e is reads told in
-            let around′ = around-kept S rows between scope (suc left) cs Γ kept around in
             rw (found .walks cs Γ view (G, from-of goal, to-of goal))
             (passes-then (S .state) (book ledger list) _ (held .ledger) list₁ (taken-comes cs Γ N e sound around found) _ e going r list₂
-            (λ sound x so. checks cs (x ∷ Γ) (found .other) e sound (around-more S between scope left cs Γ around′ more (held .row) x (so .0) put keeps)
-            (rw (add-one (scope .count), so .1) (found .other-reads)) (found .other-told) G means))
+            (λ sound x so. part-assuming S rows scope left goal-bytes goal (held .row) kept put all (held .ledger) list₁ (inferred .next) checks
+            cs Γ (found .other) e sound around (rw (so .1) (found .other-reads)) (found .other-told) x (so .0) G means))

@@ -2,4 +2,6 @@
 pub mod Surroundings
 pub mod Falling
 pub mod Inferring
+pub mod Assuming
 pub mod Checking
+pub mod CheckingEither

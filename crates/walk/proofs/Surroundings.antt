@@ -5,6 +5,10 @@ use mathlib.Core.Path.{_≡_, refl, _∙_}
 use mathlib.Core.List.{List, [], _∷_, map}
 use native.Mathlib.Omega.{arith}
 use native.Mathlib.Numerals.{add-one}
+use mathlib.Core.Bool.{Bool, true, false}
+use borrow.Author.Tests.{lt-ltb}
+use lib.Dec.{ltb}
+use Rattle.procap.specs.Tells.{pick}
 use lib.ListN.{length}
 use Rattle.bl.specs.Certificates.{Statement}
 use Rattle.bl.specs.Rules.{Assumption, shut, shut-out}
@@ -17,8 +21,8 @@ use Rattle.judging.specs.declared.judge.Checked.{Checked}
 use Rattle.formula.specs.PutIn.{terms-numbers}
 use Rattle.judging.specs.declared.rows.Whose.{Whose}
 use Rattle.judging.specs.declared.rows.Whose.the-variants.{Plain, Claim}
-use Rattle.judging.specs.Judging.{scope-by}
-use Rattle.judging.specs.RowsOf.{row-in, RowIs, is-plain, is-claim, is-shut, Assumed}
+use Rattle.judging.specs.Judging.{scope-by, scope-with}
+use Rattle.judging.specs.RowsOf.{most-rows, row-in, RowIs, is-plain, is-claim, is-shut, Assumed}
 use Rattle.judging.specs.RowNumbers.{rows-with}
 use Rattle.judging.proofs.RowLaws.{row-there, earlier-stay}
 use Rattle.walk.specs.Walking.{Sources, Around, Keeps, ChecksAt}
@@ -75,9 +79,26 @@ pub keeps-inside : (scope : Scope) (whose : Whose) (j : Judgement) {before after
 keeps-inside scope Plain j keeps = keeps
 keeps-inside scope (Claim k) j keeps = keeps
 
--- What keeps it, too, keeps those below it.
-pub keeps-put : {count : ℕ} {before more after : List ℕ} → Keeps count before more → Keeps (count + 1) more after → Keeps count before after
-keeps-put put after = record { rows = λ i below. after .rows i (omega arith) ∙ put .rows i below; all = after .all ∙ put .all }
+-- With one assumption more there are no fewer; and where a row has room, one more.
+scope-grows : (scope : Scope) → scope .count ≤ scope-with scope .count
+unfolding scope-with
+scope-grows scope = by (ltb (scope .count) most-rows)
+  where
+    by : (b : Bool) → scope .count ≤ (pick b (record { count = scope .count + 1; shut = scope .shut; view = scope .view }) scope) .count
+    by true = omega arith
+    by false = omega arith
+
+pub scope-more : (scope : Scope) → scope .count < most-rows → scope-with scope ≡ record { count = scope .count + 1; shut = scope .shut; view = scope .view }
+unfolding scope-with
+scope-more scope room = rw (lt-ltb (scope .count) most-rows room) refl
+
+-- A row is put, and then a call keeps what is below the assumption more: both keep what was there before.
+pub keeps-assumed : (scope : Scope) (before : List ℕ) (row : Row) {more after : List ℕ} → more ≡ rows-with before (scope .count) row → length more ≡ length before
+    → Keeps (scope-with scope .count) more after → Keeps (scope .count) before after
+keeps-assumed scope before row put all after =
+    let below = keeps-others (scope .count) before row put all in
+    let grows = scope-grows scope in
+    record { rows = λ i l. after .rows i (omega arith) ∙ below .rows i l; all = after .all ∙ below .all }
 
 -- A row that is usable is so at its own index.
 pub row-usable : (buffer : List ℕ) (row : Row) (index below : ℕ) (x : Assumption) → below ≤ index → RowIs buffer row 0 0 x → RowIs buffer row index below x
@@ -104,7 +125,7 @@ module _ (S : Sources) (rows : List ℕ) (scope : Scope) (left : ℕ) (cs : List
         all-there = around .all-there;
       }
 
-  -- The second part of an at-out or a says-out: the row is put past those that are there.
+  -- A part with one assumption more: the row is put past those that are there.
   pub around-more : (more : List ℕ) (row : Row) (x : Assumption) → RowIs (S .buffer) row 0 0 x → more ≡ rows-with rows (scope .count) row → Keeps (scope .count) rows more
       → Around S more (record { count = scope .count + 1; shut = scope .shut; view = scope .view }) left cs (x ∷ Γ)
   unfolding Assumed

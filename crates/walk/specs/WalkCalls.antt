@@ -5,13 +5,13 @@ use lib.ListN.{getD}
 use Rattle.procap.specs.Lent.{Lent}
 use Rattle.bl.specs.declared.InferTag.{InferTag}
 use Rattle.bl.specs.declared.CheckTag.{CheckTag}
-use Rattle.bl.specs.declared.CheckTag.the-variants.{PairTag, AtInTag, AtOutTag, SaysInTag, SaysOutTag}
+use Rattle.bl.specs.declared.CheckTag.the-variants.{PairTag, AtInTag, AtOutTag, SaysInTag, SaysOutTag, OrLeftTag, OrRightTag, OrOutTag}
 use Rattle.bl.specs.Tags.{infer-tag}
 use Rattle.formula.specs.declared.parts.Judgement.{Judgement}
 use Rattle.judging.specs.declared.judge.Inferred.{Inferred}
 use Rattle.judging.specs.declared.judge.Checked.{Checked}
 use Rattle.judging.specs.declared.judge.Shell.{Shell}
-use Rattle.judging.specs.declared.judge.Shell.the-variants.{AtShell, SaysShell}
+use Rattle.judging.specs.declared.judge.Shell.the-variants.{AtShell, SaysShell, LeftShell, RightShell}
 use Rattle.walk.specs.declared.Here.{Here}
 use Rattle.walk.specs.Walking.{Sources, Keeps, InfersAt, ChecksAt, ChecksBy}
 
@@ -24,6 +24,8 @@ sources buffer proof state certificates ends =
 pub data Puts : CheckTag → Shell → Type 0 where
   puts-at : Puts AtInTag AtShell
   puts-says : Puts SaysInTag SaysShell
+  puts-left : Puts OrLeftTag LeftShell
+  puts-right : Puts OrRightTag RightShell
 
 pub data TakesOut : CheckTag → Shell → Type 0 where
   takes-at : TakesOut AtOutTag AtShell
@@ -50,6 +52,10 @@ module _ (S : Sources) (facts assumptions : Lent) where
     -- Both sides of a conjunction.
     abbrev pub ChecksPair : Type 0
     ChecksPair = ChecksTagged PairTag
+
+    -- Both sides of an "or", each in its turn.
+    abbrev pub ChecksEither : Type 0
+    ChecksEither = ChecksTagged OrOutTag
 
     -- The step that puts a formula into a shell, and the one that takes it out.
     abbrev pub ChecksPut : Shell → Type 0

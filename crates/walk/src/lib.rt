@@ -4,10 +4,13 @@ use bl::CheckTag;
 use bl::FormulaTag;
 use bl::InferTag;
 use formula::parts::Judgement;
+use judging::either::from_falsity;
+use judging::either::side_on;
 use judging::judge::Checked;
 use judging::judge::Inferred;
 use judging::judge::Scope;
 use judging::judge::Shell;
+use judging::judge::assume;
 use judging::judge::certificate;
 use judging::judge::checked_by;
 use judging::judge::first;
@@ -20,11 +23,10 @@ use judging::judge::order;
 use judging::judge::part_at;
 use judging::judge::put_to_use;
 use judging::judge::second;
+use judging::judge::sides_inferred;
 use judging::judge::sides_of;
 use judging::judge::state_fact;
 use judging::judge::top;
-use judging::rows::MOST_ROWS;
-use judging::rows::put_row;
 use ledger::Ledger;
 use procap::bytes::past;
 use steps::check_tag_at;
@@ -33,7 +35,7 @@ use steps::infer_tag_at;
 use steps::term_at;
 ghost use mathlib.Core.Path.{_≡_};
 ghost use Prim.Native.Nat.{_-_, _<_};
-ghost use Rattle.walk.specs.WalkCalls.{sources, Infers, Checks, ChecksPair, ChecksPut, ChecksTaken, KeepsRows};
+ghost use Rattle.walk.specs.WalkCalls.{sources, Infers, Checks, ChecksPair, ChecksPut, ChecksTaken, ChecksEither, KeepsRows};
 
 // Where the walk stands: in which scope, at which step, with what ledger, and how many levels are left there.
 pub struct Here {
@@ -125,6 +127,14 @@ pub fn check(
         CheckTag::SaysOutTag => take_out(buffer, proof, state, certificates, ends, facts, assumptions, Shell::SaysShell, goal_bytes, goal, here),
         CheckTag::StateTag => Checked { ledger: state_fact(goal_bytes, state, facts, at, goal, ledger), next: past(proof, at) },
         CheckTag::OrderStepTag => Checked { ledger: order(goal_bytes, at, goal, ledger), next: past(proof, at) },
+        CheckTag::OrLeftTag => put_in(buffer, proof, state, certificates, ends, facts, assumptions, Shell::LeftShell, goal_bytes, goal, here),
+        CheckTag::OrRightTag => put_in(buffer, proof, state, certificates, ends, facts, assumptions, Shell::RightShell, goal_bytes, goal, here),
+        CheckTag::OrOutTag => either(buffer, proof, state, certificates, ends, facts, assumptions, goal_bytes, goal, here),
+        CheckTag::FalsityOutTag => {
+            let begin = past(proof, at);
+            let inferred = infer(buffer, proof, state, certificates, ends, facts, assumptions, infer_tag_at(proof, begin), here.part(begin, ledger));
+            from_falsity(buffer, at, inferred)
+        }
         CheckTag::InferredTag => {
             let inferred = infer(buffer, proof, state, certificates, ends, facts, assumptions, infer_tag_at(proof, at), here);
             checked_by(buffer, goal_bytes, at, inferred, goal)
@@ -160,7 +170,7 @@ fn pair(
     check(buffer, proof, state, certificates, ends, facts, assumptions, goal_bytes, other, here.part(checked.next, after_one))
 }
 
-// 28 and 2A: what stands inside of the goal's shell is checked, in the scope inside of it.
+// 28, 2A, 2E and 2F: what stands inside of the goal's shell is checked, in the scope inside of it.
 #[rattlefmt::skip]
 fn put_in(
     buffer: &[u8], proof: &[u8], state: &[u8], certificates: &[u64], ends: &[u16], facts: &mut [u64], assumptions: &mut [u64],
@@ -196,8 +206,6 @@ fn take_out(
     ensures keeps { λ _. ⌜ KeepsRows here assumptions ⌝ }
 {
     let scope = here.scope;
-    let view = scope.view;
-    let count = scope.count;
     let at = here.at;
     let ledger = here.ledger;
     let begin = past(proof, at);
@@ -208,12 +216,44 @@ fn take_out(
     if !after_inside.goes_on() {
         return Checked { ledger: after_inside, next: at };
     }
-    if MOST_ROWS <= count {
-        return Checked { ledger: after_inside.misfit(at), next: at };
-    }
-    put_row(assumptions, count, row);
-    let more = Scope { count: count + 1, shut: scope.shut, view: view };
+    let more = assume(assumptions, scope, row);
     let left = here.left - 1;
     let inner = Here { scope: more, at: inferred.next, ledger: after_inside, left: left };
     check(buffer, proof, state, certificates, ends, facts, assumptions, goal_bytes, goal, inner)
+}
+
+// 30: each side of the "or" that was inferred shows the goal, as a plain assumption on the interval of the "or".
+#[rattlefmt::skip]
+fn either(
+    buffer: &[u8], proof: &[u8], state: &[u8], certificates: &[u64], ends: &[u16], facts: &mut [u64], assumptions: &mut [u64],
+    goal_bytes: &[u8], goal: Judgement, here: Here,
+) -> Checked
+    requires { ⌜ 0 < here .left ⌝ }
+    ensures walks { λ r. ⌜ ChecksEither (sources buffer proof state certificates ends) facts assumptions «goal_bytes» goal here r ⌝ }
+    ensures keeps { λ _. ⌜ KeepsRows here assumptions ⌝ }
+{
+    let scope = here.scope;
+    let at = here.at;
+    let ledger = here.ledger;
+    let begin = past(proof, at);
+    let inferred = infer(buffer, proof, state, certificates, ends, facts, assumptions, infer_tag_at(proof, begin), here.part(begin, ledger));
+    let sides = sides_inferred(buffer, at, FormulaTag::OrTag, inferred);
+    let after_sides = sides.ledger;
+    if !after_sides.goes_on() {
+        return Checked { ledger: after_sides, next: at };
+    }
+    let judgement = inferred.judgement;
+    let from = judgement.from;
+    let to = judgement.to;
+    let left = here.left - 1;
+    let with_left = assume(assumptions, scope, side_on(judgement, sides.first, from, to));
+    let on_left = Here { scope: with_left, at: inferred.next, ledger: after_sides, left: left };
+    let one = check(buffer, proof, state, certificates, ends, facts, assumptions, goal_bytes, goal, on_left);
+    let after_one = one.ledger;
+    if !after_one.goes_on() {
+        return one;
+    }
+    let with_right = assume(assumptions, scope, side_on(judgement, sides.second, from, to));
+    let on_right = Here { scope: with_right, at: one.next, ledger: after_one, left: left };
+    check(buffer, proof, state, certificates, ends, facts, assumptions, goal_bytes, goal, on_right)
 }

@@ -28,6 +28,6 @@ returns-4 : tie.Need-returns-4
 returns-4 c F m = rw (c .before .enum-told4 .given .1) (c .right-of .ensures F m)
 
 pub inside-of-spec : {M : Type 1} → statement M
-inside-of-spec = tie.close 
+inside-of-spec = tie.close
     (tie.spec (λ c. search needs) (λ c κs. search needs) (λ c. search needs) (λ c κs. search needs) (λ c. search needs) (λ c κs. search needs) (λ c. search needs) (λ c κs. search needs)
     returns returns-2 returns-3 returns-4)
