@@ -22,14 +22,14 @@ use Rattle.procap.proofs.Telling.{tells-picked}
 use Rattle.procap.proofs.ReadApart.{not-read}
 use Rattle.bl.specs.declared.FormulaTag.{FormulaTag}
 use Rattle.bl.specs.declared.FormulaTag.the-variants.{TopTag, AndTag, ImpliesTag, AllNamesTag, AllTimesTag, SaysTag, AtTag, AtomTag, FactTag, OrderTag, OrTag, FalsityTag, NoFormulaTag}
-use Rattle.bl.specs.Trees.{Place, fixed, bound, Sort, names, times, Formula, top, at, order, falsity}
+use Rattle.bl.specs.Trees.{Place, fixed, bound, Sort, names, times, Formula, top, and, implies, at, order, or, falsity}
 use Rattle.bl.specs.Tags.{formula-tag}
 use Rattle.bl.specs.Formulas.{most-formula-levels, most-binders, variable-of, place-of, fixed-by, place-by, argument, place, for-all, formula-by, formula, formula-in}
 use Rattle.formula.specs.declared.ends.End.{End}
 use Rattle.formula.specs.declared.ends.End.the-variants.{At, Nowhere}
 use Rattle.formula.specs.declared.ends.PlaceEnd.{PlaceEnd}
 use Rattle.formula.specs.declared.ends.PlaceEnd.the-variants.{Found}
-use Rattle.formula.specs.Ends.{Ends, EndsAfter, OfSort, PlaceEnds, sort-of, two-times}
+use Rattle.formula.specs.Ends.{Ends, EndsAfter, OfSort, PlaceEnds, sort-of, both-sides, two-times}
 
 -- ── One reader after another ──
 
@@ -243,18 +243,25 @@ module _ (part : List ℕ) (below : List Sort → Reader Formula) (sorts : List 
     unfolding for-all then ensure
     body-ends r l h = rw (lt-ltb (length sorts) most-binders l) (made-of _ _ r h)
 
+  -- Both sides of a formula, whatever is made of them.
+  abbrev pub SidesEndAt : End → Type 0
+  SidesEndAt r = (make : Formula → Formula → Formula) → Ends (both-sides below sorts make from) r
+
+  pub sides-end : (b r : End) → Ends (below sorts from) b → EndsAfter (below sorts) b r → SidesEndAt r
+  sides-end b r h k make = both-ended _ _ make b r h k
+
   -- The formulas by their tags.
   pub top-ends : Ends (formula-by part below sorts TopTag from) (At from)
   unfolding formula-by
   top-ends = (top, refl)
 
-  pub and-ends : (b r : End) → Ends (below sorts from) b → EndsAfter (below sorts) b r → Ends (formula-by part below sorts AndTag from) r
+  pub and-ends : (r : End) → SidesEndAt r → Ends (formula-by part below sorts AndTag from) r
   unfolding formula-by
-  and-ends b r h k = both-ended _ _ _ b r h k
+  and-ends r h = h and
 
-  pub implies-ends : (b r : End) → Ends (below sorts from) b → EndsAfter (below sorts) b r → Ends (formula-by part below sorts ImpliesTag from) r
+  pub implies-ends : (r : End) → SidesEndAt r → Ends (formula-by part below sorts ImpliesTag from) r
   unfolding formula-by
-  implies-ends b r h k = both-ended _ _ _ b r h k
+  implies-ends r h = h implies
 
   pub all-names-ends : (r : End) → Ends (for-all part below sorts names from) r → Ends (formula-by part below sorts AllNamesTag from) r
   unfolding formula-by
@@ -284,9 +291,9 @@ module _ (part : List ℕ) (below : List Sort → Reader Formula) (sorts : List 
   unfolding formula-by two-times
   order-ends r h = paired _ _ _ r (made-of _ (λ ts. order (ts .0) (ts .1)) r h)
 
-  pub or-ends : (b r : End) → Ends (below sorts from) b → EndsAfter (below sorts) b r → Ends (formula-by part below sorts OrTag from) r
+  pub or-ends : (r : End) → SidesEndAt r → Ends (formula-by part below sorts OrTag from) r
   unfolding formula-by
-  or-ends b r h k = both-ended _ _ _ b r h k
+  or-ends r h = h or
 
   pub falsity-ends : Ends (formula-by part below sorts FalsityTag from) (At from)
   unfolding formula-by

@@ -6,7 +6,7 @@ use mathlib.Core.List.{List}
 use mathlib.Core.Option.{Option, some, none}
 use lib.ListN.{getD}
 use Rattle.procap.specs.Bytes.{Reader, _>>=_, give}
-use Rattle.bl.specs.Trees.{Place, Sort, names, times}
+use Rattle.bl.specs.Trees.{Place, Sort, names, times, Formula}
 use Rattle.bl.specs.Formulas.{most-binders, variable-of, place-of, place}
 use Rattle.formula.specs.declared.ends.End.{End}
 use Rattle.formula.specs.declared.ends.End.the-variants.{At, Nowhere}
@@ -45,6 +45,13 @@ two-times part sorts = do
   t1 ← place part times sorts
   t2 ← place part times sorts
   give (t1, t2)
+
+-- Two formulas over readers of the level below, and what is made of them.
+abbrev pub both-sides : (List Sort → Reader Formula) → List Sort → (Formula → Formula → Formula) → Reader Formula
+both-sides below sorts make = do
+  A ← below sorts
+  B ← below sorts
+  give (make A B)
 
 -- The sorts of the binders around a place, the innermost first.
 unfoldable pub sorts-of : Binders → List Sort

@@ -12,7 +12,7 @@ use Rattle.procap.specs.declared.time.Time.the-variants.{Ctime}
 use Rattle.procap.specs.declared.fact.Term.{Term}
 use Rattle.procap.specs.declared.tag.TermTag.{TermTag}
 use Rattle.procap.specs.declared.bytes.FactRead.{FactRead}
-use Rattle.bl.specs.Trees.{Place, Sort, fact, fixed, bound}
+use Rattle.bl.specs.Trees.{Place, Sort, Formula, fact, fixed, bound}
 use Rattle.bl.specs.Formulas.{argument, for-all, formula}
 use Rattle.ledger.specs.declared.Ledger.{Ledger}
 use Rattle.formula.specs.declared.terms.Terms.{Terms}
@@ -24,7 +24,7 @@ use Rattle.formula.specs.declared.compare.Pair.{Pair}
 use Rattle.formula.specs.declared.compare.Compared.{Compared}
 use Rattle.formula.specs.declared.ends.Binders.{Binders}
 use Rattle.formula.specs.declared.ends.End.{End}
-use Rattle.formula.specs.Ends.{Ends, sort-of, sorts-of}
+use Rattle.formula.specs.Ends.{Ends, both-sides, sort-of, sorts-of}
 use Rattle.formula.specs.PutIn.{no-terms, terms-of, FewTerms, place-of, fill-place}
 use Rattle.formula.specs.Meaning.{Means, SpellsPlaces, Compares}
 use Rattle.formula.specs.Comparing.{move}
@@ -73,3 +73,8 @@ PastTags left-bytes right-bytes pair r =
 abbrev pub BodyEnds : Lent → Binders → Bool → ℕ → ℕ → End → Type 0
 BodyEnds part binders over-times at left r =
     Ends (for-all (part .entry .now) (formula (part .entry .now) left) (sorts-of binders) (sort-of over-times) at) r
+
+-- Where the two sides of a formula end, whatever is made of them.
+abbrev pub SidesEnd : Lent → Binders → ℕ → ℕ → End → Type 0
+SidesEnd part binders at left r =
+    (make : Formula → Formula → Formula) → Ends (both-sides (formula (part .entry .now) left) (sorts-of binders) make at) r

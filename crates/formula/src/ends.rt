@@ -20,7 +20,7 @@ ghost use Rattle.procap.specs.Bytes.{many, «predicate-and»};
 ghost use Rattle.bl.specs.Trees.{Formula, Sort};
 ghost use Rattle.bl.specs.Formulas.{«most-binders», «fixed-by», «place-by», argument, place, formula, «formula-in»};
 ghost use Rattle.formula.specs.Ends.{Ends, EndsAfter, PlaceEnds, «two-times», «sort-of», «sorts-of», FewBinders};
-ghost use Rattle.formula.specs.PartPromises.{BodyEnds};
+ghost use Rattle.formula.specs.PartPromises.{BodyEnds, SidesEnd};
 
 // Where something ends, or that it is not there.
 pub enum End {
@@ -90,14 +90,8 @@ fn formula_end(part: &[u8], binders: Binders, at: usize, left: u64) -> End
     let below = left - 1;
     match formula_tag(byte as u8) {
         FormulaTag::TopTag => End::At(after),
-        FormulaTag::AndTag => {
-            let first = formula_end(part, binders, after, below);
-            next_formula_end(part, binders, first, below)
-        }
-        FormulaTag::ImpliesTag => {
-            let first = formula_end(part, binders, after, below);
-            next_formula_end(part, binders, first, below)
-        }
+        FormulaTag::AndTag => sides_end(part, binders, after, below),
+        FormulaTag::ImpliesTag => sides_end(part, binders, after, below),
         FormulaTag::AllNamesTag => body_end(part, binders, false, after, below),
         FormulaTag::AllTimesTag => body_end(part, binders, true, after, below),
         FormulaTag::SaysTag => {
@@ -111,10 +105,7 @@ fn formula_end(part: &[u8], binders: Binders, at: usize, left: u64) -> End
         FormulaTag::AtomTag => arguments_end(part, binders, after),
         FormulaTag::FactTag => arguments_end(part, binders, after),
         FormulaTag::OrderTag => two_times_end(part, binders, after),
-        FormulaTag::OrTag => {
-            let first = formula_end(part, binders, after, below);
-            next_formula_end(part, binders, first, below)
-        }
+        FormulaTag::OrTag => sides_end(part, binders, after, below),
         FormulaTag::FalsityTag => End::At(after),
         FormulaTag::NoFormulaTag => End::Nowhere,
     }
@@ -129,6 +120,15 @@ fn next_formula_end(part: &[u8], binders: Binders, before: End, left: u64) -> En
         End::At(at) => formula_end(part, binders, at, left),
         End::Nowhere => End::Nowhere,
     }
+}
+
+// Where the two sides of a formula end, one after the other.
+fn sides_end(part: &[u8], binders: Binders, at: usize, left: u64) -> End
+    requires { ⌜ FewBinders binders ⌝ }
+    ensures { λ r. ⌜ SidesEnd part binders at left r ⌝ }
+{
+    let first = formula_end(part, binders, at, left);
+    next_formula_end(part, binders, first, left)
 }
 
 // Where the formula under one binder more ends, over times or else over names, if that is no ninth.
