@@ -55,6 +55,14 @@ pub enum Clause {
     OrderGoal,
     /// 2D: the goal's first time is not after its second.
     OrderHolds,
+    /// 2E: the goal is an or.
+    LeftGoal,
+    /// 2F: the goal is an or.
+    RightGoal,
+    /// 30: an or was inferred.
+    CasesInferred,
+    /// 31: falsity was inferred.
+    FalsityInferred,
     /// Comparing: both formulas begin with the same tag.
     SameKind,
     /// Comparing: both facts or atoms have the same predicate.
@@ -107,6 +115,10 @@ impl Clause {
         Clause::FactStands,
         Clause::OrderGoal,
         Clause::OrderHolds,
+        Clause::LeftGoal,
+        Clause::RightGoal,
+        Clause::CasesInferred,
+        Clause::FalsityInferred,
         Clause::SameKind,
         Clause::SamePredicate,
         Clause::SameCount,

@@ -34,7 +34,8 @@ impl<R: Reading, W: Watch> Comparison<'_, '_, R, W> {
         self.trial.fits(Clause::SameKind, same_kind, self.offset)?;
         match (left, right) {
             (Formula::And(first, second), Formula::And(third, fourth))
-            | (Formula::Implies(first, second), Formula::Implies(third, fourth)) => {
+            | (Formula::Implies(first, second), Formula::Implies(third, fourth))
+            | (Formula::Or(first, second), Formula::Or(third, fourth)) => {
                 self.formulas(first, third)?;
                 self.formulas(second, fourth)
             }

@@ -31,6 +31,8 @@ pub enum Formula {
     Atom(Saying),
     State(Saying),
     Order(Slot, Slot),
+    Or(Rc<Formula>, Rc<Formula>),
+    Falsity,
 }
 
 impl Slot {
@@ -112,6 +114,8 @@ impl Formula {
             Formula::Atom(_) => 0x17,
             Formula::State(_) => 0x18,
             Formula::Order(..) => 0x19,
+            Formula::Or(..) => 0x1a,
+            Formula::Falsity => 0x1b,
         }
     }
 
@@ -174,9 +178,12 @@ impl Formula {
         }
     }
 
-    /// Something, if this is top.
-    pub fn top(&self) -> Option<()> {
-        matches!(self, Formula::Top).then_some(())
+    /// Both sides, if this is an or.
+    pub fn disjunction(&self) -> Option<(&Rc<Formula>, &Rc<Formula>)> {
+        match self {
+            Formula::Or(left, right) => Some((left, right)),
+            _ => None,
+        }
     }
 }
 
@@ -189,7 +196,7 @@ pub fn instance(body: &Rc<Formula>, term: Term) -> Rc<Formula> {
 fn substitute(formula: &Rc<Formula>, term: Term, binders: u8) -> Rc<Formula> {
     let inside = |part: &Rc<Formula>| substitute(part, term, binders);
     Rc::new(match &**formula {
-        Formula::Top => return Rc::clone(formula),
+        Formula::Top | Formula::Falsity => return Rc::clone(formula),
         Formula::And(first, second) => Formula::And(inside(first), inside(second)),
         Formula::Implies(condition, outcome) => {
             Formula::Implies(inside(condition), inside(outcome))
@@ -208,5 +215,6 @@ fn substitute(formula: &Rc<Formula>, term: Term, binders: u8) -> Rc<Formula> {
         Formula::Order(first, second) => {
             Formula::Order(first.with(term, binders), second.with(term, binders))
         }
+        Formula::Or(left, right) => Formula::Or(inside(left), inside(right)),
     })
 }

@@ -1,11 +1,12 @@
 //! The walk over a proof: steps that infer a judgement, and steps that check a goal.
 
+use super::assuming::Assumption;
 use super::certificates::Certificate;
 use super::clauses::{Clause, Watch};
 use super::comparing::serve;
 use super::formulas::{instance, Formula};
 use super::reading::Reading;
-use super::steps::{Check, Checking, Inference, Inferring, Step};
+use super::steps::{Check, Checking, Inference, Inferring, Side, Step};
 use super::terms::sort_of;
 use super::times::Interval;
 use super::trying::Trial;
@@ -27,17 +28,11 @@ pub struct Goal<'g> {
     pub interval: Interval,
 }
 
-/// A judgement that was assumed: a plain one, or somebody's claim.
-struct Assumption {
-    judgement: Judgement,
-    claimed_by: Option<u16>,
-}
-
 /// One walk over a proof.
-struct Walk<'a, R, W> {
-    certificates: &'a [Certificate],
-    assumptions: Vec<Assumption>,
-    trial: Trial<'a, R, W>,
+pub struct Walk<'a, R, W> {
+    pub certificates: &'a [Certificate],
+    pub assumptions: Vec<Assumption>,
+    pub trial: Trial<'a, R, W>,
 }
 
 /// Walks a proof of a request up to its first fault.
@@ -65,7 +60,7 @@ pub fn walk<R: Reading, W: Watch>(
 
 impl<R: Reading, W: Watch> Walk<'_, R, W> {
     /// The judgement that a step infers in a view.
-    fn infer(&mut self, step: &Inference, view: View) -> Result<Judgement, Answer> {
+    pub fn infer(&mut self, step: &Inference, view: View) -> Result<Judgement, Answer> {
         let offset = step.offset;
         self.trial.step(step.rule.tag());
         match &step.rule {
@@ -81,7 +76,7 @@ impl<R: Reading, W: Watch> Walk<'_, R, W> {
     }
 
     /// Goes on where a step shows a goal in a view.
-    fn check(&mut self, step: &Step, goal: Goal, view: View) -> Result<(), Answer> {
+    pub fn check(&mut self, step: &Step, goal: Goal, view: View) -> Result<(), Answer> {
         match step {
             Step::Infers(inference) => {
                 let inferred = self.infer(inference, view)?;
@@ -97,9 +92,10 @@ impl<R: Reading, W: Watch> Walk<'_, R, W> {
         self.trial.step(step.rule.tag());
         match &step.rule {
             Checking::Pair(first, second) => self.pair(first, second, goal, view, offset),
-            Checking::Top => self
-                .trial
-                .found(Clause::TopGoal, goal.formula.top(), offset),
+            Checking::Top => {
+                let top = matches!(goal.formula, Formula::Top);
+                self.trial.fits(Clause::TopGoal, top, offset)
+            }
             Checking::AtIn(inside) => self.at_in(inside, goal, view, offset),
             Checking::AtOut(inference, rest) => self.at_out(inference, rest, goal, view, offset),
             Checking::SaysIn(inside) => self.says_in(inside, goal, offset),
@@ -108,26 +104,12 @@ impl<R: Reading, W: Watch> Walk<'_, R, W> {
             }
             Checking::State => self.state(goal, offset),
             Checking::Order => self.order(goal, offset),
-        }
-    }
-
-    /// 20: the assumption with this index, if it can be used in the view.
-    fn assumption(&mut self, index: usize, view: View, offset: u64) -> Result<Judgement, Answer> {
-        let mut numbered = self.assumptions.iter().enumerate().rev();
-        let (position, assumption) = numbered.nth(index).ok_or(Answer::refused(2, 0))?;
-        match assumption.claimed_by {
-            Some(principal) => {
-                let interval = assumption.judgement.interval;
-                let (trial, words) = (&mut self.trial, Words::OF_A_CLAIM);
-                view.usable(trial, words, principal, interval, offset)?;
+            Checking::Side(side, inside) => self.side(*side, inside, goal, view, offset),
+            Checking::Cases(inference, left, right) => {
+                self.cases(inference, [left, right], goal, view, offset)
             }
-            None => {
-                let from_inside = position >= view.outside;
-                self.trial
-                    .fits(Clause::PlainFromInside, from_inside, offset)?;
-            }
+            Checking::FromFalsity(inference) => self.from_falsity(inference, view, offset),
         }
-        Ok(assumption.judgement.clone())
     }
 
     /// 21: what the certificate with this index says, if it can be used in the view.
@@ -227,26 +209,6 @@ impl<R: Reading, W: Watch> Walk<'_, R, W> {
         self.check(inside, Goal { formula, interval }, view)
     }
 
-    /// 29: the goal, with a formula at an interval taken for a plain assumption.
-    fn at_out(
-        &mut self,
-        inference: &Inference,
-        rest: &Step,
-        goal: Goal,
-        view: View,
-        offset: u64,
-    ) -> Result<(), Answer> {
-        let inferred = self.infer(inference, view)?;
-        let at = inferred.formula.at();
-        let (interval, formula) = self.trial.found(Clause::AtOutInferred, at, offset)?;
-        let formula = Rc::clone(formula);
-        let plain = Assumption {
-            judgement: Judgement { formula, interval },
-            claimed_by: None,
-        };
-        self.check_assuming(plain, rest, goal, view)
-    }
-
     /// 2A: what a principal says, shown in that principal's view on the goal's interval.
     fn says_in(&mut self, inside: &Step, goal: Goal, offset: u64) -> Result<(), Answer> {
         let says = goal.formula.says();
@@ -259,39 +221,6 @@ impl<R: Reading, W: Watch> Walk<'_, R, W> {
             outside: self.assumptions.len(),
         };
         self.check(inside, goal.with(said), view)
-    }
-
-    /// 2B: the goal, with what a principal says taken for that principal's claim.
-    fn says_out(
-        &mut self,
-        inference: &Inference,
-        rest: &Step,
-        goal: Goal,
-        view: View,
-        offset: u64,
-    ) -> Result<(), Answer> {
-        let inferred = self.infer(inference, view)?;
-        let says = inferred.formula.says();
-        let (principal, said) = self.trial.found(Clause::SaysOutInferred, says, offset)?;
-        let claim = Assumption {
-            judgement: inferred.with(said),
-            claimed_by: Some(principal),
-        };
-        self.check_assuming(claim, rest, goal, view)
-    }
-
-    /// Goes on where a step shows a goal with one more assumption.
-    fn check_assuming(
-        &mut self,
-        assumption: Assumption,
-        rest: &Step,
-        goal: Goal,
-        view: View,
-    ) -> Result<(), Answer> {
-        self.assumptions.push(assumption);
-        self.check(rest, goal, view)?;
-        self.assumptions.pop();
-        Ok(())
     }
 
     /// 2C: a fact of the state at the press.
@@ -309,11 +238,33 @@ impl<R: Reading, W: Watch> Walk<'_, R, W> {
         self.trial
             .not_after(Clause::OrderHolds, first, second, offset)
     }
+
+    /// 2E and 2F: one side of an or.
+    fn side(
+        &mut self,
+        side: Side,
+        inside: &Step,
+        goal: Goal,
+        view: View,
+        offset: u64,
+    ) -> Result<(), Answer> {
+        let clause = match side {
+            Side::Left => Clause::LeftGoal,
+            Side::Right => Clause::RightGoal,
+        };
+        let sides = goal.formula.disjunction();
+        let (left, right) = self.trial.found(clause, sides, offset)?;
+        let shown = match side {
+            Side::Left => left,
+            Side::Right => right,
+        };
+        self.check(inside, goal.with(shown), view)
+    }
 }
 
 impl Judgement {
     /// Another formula on the same interval.
-    fn with(&self, formula: &Rc<Formula>) -> Judgement {
+    pub fn with(&self, formula: &Rc<Formula>) -> Judgement {
         Judgement {
             formula: Rc::clone(formula),
             interval: self.interval,

@@ -1,5 +1,6 @@
 //! The second implementation: verify, the direct check, the door, the procap text and the program `check`.
 
+mod assuming;
 mod bytes;
 mod certificates;
 pub mod clauses;

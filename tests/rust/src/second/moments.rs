@@ -51,8 +51,10 @@ fn add_slots(slots: &[Slot], found: &mut Vec<u64>) {
 /// Adds the moments in a formula.
 fn add_formula(formula: &Formula, found: &mut Vec<u64>) {
     match formula {
-        Formula::Top => {}
-        Formula::And(first, second) | Formula::Implies(first, second) => {
+        Formula::Top | Formula::Falsity => {}
+        Formula::And(first, second)
+        | Formula::Implies(first, second)
+        | Formula::Or(first, second) => {
             add_formula(first, found);
             add_formula(second, found);
         }
@@ -100,10 +102,18 @@ fn add_check(rule: &Checking, found: &mut Vec<u64>) {
             add_step(first, found);
             add_step(second, found);
         }
-        Checking::AtIn(inside) | Checking::SaysIn(inside) => add_step(inside, found),
+        Checking::AtIn(inside) | Checking::SaysIn(inside) | Checking::Side(_, inside) => {
+            add_step(inside, found);
+        }
         Checking::AtOut(inference, rest) | Checking::SaysOut(inference, rest) => {
             add_inference(inference, found);
             add_step(rest, found);
         }
+        Checking::Cases(inference, left, right) => {
+            add_inference(inference, found);
+            add_step(left, found);
+            add_step(right, found);
+        }
+        Checking::FromFalsity(inference) => add_inference(inference, found),
     }
 }

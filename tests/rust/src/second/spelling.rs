@@ -49,6 +49,8 @@ impl<W: Watch> FormulaReader<'_, W> {
             0x17 => Formula::Atom(self.saying()?),
             0x18 => Formula::State(self.saying()?),
             0x19 => Formula::Order(self.slot_of(Sort::Time)?, self.slot_of(Sort::Time)?),
+            0x1a => Formula::Or(self.formula(below)?, self.formula(below)?),
+            0x1b => Formula::Falsity,
             _ => return None,
         };
         self.watch.formula(formula.tag());

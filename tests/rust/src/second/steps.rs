@@ -57,6 +57,16 @@ pub enum Checking {
     SaysOut(Box<Inference>, Box<Step>),
     State,
     Order,
+    Side(Side, Box<Step>),
+    Cases(Box<Inference>, Box<Step>, Box<Step>),
+    FromFalsity(Box<Inference>),
+}
+
+/// A side of an or.
+#[derive(Clone, Copy, Debug)]
+pub enum Side {
+    Left,
+    Right,
 }
 
 impl Inferring {
@@ -85,6 +95,10 @@ impl Checking {
             Checking::SaysOut(..) => 0x2b,
             Checking::State => 0x2c,
             Checking::Order => 0x2d,
+            Checking::Side(Side::Left, _) => 0x2e,
+            Checking::Side(Side::Right, _) => 0x2f,
+            Checking::Cases(..) => 0x30,
+            Checking::FromFalsity(_) => 0x31,
         }
     }
 }
@@ -192,6 +206,14 @@ impl StepReader<'_> {
             }
             0x2c => self.state_step(),
             0x2d => Some(Checking::Order),
+            0x2e => Some(Checking::Side(Side::Left, self.part(room)?)),
+            0x2f => Some(Checking::Side(Side::Right, self.part(room)?)),
+            0x30 => {
+                let (inference, rest) = (self.inference(room)?, room.assuming());
+                let left = self.part(rest)?;
+                Some(Checking::Cases(inference, left, self.part(rest)?))
+            }
+            0x31 => self.inference(room).map(Checking::FromFalsity),
             _ => None,
         }
     }
