@@ -3,7 +3,7 @@
 
 use second_opinion::data::{Answer, Case, Time, LATEST};
 use second_opinion::generate::{
-    at_a_limit, damaged, damaged_bytes, in_a_view, input_of, raw, valid, Random,
+    about_an_or, at_a_limit, damaged, damaged_bytes, in_a_view, input_of, raw, valid, Random,
 };
 use second_opinion::second::{self, Clause, NoWatch, Watch};
 use std::collections::{BTreeMap, BTreeSet};
@@ -12,13 +12,15 @@ use std::collections::{BTreeMap, BTreeSet};
 const SEEDS: u64 = 2000;
 
 /// One case of each kind from a seed.
-fn one_of_each(seed: u64) -> [Case; 5] {
+fn one_of_each(seed: u64) -> [Case; 6] {
     let mut random = Random::new(seed);
     let shown = valid(&mut random);
     let hurt = damaged(&mut random, &shown);
     let raw = raw(&mut random);
     let at_a_limit = at_a_limit(&mut random);
-    [shown, hurt, raw, at_a_limit, in_a_view(&mut random)]
+    let in_a_view = in_a_view(&mut random);
+    let about_an_or = about_an_or(&mut random);
+    [shown, hurt, raw, at_a_limit, in_a_view, about_an_or]
 }
 
 /// The number that verify answers a case with.
@@ -70,14 +72,9 @@ impl Watch for Counted {
 }
 
 impl Counted {
-    /// Sees to it that words were used within the interval of a view and beyond either end of it, more than so often.
-    fn words_in_views(&self, more_than: u64) {
-        for clause in [
-            Clause::ClaimFromViewsStart,
-            Clause::ClaimToViewsEnd,
-            Clause::CertificateFromViewsStart,
-            Clause::CertificateToViewsEnd,
-        ] {
+    /// Sees to it that clauses came out both ways, more than so often each.
+    fn both_ways(&self, clauses: [Clause; 4], more_than: u64) {
+        for clause in clauses {
             for held in [true, false] {
                 let count = self.0.get(&(clause, held)).copied().unwrap_or(0);
                 assert!(count > more_than, "{clause:?} {held}: {count}");
@@ -85,6 +82,22 @@ impl Counted {
         }
     }
 }
+
+/// Whether words are used within the interval of a view, or beyond either end of it.
+const IN_VIEWS: [Clause; 4] = [
+    Clause::ClaimFromViewsStart,
+    Clause::ClaimToViewsEnd,
+    Clause::CertificateFromViewsStart,
+    Clause::CertificateToViewsEnd,
+];
+
+/// Whether the steps for an or and for falsity have what they ask for.
+const ABOUT_ORS: [Clause; 4] = [
+    Clause::LeftGoal,
+    Clause::RightGoal,
+    Clause::CasesInferred,
+    Clause::FalsityInferred,
+];
 
 /// What valid and damaged cases must bring up: a fact that is met is listed, and verify asks no state.
 fn wanted() -> Vec<(Clause, bool)> {
@@ -146,20 +159,21 @@ fn every_clause_comes_up_both_ways() {
         .filter(|one| !seen.clauses.contains(one))
         .collect();
     assert!(missing.is_empty(), "{missing:?}");
-    assert!(seen.steps.iter().copied().eq(0x20..=0x2d));
-    assert!(seen.formulas.iter().copied().eq(0x10..=0x19));
+    assert!(seen.steps.iter().copied().eq(0x20..=0x31));
+    assert!(seen.formulas.iter().copied().eq(0x10..=0x1b));
     assert!(seen.numbers.iter().copied().eq(0..=5));
 }
 
 #[test]
-fn words_leave_views_in_damaged_cases() {
+fn words_leave_views_and_steps_miss_ors_in_damaged_cases() {
     let mut counted = Counted::default();
     for seed in 0..10_000 {
         let [shown, hurt, ..] = one_of_each(seed);
         number(&shown, &mut counted);
         number(&hurt, &mut counted);
     }
-    counted.words_in_views(15);
+    counted.both_ways(IN_VIEWS, 15);
+    counted.both_ways(ABOUT_ORS, 15);
 }
 
 #[test]
@@ -170,22 +184,38 @@ fn words_leave_views_in_cases_about_them() {
         let case = in_a_view(&mut Random::new(seed));
         answers[number(&case, &mut counted) as usize] += 1;
     }
-    counted.words_in_views(30);
+    counted.both_ways(IN_VIEWS, 30);
     let [issued, malformed, no_proof, misfits, late, never] = answers;
     assert!(issued > 400 && misfits > 200 && late > 200, "{answers:?}");
     assert!(malformed == 0 && no_proof == 0 && never > 0, "{answers:?}");
 }
 
 #[test]
-fn in_views_the_door_opens_when_the_direct_check_accepts() {
+fn steps_miss_ors_in_cases_about_them() {
+    let mut counted = Counted::default();
+    let mut answers = [0; 6];
+    for seed in 0..SEEDS {
+        let case = about_an_or(&mut Random::new(seed));
+        answers[number(&case, &mut counted) as usize] += 1;
+    }
+    counted.both_ways(ABOUT_ORS, 30);
+    let [issued, malformed, no_proof, misfits, late, never] = answers;
+    assert!(issued > 200 && misfits > 400 && late > 100, "{answers:?}");
+    assert!(malformed == 0 && no_proof > 100 && never > 0, "{answers:?}");
+}
+
+/// Sees to it that the door opens just where the direct check accepts, in cases of one kind and in these states.
+fn door_and_direct_check(make: fn(&mut Random) -> Case, states: &[&[u8]]) {
     let (mut opened, mut shut) = (0, 0);
     for seed in 0..SEEDS {
-        let case = in_a_view(&mut Random::new(seed));
+        let case = make(&mut Random::new(seed));
         let issued = second::verify(&case, &mut NoWatch);
-        for mentioned in second::moments_of(&case) {
-            for moment in [mentioned.saturating_sub(1), mentioned, mentioned + 1] {
-                let accepted = second::direct(&case, moment, &[], &mut NoWatch) == Answer::GRANTED;
-                let door = |procap| second::door(procap, case.request, moment, &[]);
+        let moments = second::moments_of(&case).into_iter();
+        for moment in moments.flat_map(|one| [one.saturating_sub(1), one, one + 1]) {
+            for state in states {
+                let accepted =
+                    second::direct(&case, moment, state, &mut NoWatch) == Answer::GRANTED;
+                let door = |procap| second::door(procap, case.request, moment, state);
                 let opens = issued
                     .as_ref()
                     .is_ok_and(|procap| door(procap) == Answer::GRANTED);
@@ -195,6 +225,18 @@ fn in_views_the_door_opens_when_the_direct_check_accepts() {
         }
     }
     assert!(opened > 2000 && shut > 2000, "{opened} opened, {shut} shut");
+}
+
+#[test]
+fn in_views_the_door_opens_when_the_direct_check_accepts() {
+    door_and_direct_check(in_a_view, &[&[]]);
+}
+
+#[test]
+fn by_cases_the_door_opens_when_the_direct_check_accepts() {
+    let [one, other] = [[0, 200, 1, 0, 0, 0], [0, 200, 1, 0, 0, 1]];
+    let both = [one, other].concat();
+    door_and_direct_check(about_an_or, &[&[], &one, &other, &both]);
 }
 
 #[test]

@@ -9,17 +9,18 @@ use super::tags;
 use super::word::Word;
 
 impl Office<'_> {
-    /// The goal checked with one more assumption, mostly one that can show it.
+    /// The goal checked with one more assumption, mostly one that can show it; seldom from falsity.
     pub fn wrapped(&mut self, goal: &Goal) -> Option<Step> {
-        if self.random.one_in(2) {
-            self.at_out(goal)
-        } else {
-            self.says_out(goal)
+        match self.random.below(12) {
+            0..=3 => self.at_out(goal),
+            4..=7 => self.says_out(goal),
+            8 if !self.restless(goal) => self.by_falsity(goal),
+            _ => self.by_cases(goal),
         }
     }
 
     /// A formula that can show the goal's, or seldom one that need not.
-    fn helpful(&mut self, formula: &Formula, levels: usize) -> Formula {
+    pub fn helpful(&mut self, formula: &Formula, levels: usize) -> Formula {
         if self.random.one_in(5) {
             return self.invented(1);
         }
@@ -28,14 +29,15 @@ impl Office<'_> {
         self.grown(spelled, levels, moves, false).0
     }
 
-    /// What an assumption is to help with: the goal or, mostly, what stands in it under `at`, there; for a claim, under
-    /// `says` as well.
-    fn helped(&mut self, goal: &Goal, claim: bool) -> Goal {
+    /// What an assumption is to help with: the goal or, mostly, what stands in it under `at`, there, or on a side of an
+    /// or; for a claim, under `says` as well.
+    pub fn helped(&mut self, goal: &Goal, claim: bool) -> Goal {
         let formula = &goal.formula;
         let inside = match formula.tag {
             tags::AT => formula
                 .span()
                 .map(|span| goal.under(&formula.parts[0], span)),
+            tags::EITHER => Some(goal.under(self.random.pick(&formula.parts), goal.span)),
             tags::SAYS if claim => goal.inside_of_says(),
             _ => None,
         };
@@ -53,10 +55,7 @@ impl Office<'_> {
         let formula = self.helpful(&helped.formula, helped.levels - 2);
         let span = self.clock.around(self.random, helped.span);
         let whole = Formula::at_span(span, formula.clone());
-        let anywhere = Span {
-            from: self.time(),
-            to: self.time(),
-        };
+        let anywhere = self.some_span();
         let first = self.inferred(&goal.under(&whole, anywhere))?;
         let assumption = Assumption {
             formula,
@@ -95,7 +94,7 @@ impl Office<'_> {
     }
 
     /// The goal checked with one assumption more.
-    fn with_assumption(&mut self, goal: &Goal, assumption: Assumption) -> Option<Step> {
+    pub fn with_assumption(&mut self, goal: &Goal, assumption: Assumption) -> Option<Step> {
         self.scope.push(assumption);
         let step = self.checked(&goal.under(&goal.formula, goal.span));
         self.scope.pop();

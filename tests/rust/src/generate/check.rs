@@ -47,6 +47,9 @@ impl Office<'_> {
         if !self.tired(goal) && goal.levels >= 7 && self.random.one_in(self.habits.wraps) {
             return self.wrapped(goal);
         }
+        if goal.levels >= 4 && self.falsity_assumed().is_some() && !self.random.one_in(4) {
+            return self.by_falsity(goal);
+        }
         if self.random.below(7) > 0 {
             if let Some(step) = self.by_its_rule(goal) {
                 return step;
@@ -83,6 +86,12 @@ impl Office<'_> {
                 let first = self.checked(&goal.under(&parts[0], goal.span));
                 let second = self.checked(&goal.under(&parts[1], goal.span));
                 Some(pair(tags::PAIR, first, second))
+            }
+            tags::EITHER => {
+                let side = self.random.below(2) as usize;
+                let inside = self.checked(&goal.under(&parts[side], goal.span));
+                let tag = [tags::LEFT, tags::RIGHT][side];
+                Some(inside.map(|step| Step::over(tag, vec![step])))
             }
             tags::AT => {
                 let span = goal.formula.span()?;

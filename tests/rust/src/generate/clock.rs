@@ -161,6 +161,14 @@ impl Clock {
         *random.pick(&self.fixed())
     }
 
+    /// A span from any time to any other.
+    pub fn any_span(&self, random: &mut Random) -> Span {
+        Span {
+            from: self.any(random, 2),
+            to: self.any(random, 2),
+        }
+    }
+
     /// The same time at the press, perhaps spelled another way.
     pub fn respelled(&self, random: &mut Random, time: Time) -> Time {
         if self.stand(time) != self.press as i64 || !random.one_in(4) {

@@ -48,7 +48,7 @@ fn change(random: &mut Random, formula: &mut Formula, whole: &Formula) -> bool {
     match random.below(16) {
         0..=4 => word_changed(random, formula),
         5..=6 => predicate_changed(random, formula),
-        7..=8 => tag_changed(formula),
+        7..=8 => tag_changed(random, formula),
         9 => dropped(random, formula),
         10..=11 => {
             *formula = wrapped(random, formula.clone());
@@ -62,9 +62,17 @@ fn change(random: &mut Random, formula: &mut Formula, whole: &Formula) -> bool {
         13 => arguments_changed(random, formula),
         14 => swapped(random, formula),
         _ => {
-            *formula = Formula::top();
+            *formula = some_constant(random);
             true
         }
+    }
+}
+
+/// Top or falsity.
+fn some_constant(random: &mut Random) -> Formula {
+    match random.below(2) {
+        0 => Formula::top(),
+        _ => Formula::falsity(),
     }
 }
 
@@ -85,18 +93,21 @@ fn predicate_changed(random: &mut Random, formula: &mut Formula) -> bool {
     matches!(formula.tag, tags::ATOM | tags::FACT)
 }
 
-/// Gives a formula the tag of the other kind of the same shape.
-fn tag_changed(formula: &mut Formula) -> bool {
-    let other = match formula.tag {
-        tags::BOTH => tags::IMPLIES,
-        tags::IMPLIES => tags::BOTH,
-        tags::ALL_NAMES => tags::ALL_TIMES,
-        tags::ALL_TIMES => tags::ALL_NAMES,
-        tags::ATOM => tags::FACT,
-        tags::FACT => tags::ATOM,
+/// Gives a formula the tag of another kind of the same shape.
+fn tag_changed(random: &mut Random, formula: &mut Formula) -> bool {
+    let others: &[u8] = match formula.tag {
+        tags::BOTH => &[tags::IMPLIES, tags::EITHER],
+        tags::IMPLIES => &[tags::BOTH, tags::EITHER],
+        tags::EITHER => &[tags::BOTH, tags::IMPLIES],
+        tags::TOP => &[tags::FALSITY],
+        tags::FALSITY => &[tags::TOP],
+        tags::ALL_NAMES => &[tags::ALL_TIMES],
+        tags::ALL_TIMES => &[tags::ALL_NAMES],
+        tags::ATOM => &[tags::FACT],
+        tags::FACT => &[tags::ATOM],
         _ => return false,
     };
-    formula.tag = other;
+    formula.tag = *random.pick(others);
     true
 }
 
@@ -112,7 +123,7 @@ fn dropped(random: &mut Random, formula: &mut Formula) -> bool {
 
 /// A formula with another one around it.
 fn wrapped(random: &mut Random, formula: Formula) -> Formula {
-    match random.below(8) {
+    match random.below(10) {
         0 => Formula::for_all(Sort::Name, formula),
         1 => Formula::for_all(Sort::Time, formula),
         2 => Formula::says(Word::name(1), formula),
@@ -124,6 +135,8 @@ fn wrapped(random: &mut Random, formula: Formula) -> Formula {
         4 => Formula::both(formula, Formula::top()),
         5 => Formula::both(Formula::top(), formula),
         6 => Formula::implies(formula, Formula::top()),
+        7 => Formula::either(formula, some_constant(random)),
+        8 => Formula::either(some_constant(random), formula),
         _ => Formula::implies(Formula::top(), formula),
     }
 }

@@ -14,7 +14,7 @@ pub fn damaged_proof(random: &mut Random, mut proof: Step, certificates: usize) 
     if random.one_in(8) && aimed(random, &mut proof) {
         return proof;
     }
-    if random.one_in(8) && claim_cut(random, &mut proof) {
+    if random.one_in(8) && interval_cut(random, &mut proof) {
         if random.one_in(4) {
             aimed(random, &mut proof);
         }
@@ -47,12 +47,13 @@ fn aimed(random: &mut Random, proof: &mut Step) -> bool {
     true
 }
 
-/// Cuts the interval of a claim that an implication leads to, if there is one.
-fn claim_cut(random: &mut Random, proof: &mut Step) -> bool {
+/// Cuts the interval of a claim or of an or that an implication leads to, if there is one.
+fn interval_cut(random: &mut Random, proof: &mut Step) -> bool {
     let mut places = Vec::new();
     for n in 0..proof.count() {
         let (step, _) = proof.nth(n);
-        if step.tag == tags::SAYS_OUT && applied(&mut step.parts[0]).is_some() {
+        let takes = matches!(step.tag, tags::SAYS_OUT | tags::CASES);
+        if takes && applied(&mut step.parts[0]).is_some() {
             places.push(n);
         }
     }
@@ -89,7 +90,7 @@ fn change(
     certificates: usize,
     whole: &Step,
 ) -> bool {
-    match random.below(18) {
+    match random.below(19) {
         0..=2 => number_changed(random, step),
         3..=4 => named_otherwise(random, step, around, certificates),
         5..=7 => term_changed(random, step),
@@ -108,6 +109,7 @@ fn change(
             true
         }
         13..=15 => tag_changed(random, step),
+        16 => branches_changed(random, step),
         _ => {
             *step = some_leaf(random, around, certificates);
             true
@@ -199,9 +201,10 @@ fn swapped(random: &mut Random, step: &mut Step) -> bool {
         step.terms.swap(0, 1);
         return true;
     }
-    let fits = step.parts.len() == 2;
+    let fits = step.parts.len() >= 2;
     if fits {
-        step.parts.swap(0, 1);
+        let place = random.below(step.parts.len() as u64 - 1) as usize;
+        step.parts.swap(place, place + 1);
     }
     fits
 }
@@ -219,7 +222,7 @@ fn dropped(random: &mut Random, step: &mut Step) -> bool {
 /// A step with another one around it.
 fn wrapped(random: &mut Random, step: Step, around: usize, certificates: usize) -> Step {
     let named = some_named(random, around, certificates);
-    match random.below(10) {
+    match random.below(14) {
         0 => Step::over(tags::FIRST, vec![step]),
         1 => Step::over(tags::SECOND, vec![step]),
         2 => Step::over(tags::AT_IN, vec![step]),
@@ -229,6 +232,10 @@ fn wrapped(random: &mut Random, step: Step, around: usize, certificates: usize) 
         6 => Step::over(tags::PAIR, vec![step, Step::leaf(tags::TRIVIAL)]),
         7 => Step::over(tags::AT_OUT, vec![named, step]),
         8 => Step::over(tags::SAYS_OUT, vec![named, step]),
+        9 => Step::over(tags::LEFT, vec![step]),
+        10 => Step::over(tags::RIGHT, vec![step]),
+        11 => Step::over(tags::BY_FALSITY, vec![step]),
+        12 => Step::over(tags::CASES, vec![named, step.clone(), step]),
         _ => Step::apply(named, step, Time::MinusInfinity, Time::PlusInfinity),
     }
 }
@@ -238,8 +245,12 @@ fn tag_changed(random: &mut Random, step: &mut Step) -> bool {
     let others: &[u8] = match step.tag {
         tags::LOCAL | tags::CERTIFICATE => &[tags::LOCAL, tags::CERTIFICATE],
         tags::PAIR | tags::AT_OUT | tags::SAYS_OUT => &[tags::PAIR, tags::AT_OUT, tags::SAYS_OUT],
-        tags::FIRST | tags::SECOND => &[tags::FIRST, tags::SECOND],
-        tags::AT_IN | tags::SAYS_IN => &[tags::AT_IN, tags::SAYS_IN],
+        tags::FIRST | tags::SECOND | tags::BY_FALSITY => {
+            &[tags::FIRST, tags::SECOND, tags::BY_FALSITY]
+        }
+        tags::AT_IN | tags::SAYS_IN | tags::LEFT | tags::RIGHT => {
+            &[tags::AT_IN, tags::SAYS_IN, tags::LEFT, tags::RIGHT]
+        }
         tags::TRIVIAL | tags::STATE | tags::COMPARE => &[tags::TRIVIAL, tags::STATE, tags::COMPARE],
         _ => return false,
     };
@@ -247,6 +258,22 @@ fn tag_changed(random: &mut Random, step: &mut Step) -> bool {
     let fits = tag != step.tag;
     step.tag = tag;
     fits
+}
+
+/// Lets a step with one assumption have two cases that are alike, or leaves one of two cases.
+fn branches_changed(random: &mut Random, step: &mut Step) -> bool {
+    match step.tag {
+        tags::AT_OUT | tags::SAYS_OUT => {
+            step.tag = tags::CASES;
+            step.parts.push(step.parts[1].clone());
+        }
+        tags::CASES => {
+            step.tag = *random.pick(&[tags::AT_OUT, tags::SAYS_OUT]);
+            step.parts.remove(1 + random.below(2) as usize);
+        }
+        _ => return false,
+    }
+    true
 }
 
 /// A step with nothing under it.

@@ -71,8 +71,8 @@ impl Office<'_> {
         )
     }
 
-    /// The side of a conjunction that is not used.
-    fn other_side(&mut self) -> Formula {
+    /// The side of a conjunction or of an or that is not used.
+    pub fn other_side(&mut self) -> Formula {
         let levels = 1 + self.random.below(4) as usize;
         if self.random.one_in(3) {
             self.invented(levels)

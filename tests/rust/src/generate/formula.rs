@@ -36,6 +36,16 @@ impl Formula {
         plain(tags::BOTH, vec![], vec![left, right])
     }
 
+    /// Left or right.
+    pub fn either(left: Formula, right: Formula) -> Formula {
+        plain(tags::EITHER, vec![], vec![left, right])
+    }
+
+    /// Falsity.
+    pub fn falsity() -> Formula {
+        plain(tags::FALSITY, vec![], vec![])
+    }
+
     /// Left implies right.
     pub fn implies(left: Formula, right: Formula) -> Formula {
         plain(tags::IMPLIES, vec![], vec![left, right])
@@ -216,8 +226,8 @@ pub fn read_formula(bytes: &[u8], place: &mut usize, levels: usize) -> Option<Fo
     let tag = *bytes.get(*place)?;
     *place += 1;
     let (mut words, parts) = match tag {
-        tags::TOP => (0, 0),
-        tags::BOTH | tags::IMPLIES => (0, 2),
+        tags::TOP | tags::FALSITY => (0, 0),
+        tags::BOTH | tags::IMPLIES | tags::EITHER => (0, 2),
         tags::ALL_NAMES | tags::ALL_TIMES => (0, 1),
         tags::SAYS => (1, 1),
         tags::AT => (2, 1),

@@ -34,7 +34,7 @@ impl Office<'_> {
         if choice < self.habits.facts + self.habits.pairs + self.habits.views {
             return self.said_at(levels - 1);
         }
-        match self.random.below(10) {
+        match self.random.below(11) {
             0..=2 => Formula::says(Word::name(self.name()), self.invented(levels - 1)),
             3..=4 => {
                 let (from, to) = (self.time(), self.time());
@@ -43,8 +43,19 @@ impl Office<'_> {
             5 if self.random.one_in(3) => self.beside(levels + 1),
             5 => self.about_all(),
             6..=7 => self.shown_by_scope(),
+            8 => self.some_either(levels - 1),
             _ => self.fresh_leaf(),
         }
+    }
+
+    /// An or of two formulas, one of them made for the office to show.
+    fn some_either(&mut self, levels: usize) -> Formula {
+        let mut sides = [self.invented(levels), self.other_side()];
+        if self.random.one_in(2) {
+            sides.reverse();
+        }
+        let [left, right] = sides;
+        Formula::either(left, right)
     }
 
     /// What somebody says at some time, mostly about another time.
@@ -76,13 +87,21 @@ impl Office<'_> {
     /// A closed formula of one level.
     fn fresh_leaf(&mut self) -> Formula {
         match self.random.below(10) {
-            0 => Formula::top(),
+            0 => self.some_constant(3),
             1..=2 => self.some_order(),
             3..=4 => self.some_fact(),
             _ => {
                 let words = self.arguments();
                 Formula::atom(self.predicate(), words)
             }
+        }
+    }
+
+    /// Top or, once in so many times, falsity.
+    fn some_constant(&mut self, falsity_one_in: u64) -> Formula {
+        match self.random.one_in(falsity_one_in) {
+            true => Formula::falsity(),
+            false => Formula::top(),
         }
     }
 
@@ -134,7 +153,7 @@ impl Office<'_> {
         if levels <= 1 {
             return self.open_leaf(around);
         }
-        match self.random.below(9) {
+        match self.random.below(10) {
             0 => Formula::both(self.open(levels - 1, around), self.open(levels - 1, around)),
             1 => Formula::implies(self.open(levels - 1, around), self.open(levels - 1, around)),
             2..=3 if around.len() < 8 => {
@@ -153,6 +172,7 @@ impl Office<'_> {
                 let to = self.open_word(around, Some(Sort::Time));
                 Formula::at(from, to, self.open(levels - 1, around))
             }
+            6 => Formula::either(self.open(levels - 1, around), self.open(levels - 1, around)),
             _ => self.open_leaf(around),
         }
     }
@@ -161,7 +181,7 @@ impl Office<'_> {
     fn open_leaf(&mut self, around: &[Sort]) -> Formula {
         let count = self.random.below(5);
         match self.random.below(6) {
-            0 => Formula::top(),
+            0 => self.some_constant(2),
             1 => {
                 let left = self.open_word(around, Some(Sort::Time));
                 Formula::order(left, self.open_word(around, Some(Sort::Time)))

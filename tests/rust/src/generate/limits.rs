@@ -3,6 +3,7 @@
 use super::clock::Span;
 use super::formula::Formula;
 use super::layout::in_a_row;
+use super::limits_either as either;
 use super::limits_policy as policy;
 use super::limits_proof as proof;
 use super::office::Certificate;
@@ -14,7 +15,7 @@ use crate::data::{Case, Request};
 
 /// A case close to one of the limits.
 pub fn at_a_limit(random: &mut Random) -> Case {
-    let makers: [fn(&mut Random) -> Case; 17] = [
+    let makers: [fn(&mut Random) -> Case; 19] = [
         policy::records,
         policy::part_bytes,
         policy::formula_levels,
@@ -32,6 +33,8 @@ pub fn at_a_limit(random: &mut Random) -> Case {
         proof::longest_text,
         proof::assumption_index,
         proof::certificate_index,
+        either::or_levels,
+        either::state_steps_in_cases,
     ];
     let maker = *random.pick(&makers);
     maker(random)

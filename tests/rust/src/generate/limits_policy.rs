@@ -117,7 +117,7 @@ pub fn binders(random: &mut Random) -> Case {
 
 /// A formula with a chain of so many levels under it, of one kind.
 fn chain(random: &mut Random, levels: usize) -> Formula {
-    let kind = random.below(5);
+    let kind = random.below(7);
     let mut formula = Formula::atom(200, vec![]);
     for _ in 1..levels {
         formula = match kind {
@@ -125,6 +125,8 @@ fn chain(random: &mut Random, levels: usize) -> Formula {
             1 => Formula::at(Word::moment(0), Word::moment(LATEST), formula),
             2 => Formula::implies(formula, Formula::top()),
             3 => Formula::both(formula, Formula::top()),
+            4 => Formula::either(formula, Formula::falsity()),
+            5 => Formula::either(Formula::falsity(), formula),
             _ => Formula::implies(Formula::top(), formula),
         };
     }

@@ -3,6 +3,7 @@
 use super::clock::Span;
 use super::formula::Formula;
 use super::limits::{all_of, always, case, granting, near, pairs_of, some_request};
+use super::limits_either::in_one_case;
 use super::office::Certificate;
 use super::step::Step;
 use super::tags;
@@ -32,7 +33,7 @@ fn assuming_first(certificate: usize, step: Step) -> Step {
 }
 
 /// An implication of a certificate applied at the press.
-fn apply_at_press(certificate: usize, shown: Step) -> Step {
+pub fn apply_at_press(certificate: usize, shown: Step) -> Step {
     Step::apply(
         Step::certificate(certificate),
         shown,
@@ -78,6 +79,7 @@ pub fn proof_levels(random: &mut Random) -> Case {
         granting(request),
         always(at_all_times(may(request))),
         always(Formula::says(Word::name(1), may(request))),
+        always(Formula::either(may(request), may(request))),
     ];
     let mut step = if random.one_in(3) {
         Step::certificate(0)
@@ -85,40 +87,52 @@ pub fn proof_levels(random: &mut Random) -> Case {
         Step::named(tags::LOCAL, random.below(around as u64) as usize)
     };
     for _ in 0..around {
-        step = if random.one_in(2) {
-            assuming(1, step)
-        } else {
-            Step::over(tags::SAYS_OUT, vec![Step::certificate(2), step])
+        step = match random.below(3) {
+            0 => assuming(1, step),
+            1 => Step::over(tags::SAYS_OUT, vec![Step::certificate(2), step]),
+            _ => in_one_case(random, 3, step),
         };
     }
     case(request, &policy, step)
 }
 
-/// A proof of 31 to 33 levels: implications within implications.
+/// A proof of 31 to 33 levels: implications within implications, of what is granted or of falsity.
 pub fn elimination_levels(random: &mut Random) -> Case {
     let request = some_request(random);
-    let around = near(random, 32) - 2;
-    let asked = may(request);
+    let levels = near(random, 32) - 1;
+    let absurd = random.one_in(3);
+    let asked = match absurd {
+        true => Formula::falsity(),
+        false => may(request),
+    };
     let policy = [
-        granting(request),
+        always(asked.clone()),
         always(Formula::implies(asked.clone(), asked)),
     ];
     let mut step = Step::certificate(0);
-    for _ in 0..around {
+    while step.levels() + usize::from(absurd) < levels {
         step = apply_at_press(1, step);
     }
+    if absurd {
+        step = Step::over(tags::BY_FALSITY, vec![step]);
+    }
     case(request, &policy, step)
+}
+
+/// So many facts, all different or not.
+pub fn some_facts(random: &mut Random, count: usize) -> Vec<Formula> {
+    let different = 1 + random.below(count as u64) as u16;
+    let choice = *random.pick(&[different, 17, 17, 1]);
+    (0..count)
+        .map(|place| Formula::fact(200, vec![Word::name(place as u16 % choice)]))
+        .collect()
 }
 
 /// 15 to 17 state steps, their facts all different or not.
 pub fn state_steps(random: &mut Random) -> Case {
     let request = some_request(random);
     let count = near(random, 16);
-    let different = 1 + random.below(count as u64) as u16;
-    let choice = *random.pick(&[different, 17, 17, 1]);
-    let facts: Vec<Formula> = (0..count)
-        .map(|place| Formula::fact(200, vec![Word::name(place as u16 % choice)]))
-        .collect();
+    let facts = some_facts(random, count);
     let policy = [always(Formula::implies(all_of(&facts), may(request)))];
     let shown = pairs_of(&vec![Step::leaf(tags::STATE); count]);
     case(request, &policy, apply_at_press(0, shown))
@@ -165,12 +179,18 @@ fn long_facts(random: &mut Random, group: u16) -> Vec<Formula> {
 /// A step 20 that names the outermost assumption, or one further out.
 pub fn assumption_index(random: &mut Random) -> Case {
     let request = some_request(random);
-    let policy = [always(at_all_times(may(request)))];
+    let policy = [
+        always(at_all_times(may(request))),
+        always(Formula::either(may(request), may(request))),
+    ];
     let around = random.below(6) as usize;
     let index = around - usize::from(around > 0) + random.below(2) as usize;
     let mut step = Step::named(tags::LOCAL, index);
     for _ in 0..around {
-        step = assuming(0, step);
+        step = match random.below(2) {
+            0 => assuming(0, step),
+            _ => in_one_case(random, 1, step),
+        };
     }
     case(request, &policy, step)
 }

@@ -1,12 +1,15 @@
 //! Makes cases: proofs built backwards from a random policy, small damage to them, and raw bytes.
 
 mod assume;
+mod by_cases;
 mod check;
 mod clock;
 mod damage;
 mod damage_bytes;
 mod damage_formula;
 mod damage_proof;
+mod either;
+mod either_slips;
 mod enlarge;
 mod formula;
 mod goal;
@@ -15,6 +18,7 @@ mod input;
 mod invent;
 mod layout;
 mod limits;
+mod limits_either;
 mod limits_policy;
 mod limits_proof;
 mod matching;
@@ -22,6 +26,7 @@ mod office;
 mod passed_on;
 pub mod random;
 mod raw;
+mod rule;
 mod step;
 mod tags;
 mod valid;
@@ -30,6 +35,7 @@ mod word;
 
 pub use damage::damaged;
 pub use damage_bytes::damaged_bytes;
+pub use either_slips::about_an_or;
 pub use input::input_of;
 pub use limits::at_a_limit;
 pub use random::Random;

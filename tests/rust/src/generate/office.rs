@@ -124,6 +124,11 @@ impl<'a> Office<'a> {
         self.clock.any(self.random, 2)
     }
 
+    /// A span between times of the case.
+    pub fn some_span(&mut self) -> Span {
+        self.clock.any_span(self.random)
+    }
+
     /// A name or a time of the case.
     pub fn word(&mut self) -> Word {
         if self.random.below(5) < 3 {

@@ -1,7 +1,7 @@
 //! Cases of raw bytes: some quite at random, some that follow the forms of formulas and proofs without any sense.
 
 use super::clock::any_moment;
-use super::step::shape;
+use super::step::{adds, infers_first, shape};
 use super::tags;
 use super::Random;
 use crate::data::{Case, Record, Request, Time, LATEST};
@@ -99,7 +99,13 @@ fn raw_part(random: &mut Random, out: &mut Vec<u8>) {
 
 /// Adds a formula of at most so many levels under binders with the tags given, the innermost first.
 fn raw_formula(random: &mut Random, out: &mut Vec<u8>, levels: u64, binders: &[u8]) {
-    let leaves = [tags::TOP, tags::ATOM, tags::FACT, tags::ORDER];
+    let leaves = [
+        tags::TOP,
+        tags::ATOM,
+        tags::FACT,
+        tags::ORDER,
+        tags::FALSITY,
+    ];
     let tag = if levels <= 1 {
         *random.pick(&leaves)
     } else {
@@ -107,7 +113,7 @@ fn raw_formula(random: &mut Random, out: &mut Vec<u8>, levels: u64, binders: &[u
     };
     out.push(tag);
     let (words, parts) = match tag {
-        tags::BOTH | tags::IMPLIES => (0, 2),
+        tags::BOTH | tags::IMPLIES | tags::EITHER => (0, 2),
         tags::ALL_NAMES | tags::ALL_TIMES => (0, 1),
         tags::SAYS => (1, 1),
         tags::AT => (2, 1),
@@ -227,11 +233,10 @@ fn raw_step(random: &mut Random, out: &mut Vec<u8>, around: Around) {
         raw_term(random, out, timely, 3);
     }
     for part in 0..parts {
-        let adds = part == 1 && matches!(tag, tags::AT_OUT | tags::SAYS_OUT);
-        let infers = part == 0 && !matches!(tag, tags::PAIR | tags::AT_IN | tags::SAYS_IN);
+        let infers = part == 0 && infers_first(tag);
         let inner = Around {
             levels: around.levels - 1,
-            assumptions: around.assumptions + u64::from(adds),
+            assumptions: around.assumptions + adds(tag, part) as u64,
             infers: infers && !random.one_in(40),
             ..around
         };

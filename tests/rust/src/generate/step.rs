@@ -63,11 +63,31 @@ pub fn shape(tag: u8) -> Option<(usize, usize, usize)> {
         tags::LOCAL | tags::CERTIFICATE => Some((1, 0, 0)),
         tags::PAIR | tags::AT_OUT | tags::SAYS_OUT => Some((0, 0, 2)),
         tags::FIRST | tags::SECOND | tags::AT_IN | tags::SAYS_IN => Some((0, 0, 1)),
+        tags::LEFT | tags::RIGHT | tags::BY_FALSITY => Some((0, 0, 1)),
+        tags::CASES => Some((0, 0, 3)),
         tags::TRIVIAL | tags::STATE | tags::COMPARE => Some((0, 0, 0)),
         tags::APPLY => Some((0, 2, 2)),
         tags::INSTANCE => Some((0, 1, 1)),
         _ => None,
     }
+}
+
+/// Whether the first step under a tag must infer; those behind it never need to.
+pub fn infers_first(tag: u8) -> bool {
+    let checks = [
+        tags::PAIR,
+        tags::AT_IN,
+        tags::SAYS_IN,
+        tags::LEFT,
+        tags::RIGHT,
+    ];
+    !checks.contains(&tag)
+}
+
+/// How many assumptions a tag adds for the step under it at a position.
+pub fn adds(tag: u8, position: usize) -> usize {
+    let assumes = matches!(tag, tags::AT_OUT | tags::SAYS_OUT | tags::CASES);
+    usize::from(assumes && position > 0)
 }
 
 /// Sizes, places and bytes.
@@ -94,10 +114,8 @@ impl Step {
 
     /// Whether it names no assumption but those that it makes itself, and so many others.
     pub fn closed(&self, around: usize) -> bool {
-        let adds = matches!(self.tag, tags::AT_OUT | tags::SAYS_OUT);
-        let inside = |(position, part): (usize, &Step)| {
-            part.closed(around + usize::from(adds && position == 1))
-        };
+        let inside =
+            |(position, part): (usize, &Step)| part.closed(around + adds(self.tag, position));
         let own = self.tag != tags::LOCAL || usize::from(self.index) < around;
         own && self.parts.iter().enumerate().all(inside)
     }
@@ -112,12 +130,11 @@ impl Step {
         if n == 0 {
             return (self, around);
         }
-        let adds = matches!(self.tag, tags::AT_OUT | tags::SAYS_OUT);
         let mut left = n - 1;
         for (position, part) in self.parts.iter_mut().enumerate() {
             let count = part.count();
             if left < count {
-                return part.nth_under(left, around + usize::from(adds && position == 1));
+                return part.nth_under(left, around + adds(self.tag, position));
             }
             left -= count;
         }

@@ -20,6 +20,8 @@ pub const AT: u8 = 0x16;
 pub const ATOM: u8 = 0x17;
 pub const FACT: u8 = 0x18;
 pub const ORDER: u8 = 0x19;
+pub const EITHER: u8 = 0x1a;
+pub const FALSITY: u8 = 0x1b;
 
 pub const LOCAL: u8 = 0x20;
 pub const CERTIFICATE: u8 = 0x21;
@@ -35,10 +37,14 @@ pub const SAYS_IN: u8 = 0x2a;
 pub const SAYS_OUT: u8 = 0x2b;
 pub const STATE: u8 = 0x2c;
 pub const COMPARE: u8 = 0x2d;
+pub const LEFT: u8 = 0x2e;
+pub const RIGHT: u8 = 0x2f;
+pub const CASES: u8 = 0x30;
+pub const BY_FALSITY: u8 = 0x31;
 
 /// The tags of all formulas, and of all steps, to draw from: each stands in a row. What must have come up is said elsewhere, in numbers.
-pub const FORMULAS: RangeInclusive<u8> = TOP..=ORDER;
-pub const STEPS: RangeInclusive<u8> = LOCAL..=COMPARE;
+pub const FORMULAS: RangeInclusive<u8> = TOP..=FALSITY;
+pub const STEPS: RangeInclusive<u8> = LOCAL..=BY_FALSITY;
 
 /// One of these tags.
 pub fn any_of(tags: RangeInclusive<u8>, random: &mut Random) -> u8 {

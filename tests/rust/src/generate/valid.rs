@@ -1,6 +1,7 @@
 //! Cases whose proof shows the request: the office at work from the goal backwards.
 
 use super::clock::Span;
+use super::either::by_an_or;
 use super::formula::Formula;
 use super::goal::{Goal, View};
 use super::layout::case_of;
@@ -25,8 +26,10 @@ pub fn may(request: Request) -> Formula {
 
 /// A case whose proof shows its request, within all limits.
 pub fn valid(random: &mut Random) -> Case {
-    if random.one_in(16) {
-        return well_used(random);
+    match random.below(16) {
+        0 => return well_used(random),
+        1 => return by_an_or(random),
+        _ => {}
     }
     for _ in 0..20 {
         let habits = some_habits(random);

@@ -5,12 +5,12 @@ use super::damage::another_name;
 use super::formula::Formula;
 use super::limits::{always, case, some_request};
 use super::office::Certificate;
+use super::rule::{asking, granted};
 use super::step::Step;
 use super::tags;
-use super::valid::may;
-use super::word::{Sort, Word};
+use super::word::Word;
 use super::Random;
-use crate::data::{Case, Term, Time};
+use crate::data::Case;
 
 /// Words used in a view: who has the view and on which span, on which span the goal is there, who speaks and on which
 /// span the words hold.
@@ -48,10 +48,7 @@ impl Use {
     /// Words that may be used: by whoever has the view, on a span around the view's and the goal's.
     fn some(random: &mut Random) -> Use {
         let clock = Clock::new(random);
-        let [view, goal] = [(); 2].map(|_| Span {
-            from: clock.any(random, 2),
-            to: clock.any(random, 2),
-        });
+        let [view, goal] = [(); 2].map(|_| clock.any_span(random));
         let viewer = *random.pick(&[1, 2, 7]);
         Use {
             viewer,
@@ -141,12 +138,8 @@ impl Use {
     ) -> Case {
         let request = some_request(random);
         let viewed = Formula::says(Word::name(self.viewer), Formula::at_span(self.goal, said()));
-        let rule = Formula::implies(Formula::at_span(self.view, viewed), may(request));
-        let ctime = Term::When(Time::Ctime);
-        let rule = always(rule.abstracted(ctime, Sort::Time, &mut || true));
-        let first = Step::instance(ctime, Step::certificate(0));
-        let granted = Step::apply(first, shown, Time::Ctime, Time::Ctime);
-        case(request, &[rule, certificate], claim(granted))
+        let rule = asking(request, Formula::at_span(self.view, viewed));
+        case(request, &[rule, certificate], claim(granted(shown)))
     }
 }
 

@@ -107,7 +107,7 @@ impl<R: Reading, W: Watch> Walk<'_, R, W> {
     }
 
     /// 31: any goal on any interval, as falsity was inferred.
-    pub fn from_falsity(
+    pub fn by_falsity(
         &mut self,
         inference: &Inference,
         view: View,

@@ -108,7 +108,7 @@ impl<R: Reading, W: Watch> Walk<'_, R, W> {
             Checking::Cases(inference, left, right) => {
                 self.cases(inference, [left, right], goal, view, offset)
             }
-            Checking::FromFalsity(inference) => self.from_falsity(inference, view, offset),
+            Checking::ByFalsity(inference) => self.by_falsity(inference, view, offset),
         }
     }
 

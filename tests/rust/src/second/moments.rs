@@ -114,6 +114,6 @@ fn add_check(rule: &Checking, found: &mut Vec<u64>) {
             add_step(left, found);
             add_step(right, found);
         }
-        Checking::FromFalsity(inference) => add_inference(inference, found),
+        Checking::ByFalsity(inference) => add_inference(inference, found),
     }
 }

@@ -59,7 +59,7 @@ pub enum Checking {
     Order,
     Side(Side, Box<Step>),
     Cases(Box<Inference>, Box<Step>, Box<Step>),
-    FromFalsity(Box<Inference>),
+    ByFalsity(Box<Inference>),
 }
 
 /// A side of an or.
@@ -98,7 +98,7 @@ impl Checking {
             Checking::Side(Side::Left, _) => 0x2e,
             Checking::Side(Side::Right, _) => 0x2f,
             Checking::Cases(..) => 0x30,
-            Checking::FromFalsity(_) => 0x31,
+            Checking::ByFalsity(_) => 0x31,
         }
     }
 }
@@ -213,7 +213,7 @@ impl StepReader<'_> {
                 let left = self.part(rest)?;
                 Some(Checking::Cases(inference, left, self.part(rest)?))
             }
-            0x31 => self.inference(room).map(Checking::FromFalsity),
+            0x31 => self.inference(room).map(Checking::ByFalsity),
             _ => None,
         }
     }

@@ -1,7 +1,7 @@
 //! Which case belongs to a seed and an index, and the random numbers for its questions.
 
 use second_opinion::data::Case;
-use second_opinion::generate::{at_a_limit, damaged, in_a_view, raw, valid, Random};
+use second_opinion::generate::{about_an_or, at_a_limit, damaged, in_a_view, raw, valid, Random};
 
 /// What the random numbers are for.
 #[derive(Clone, Copy)]
@@ -22,14 +22,15 @@ pub fn random_for(seed: u64, index: u64, used: Use) -> Random {
 /// The case of an index under a seed.
 pub fn case_for(seed: u64, index: u64) -> Case {
     let mut random = random_for(seed, index, Use::Making);
-    match random.below(10) {
-        0..=2 => valid(&mut random),
-        3..=6 => {
+    match random.below(20) {
+        0..=5 => valid(&mut random),
+        6..=13 => {
             let case = valid(&mut random);
             damaged(&mut random, &case)
         }
-        7 if random.one_in(3) => in_a_view(&mut random),
-        7 => at_a_limit(&mut random),
+        14..=15 if random.one_in(3) => in_a_view(&mut random),
+        14..=15 => at_a_limit(&mut random),
+        16 => about_an_or(&mut random),
         _ => raw(&mut random),
     }
 }

@@ -79,10 +79,10 @@ impl Report {
         report.answers(coverage);
         report.input_lines(coverage);
         report.facts(coverage);
-        report.tags("verify, steps", &coverage.verify.steps, 0x20..=0x2d);
-        report.tags("direct, steps", &coverage.direct.steps, 0x20..=0x2d);
-        report.tags("verify, formulas", &coverage.verify.formulas, 0x10..=0x19);
-        report.tags("direct, formulas", &coverage.direct.formulas, 0x10..=0x19);
+        report.tags("verify, steps", &coverage.verify.steps, 0x20..=0x31);
+        report.tags("direct, steps", &coverage.direct.steps, 0x20..=0x31);
+        report.tags("verify, formulas", &coverage.verify.formulas, 0x10..=0x1b);
+        report.tags("direct, formulas", &coverage.direct.formulas, 0x10..=0x1b);
         report.clauses("verify", &coverage.verify, possible_in_verify);
         report.clauses("direct", &coverage.direct, possible_in_direct);
         report.all_orders(coverage);
