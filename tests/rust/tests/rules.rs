@@ -2,15 +2,9 @@
 
 mod by_hand;
 
-use by_hand::{briefly, if_so, Said, Told, ALWAYS, ATOM, EVER, MAY};
+use by_hand::{briefly, case_of_1 as case, if_so, Told, ALWAYS, ATOM, MAY};
 use second_opinion::data::{Answer, Case, Time, LATEST};
 use second_opinion::second::{direct, verify, NoWatch};
-
-/// A case where 1 says these formulas for all time.
-fn case(said: &[&str], proof: &str) -> Case {
-    let said: Vec<Said> = said.iter().map(|formula| (1, EVER, *formula)).collect();
-    by_hand::case(&said, proof)
-}
 
 /// What verify says to a case.
 fn told_of(case: &Case) -> Told {

@@ -2,47 +2,10 @@
 
 mod by_hand;
 
-use by_hand::{briefly, case, if_so, Said, Told, ALWAYS, ATOM, EVER, MAY};
+use by_hand::{
+    if_so, on, pressed, told, Said, ALWAYS, ATOM, EVER, IN_JUNE, IN_MARCH, JUNE, MARCH, MAY, OTHER,
+};
 use second_opinion::data::{Answer, Time, LATEST};
-use second_opinion::second::{direct, door, verify, NoWatch};
-
-/// Another atom without terms.
-const OTHER: &str = "17012d00";
-
-/// From 1000 to 2000, and from 3000 to 4000.
-const MARCH: &str = "0100000003e8 0100000007d0";
-const JUNE: &str = "010000000bb8 010000000fa0";
-
-/// The same.
-const IN_MARCH: (Time, Time) = (Time::Moment(1000), Time::Moment(2000));
-const IN_JUNE: (Time, Time) = (Time::Moment(3000), Time::Moment(4000));
-
-/// Moments in, between and just beside them.
-const MOMENTS: [u64; 16] = [
-    0, 999, 1000, 1001, 1500, 1999, 2000, 2001, 2999, 3000, 3001, 3500, 3999, 4000, 4001, LATEST,
-];
-
-/// What verify says where these certificates are; the direct check must accept just where its procap opens.
-fn told(said: &[Said], proof: &str) -> Told {
-    let case = case(said, proof);
-    let issued = verify(&case, &mut NoWatch);
-    for moment in MOMENTS {
-        let accepted = direct(&case, moment, &[], &mut NoWatch) == Answer::GRANTED;
-        let opened = |procap| door(procap, case.request, moment, &[]) == Answer::GRANTED;
-        assert_eq!(accepted, issued.as_ref().is_ok_and(opened), "at {moment}");
-    }
-    briefly(issued)
-}
-
-/// What the direct check says where these certificates are.
-fn pressed(said: &[Said], proof: &str, moment: u64) -> Answer {
-    direct(&case(said, proof), moment, &[], &mut NoWatch)
-}
-
-/// From one moment to another.
-fn on(from: u64, to: u64) -> (Time, Time) {
-    (Time::Moment(from), Time::Moment(to))
-}
 
 /// A certificate of March carries a proof in March, although it says that "may" holds at all times.
 #[test]
