@@ -63,6 +63,28 @@ fn goals_that_are_no_or() {
     assert_eq!(told(&said, &by_rule("2101")), Err((4, 4)));
 }
 
+/// No other step shows an or, and none that takes something else apart takes one.
+#[test]
+fn steps_that_take_no_or() {
+    let either = or("10", "10");
+    for step in ["22 25 25", "25", "28 25", "2a 25", "2c", "2d"] {
+        assert_eq!(alike(&[&if_so(&either)], &by_rule(step)), Err((3, 4)));
+    }
+    let steps = [
+        "23 2101",
+        "24 2101",
+        "26 2101 25 04 04",
+        "2704 2101",
+        "29 2101 25",
+        "2b 2101 25",
+    ];
+    for step in steps {
+        for taken in [&either, "1b"] {
+            assert_eq!(alike(&[&if_so("10"), taken], &by_rule(step)), Err((3, 4)));
+        }
+    }
+}
+
 /// A side is shown on the goal's interval, in the goal's view.
 #[test]
 fn a_side_keeps_the_interval_and_the_view() {

@@ -129,7 +129,7 @@ fn parts_that_are_missing_or_too_many() {
     }
 }
 
-/// A side is an assumption in its own case alone.
+/// A side is an assumption in its own case alone, which is found before anything is walked.
 #[test]
 fn assumptions_that_enclose() {
     let said = ["1a 10 10", "16 02 03 10"];
@@ -140,8 +140,8 @@ fn assumptions_that_enclose() {
         "29 2101 30 2000 2001 2001",
     ];
     for proof in readable {
-        let told = alike(&said, &format!("2a {proof}"));
-        assert!(told.is_err_and(|(number, _)| number == 3), "{proof}");
+        let misfit = Err((3, 0));
+        assert_eq!(alike(&said, &format!("2e {proof}")), misfit, "{proof}");
     }
     let malformed = [
         "30 2000 25 25",
@@ -156,7 +156,7 @@ fn assumptions_that_enclose() {
         "29 2101 30 2001 25 25",
     ];
     for proof in malformed {
-        assert_eq!(alike(&said, &format!("2a {proof}")), NO_PROOF, "{proof}");
+        assert_eq!(alike(&said, &format!("2e {proof}")), NO_PROOF, "{proof}");
     }
 }
 
