@@ -59,13 +59,14 @@ pub fn atom(number: u16) -> Formula {
     Formula::atom(300 + number, vec![])
 }
 
-/// A goal: an atom, an or that it is a side of, or one that stands for itself.
+/// A goal: an atom, an or or a conjunction that it is a side of, or one that stands for itself.
 fn some_goal(random: &mut Random) -> Formula {
-    match random.below(6) {
+    match random.below(7) {
         0..=1 => atom(0),
         2 => Formula::either(atom(0), atom(1)),
         3 => Formula::either(atom(1), atom(0)),
-        4 => Formula::falsity(),
+        4 => Formula::both(atom(0), atom(1)),
+        5 => Formula::falsity(),
         _ => Formula::top(),
     }
 }
@@ -92,14 +93,22 @@ fn some_side(random: &mut Random, goal: &Formula, span: Span) -> Side {
             let again = Step::over(tags::CASES, vec![latest(), latest(), absurd]);
             (Formula::either(goal.clone(), Formula::falsity()), again)
         }
-        6 if goal.tag == tags::EITHER => {
-            let side = random.below(2) as usize;
-            let tag = [tags::LEFT, tags::RIGHT][side];
-            (goal.parts[side].clone(), Step::over(tag, vec![latest()]))
-        }
+        6..=7 if goal.parts.len() == 2 => by_its_parts(random, goal),
         _ => (goal.clone(), latest()),
     };
     Side { formula, shown }
+}
+
+/// A side of an or, and the step that shows from it the parts that the goal wants: one of an or, both of a conjunction.
+fn by_its_parts(random: &mut Random, goal: &Formula) -> (Formula, Step) {
+    let over_latest = |tag| Step::over(tag, vec![latest()]);
+    if goal.tag == tags::BOTH {
+        let parts = [tags::FIRST, tags::SECOND].map(over_latest);
+        return (goal.clone(), Step::over(tags::PAIR, parts.to_vec()));
+    }
+    let side = random.below(2) as usize;
+    let tag = [tags::LEFT, tags::RIGHT][side];
+    (goal.parts[side].clone(), over_latest(tag))
 }
 
 impl Split {
@@ -141,6 +150,11 @@ impl Split {
         let within = |side: &Side| self.entered(Viewed::Within, side.shown.clone());
         let cases = Step::over(tags::CASES, vec![self.first(), within(left), within(right)]);
         self.entered(Viewed::Around, cases)
+    }
+
+    /// The goal shown by what is inferred in place of the or.
+    pub fn at_once(&self) -> Step {
+        self.entered(Viewed::Around, self.first())
     }
 
     /// The goal shown from falsity.

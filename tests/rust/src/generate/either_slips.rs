@@ -1,6 +1,7 @@
 //! Small cases about one or with something amiss: where it holds, in its sides, in its steps, or in what is inferred.
 
 use super::either::{atom, latest, Split, Viewed};
+use super::either_compared::compared;
 use super::formula::Formula;
 use super::step::Step;
 use super::tags;
@@ -11,7 +12,7 @@ use crate::data::Case;
 pub fn about_an_or(random: &mut Random) -> Case {
     let mut split = Split::some(random);
     let side = random.below(2) as usize;
-    match random.below(10) {
+    match random.below(13) {
         0..=1 => split.or = split.clock.any_span(random),
         2 => split.sides[side].formula = another_formula(random, &split),
         3 => {
@@ -20,24 +21,35 @@ pub fn about_an_or(random: &mut Random) -> Case {
         }
         4 => split.sides[side].shown = another_step(random, latest()),
         5 => split.viewed = Viewed::Within,
-        6 => {
+        6 => turn(&mut split.goal),
+        7 => {
             let other = another_formula(random, &split);
             return split.case(random, other, split.by_cases());
         }
-        7 => {
+        8 => {
             let other = another_formula(random, &split);
             return split.case(random, other, split.by_falsity());
         }
-        8 => {
+        9 => {
             let shown = another_step(random, split.first());
             return split.case(random, split.either(), shown);
         }
+        10..=11 => return compared(random, split),
         _ => {
             let unreadable = unreadable(random, &split);
             return split.case(random, split.either(), unreadable);
         }
     }
     split.case(random, split.either(), split.by_cases())
+}
+
+/// Turns an or into a conjunction, and a conjunction into an or.
+fn turn(formula: &mut Formula) {
+    formula.tag = match formula.tag {
+        tags::EITHER => tags::BOTH,
+        tags::BOTH => tags::EITHER,
+        tag => tag,
+    };
 }
 
 /// Another formula in place of an or or of a side of it, which may happen to serve.

@@ -9,6 +9,7 @@ mod damage_bytes;
 mod damage_formula;
 mod damage_proof;
 mod either;
+mod either_compared;
 mod either_slips;
 mod enlarge;
 mod formula;

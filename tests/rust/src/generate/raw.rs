@@ -6,6 +6,15 @@ use super::tags;
 use super::Random;
 use crate::data::{Case, Record, Request, Time, LATEST};
 
+/// The tags of formulas with none inside.
+const LEAVES: [u8; 5] = [
+    tags::TOP,
+    tags::ATOM,
+    tags::FACT,
+    tags::ORDER,
+    tags::FALSITY,
+];
+
 /// A case of raw bytes.
 pub fn raw(random: &mut Random) -> Case {
     let mut buffer = Vec::new();
@@ -99,15 +108,8 @@ fn raw_part(random: &mut Random, out: &mut Vec<u8>) {
 
 /// Adds a formula of at most so many levels under binders with the tags given, the innermost first.
 fn raw_formula(random: &mut Random, out: &mut Vec<u8>, levels: u64, binders: &[u8]) {
-    let leaves = [
-        tags::TOP,
-        tags::ATOM,
-        tags::FACT,
-        tags::ORDER,
-        tags::FALSITY,
-    ];
     let tag = if levels <= 1 {
-        *random.pick(&leaves)
+        *random.pick(&LEAVES)
     } else {
         tags::any_of(tags::FORMULAS, random)
     };

@@ -20,6 +20,9 @@ pub const ATOM: &str = "17012c00";
 /// Another atom without terms.
 pub const OTHER: &str = "17012d00";
 
+/// A third atom without terms.
+pub const THIRD: &str = "17012e00";
+
 /// From 1000 to 2000, and from 3000 to 4000.
 pub const MARCH: &str = "0100000003e8 0100000007d0";
 pub const JUNE: &str = "010000000bb8 010000000fa0";
@@ -130,6 +133,11 @@ pub fn briefly(said: Result<Procap, Answer>) -> Told {
         Ok(procap) => Ok((procap.from, procap.to)),
         Err(refusal) => Err((refusal.number, refusal.place)),
     }
+}
+
+/// The or of two formulas.
+pub fn or(left: &str, right: &str) -> String {
+    format!("1a {left} {right}")
 }
 
 /// The formula that a condition implies the "may".
