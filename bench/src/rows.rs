@@ -33,15 +33,15 @@ const PLANS: [(What, From); 14] = [
     (What::DoorOnValue, From::Example("sixteen_facts")),
     (What::DoorOnText, From::Example("sixteen_facts")),
     (What::Verify, From::Example("p")),
-    (What::Verify, From::Valid(299)),
-    (What::Verify, From::Valid(339)),
-    (What::Verify, From::Valid(502)),
+    (What::Verify, From::Valid(1081)),
+    (What::Verify, From::Valid(1308)),
+    (What::Verify, From::Valid(1850)),
     (What::Verify, From::Example("thirty_implications")),
     (What::Verify, From::Example("thirty_assumptions")),
     (What::Verify, From::Example("sixteen_facts")),
-    (What::Verify, From::AtALimit(1)),
-    (What::Verify, From::AtALimit(4)),
-    (What::Verify, From::AtALimit(5)),
+    (What::Verify, From::AtALimit(8)),
+    (What::Verify, From::AtALimit(16)),
+    (What::Verify, From::AtALimit(18)),
 ];
 
 /// A row: what is measured, and on which case.
