@@ -19,7 +19,7 @@ use Rattle.procap.specs.declared.fact.Term.{Term}
 use Rattle.procap.specs.declared.fact.Term.the-variants.{Name, When}
 use Rattle.procap.specs.declared.time.Time.{Time}
 use Rattle.procap.proofs.Telling.{tells-picked}
-use Rattle.procap.proofs.ReadApart.{not-read}
+use Rattle.procap.proofs.ReadApart.{not-read, from-tag}
 use Rattle.bl.specs.declared.FormulaTag.{FormulaTag}
 use Rattle.bl.specs.declared.FormulaTag.the-variants.{TopTag, AndTag, ImpliesTag, AllNamesTag, AllTimesTag, SaysTag, AtTag, AtomTag, FactTag, OrderTag, OrTag, FalsityTag, NoFormulaTag}
 use Rattle.bl.specs.Trees.{Place, fixed, bound, Sort, names, times, Formula, top, and, implies, at, order, or, falsity}
@@ -29,6 +29,7 @@ use Rattle.formula.specs.declared.ends.End.{End}
 use Rattle.formula.specs.declared.ends.End.the-variants.{At, Nowhere}
 use Rattle.formula.specs.declared.ends.PlaceEnd.{PlaceEnd}
 use Rattle.formula.specs.declared.ends.PlaceEnd.the-variants.{Found}
+use Rattle.formula.specs.Meaning.{tag-of}
 use Rattle.formula.specs.Ends.{Ends, EndsAfter, OfSort, PlaceEnds, sort-of, both-sides, two-times}
 
 -- ── One reader after another ──
@@ -214,22 +215,15 @@ module _ (part : List ℕ) (sorts : List Sort) (from left : ℕ) where
   unfolding formula
   no-level e = rw e
 
-  pub no-tag : byte part from ≡ none → formula part left sorts from ≡ none
-  unfolding formula
-  no-tag e = by left
-    where
-      by : (n : ℕ) → formula part n sorts from ≡ none
-      by zero = refl
-      by (suc n) = none-after _ _ e
-
-  pub formula-announced : (b next : ℕ) (tag announced : FormulaTag) (r : End) → (left ≡ 0 → ⊥) → byte part from ≡ some (b, next) → tag ≡ formula-tag b
+  pub formula-announced : (tag announced : FormulaTag) (next : ℕ) (r : End) → (left ≡ 0 → ⊥) → tag ≡ tag-of part from → (from < length part → next ≡ from + 1)
       → tag ≡ announced → Ends (formula-by part (formula part (left - 1)) sorts announced next) r → Ends (formula part left sorts from) r
-  unfolding formula then
-  formula-announced b next tag announced r n e f g h = by left n h
+  unfolding formula formula-by
+  formula-announced tag announced next r n is after g h = by left n h
     where
       by : (k : ℕ) → (k ≡ 0 → ⊥) → Ends (formula-by part (formula part (k - 1)) sorts announced next) r → Ends (formula part k sorts from) r
       by zero n h = absurd (n refl)
-      by (suc k) n h = rw (e, ← f, g) (rw sub-one at h)
+      by (suc k) n h =
+          rw (← (from-tag part from (λ b. formula-by part (λ around. formula part k around) sorts (formula-tag b)) next after refl), ← is, g) (rw sub-one at h)
 
 -- By its tag, over the readers of the level below.
 module _ (part : List ℕ) (below : List Sort → Reader Formula) (sorts : List Sort) (from : ℕ) where

@@ -1,11 +1,12 @@
 // Whether a part holds one formula: where the formula at a place ends, by recursion on the level left.
-use crate::parts::formula_tag;
+use crate::parts::tag_at;
 use crate::terms::MOST_BINDERS;
 use crate::terms::MOST_FORMULA_LEVELS;
 use bl::FormulaTag;
 use procap::bytes::NumberRead;
 use procap::bytes::TermRead;
 use procap::bytes::byte_at;
+use procap::bytes::past;
 use procap::bytes::term_by;
 use procap::bytes::two_bytes_at;
 use procap::fact::MOST_TERMS;
@@ -84,11 +85,9 @@ fn formula_end(part: &[u8], binders: Binders, at: usize, left: u64) -> End
     if left == 0 {
         return End::Nowhere;
     }
-    let NumberRead::Number(byte, after) = byte_at(part, at) else {
-        return End::Nowhere;
-    };
     let below = left - 1;
-    match formula_tag(byte as u8) {
+    let after = past(part, at);
+    match tag_at(part, at) {
         FormulaTag::TopTag => End::At(after),
         FormulaTag::AndTag => sides_end(part, binders, after, below),
         FormulaTag::ImpliesTag => sides_end(part, binders, after, below),

@@ -3,39 +3,27 @@ use Prim.Native.Nat.{ℕ, suc, _+_, _-_, _≤_, _<_}
 use mathlib.Core.Path.{_≡_, refl, sym, _∙_}
 use mathlib.Core.List.{List}
 use mathlib.Core.Option.{none}
-use native.Mathlib.Decide.{decLt}
 use native.Mathlib.Omega.{arith}
-use lib.ListN.{length, getD, List·getD-eq-default}
-use Rattle.procap.specs.Bytes.{Reader, then, byte}
-use Rattle.procap.proofs.ReadApart.{from-byte, past-bytes}
+use lib.ListN.{length, getD}
+use Rattle.procap.proofs.ReadApart.{from-tag}
 use Rattle.bl.specs.declared.InferTag.{InferTag}
 use Rattle.bl.specs.declared.CheckTag.{CheckTag}
 use Rattle.bl.specs.Tags.{infer-tag, check-tag}
 use Rattle.bl.specs.Steps.{most-proof-levels}
-use Rattle.steps.specs.Todo.{Parts, inferring-parts, checking-parts, parts, Small}
+use Rattle.steps.specs.Todo.{inferring-parts, checking-parts, parts, Small}
 use Rattle.steps.specs.declared.todo.Todo.{Todo}
 use Rattle.steps.specs.declared.todo.Todo.the-variants.{Inferring, Checking}
 
 module _ (proof : List ℕ) (at begin : ℕ) (next : at < length proof → begin ≡ at + 1) where
-  -- From the byte on, if nothing goes on from the byte 0.
-  from-tag : (f : ℕ → Reader Parts) → f 0 begin ≡ none → f (getD proof at 0) begin ≡ then (byte proof at) f
-  from-tag f fails = by (decLt at (length proof))
-    where
-      by : Dec (at < length proof) → f (getD proof at 0) begin ≡ then (byte proof at) f
-      by (yes l) = rw (next l, from-byte proof at f l) refl
-      by (no m) =
-          let past : length proof ≤ at = omega arith in
-          rw (List·getD-eq-default proof 0 past, fails, past-bytes proof at f past) refl
-
   pub inferring-by-tag : (c n h : ℕ) (tag : InferTag) → tag ≡ infer-tag (getD proof at 0)
       → inferring-parts proof c n h tag begin ≡ parts proof c (Inferring (suc n) h) at
   unfolding inferring-parts parts
-  inferring-by-tag c n h tag is = rw is (from-tag (λ b. inferring-parts proof c n h (infer-tag b)) refl)
+  inferring-by-tag c n h tag is = rw is (from-tag proof at (λ b. inferring-parts proof c n h (infer-tag b)) begin next refl)
 
   pub checking-by-tag : (c n h : ℕ) (tag known : CheckTag) → tag ≡ check-tag (getD proof at 0) → tag ≡ known
       → checking-parts proof c n h (infer-tag (getD proof at 0)) known begin ≡ parts proof c (Checking (suc n) h) at
   unfolding checking-parts parts
-  checking-by-tag c n h tag known is k = rw (sym k ∙ is) (from-tag (λ b. checking-parts proof c n h (infer-tag b) (check-tag b)) refl)
+  checking-by-tag c n h tag known is k = rw (sym k ∙ is) (from-tag proof at (λ b. checking-parts proof c n h (infer-tag b) (check-tag b)) begin next refl)
 
 -- By what is to be read: no level left, and one at least.
 module _ (proof : List ℕ) (c at : ℕ) (todo : Todo) (n h : ℕ) where

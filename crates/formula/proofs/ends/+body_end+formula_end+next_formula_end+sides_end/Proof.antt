@@ -6,7 +6,6 @@ use native.Mathlib.Omega.{arith}
 use borrow.Author.Needs.{needs}
 use borrow.Fn.Kinds.{In}
 use borrow.Fn.PlainCycle.{Measures, is, falls, and}
-use Rattle.procap.proofs.Handed.{number-told, bound-told}
 use Rattle.bl.specs.declared.FormulaTag.{FormulaTag}
 use Rattle.bl.specs.declared.FormulaTag.the-variants.{NoFormulaTag}
 use Rattle.bl.specs.Formulas.{formula-by, formula}
@@ -14,7 +13,7 @@ use Rattle.formula.specs.declared.ends.End.{End}
 use Rattle.formula.specs.declared.ends.End.the-variants.{At, Nowhere}
 use Rattle.formula.specs.Ends.{Ends, sort-of, sorts-of}
 use Rattle.formula.proofs.SortsAround.{sorts-length}
-use Rattle.formula.proofs.Endings.{no-level, no-tag, formula-announced, ninth-binder, body-ends, sides-end as both-sides-end, top-ends, and-ends, implies-ends, all-names-ends, all-times-ends, says-ends, at-ends, atom-ends, fact-ends, order-ends, or-ends, falsity-ends, no-formula}
+use Rattle.formula.proofs.Endings.{no-level, formula-announced, ninth-binder, body-ends, sides-end as both-sides-end, top-ends, and-ends, implies-ends, all-names-ends, all-times-ends, says-ends, at-ends, atom-ends, fact-ends, order-ends, or-ends, falsity-ends, no-formula}
 use Rattle.formula.proofs.ends.body_end.Reads as body-end
 use Rattle.formula.proofs.ends.body_end.Kinds as body-end-kinds
 use Rattle.formula.proofs.ends.+body_end+formula_end+next_formula_end+sides_end.Lts-body_end as body-end-lts
@@ -31,8 +30,8 @@ use Rattle.formula.proofs.ends.arguments_end.Reads as arguments-end-rea
 use Rattle.formula.proofs.ends.one_more.Reads as one-more-reads
 use Rattle.formula.proofs.ends.place_end.Reads as place-end-reads
 use Rattle.formula.proofs.ends.two_times_end.Reads as two-times-end-reads
-use Rattle.formula.proofs.parts.formula_tag.Reads as formula-tag-reads
-use Rattle.procap.proofs.bytes.byte_at.Reads as byte-at-reads
+use Rattle.formula.proofs.parts.tag_at.Reads as tag-at-reads
+use Rattle.procap.proofs.bytes.past.Reads as past-reads
 use Rattle.formula.proofs.ends.+body_end+formula_end+next_formula_end+sides_end.{statement}
 use Rattle.formula.proofs.ends.+body_end+formula_end+next_formula_end+sides_end.Tie.{close}
 
@@ -78,7 +77,7 @@ abbrev body-end-calls : ℕ → body-end-lts.Claims
 body-end-calls t = (one-more-reads.Asked, one-more-reads.Learnt, formula-end-below t, formula-end.Post)
 
 abbrev formula-end-calls : ℕ → formula-end-lts.Claims
-formula-end-calls t = (byte-at-reads.Asked, byte-at-reads.Learnt, formula-tag-reads.Asked, formula-tag-reads.Learnt, sides-end-below t, sides-end.Post, body-end-below t, body-end.Post, place-end-reads.Asked, place-end-reads.Learnt, next-formula-end-below t, next-formula-end.Post, two-times-end-reads.Asked, two-times-end-reads.Learnt, arguments-end-reads.Asked, arguments-end-reads.Learnt)
+formula-end-calls t = (past-reads.Asked, past-reads.Learnt, tag-at-reads.Asked, tag-at-reads.Learnt, sides-end-below t, sides-end.Post, body-end-below t, body-end.Post, place-end-reads.Asked, place-end-reads.Learnt, next-formula-end-below t, next-formula-end.Post, two-times-end-reads.Asked, two-times-end-reads.Learnt, arguments-end-reads.Asked, arguments-end-reads.Learnt)
 
 abbrev next-formula-end-calls : ℕ → next-formula-end-lts.Claims
 next-formula-end-calls t = (formula-end-below t, formula-end.Post)
@@ -108,178 +107,120 @@ body-end-returns-2 t c =
 -- ── A formula ──
 
 -- What its tag announces is the formula.
-announced : (t : ℕ) (c : formula-end-lts.After-formula-tag (formula-end-calls t) (formula-end-at t) formula-end.Post) (tag : FormulaTag) (r : End)
-    → c .formula-tag .result ≡ tag
-    → (let args = c .before .before .before .before .before .before .before .args in
-    Ends (formula-by (args .part .now) (formula (args .part .now) (args .left - 1)) (sorts-of (args .binders)) tag (c .before .before .byte .given .0 .1 .0)) r)
-    → (let args = c .before .before .before .before .before .before .before .args in
+announced : (t : ℕ) (c : formula-end-lts.After-tag-at (formula-end-calls t) (formula-end-at t) formula-end.Post) (tag : FormulaTag) (r : End)
+    → c .tag-at .result ≡ tag
+    → (let args = c .before .before .before .before .args in
+    Ends (formula-by (args .part .now) (formula (args .part .now) (args .left - 1)) (sorts-of (args .binders)) tag (c .before .past .result)) r)
+    → (let args = c .before .before .before .before .args in
     Ends (formula (args .part .now) (args .left) (sorts-of (args .binders)) (args .at)) r)
-announced t c tag r told h =
-    let read = c .before .before in
-    formula-announced _ _ _ _ _ _ _ tag r (read .before .before .before .if1 .left)
-    (number-told _ (read .byte .given .1) (read .before .before .byte-at .ensures .0))
-    (c .formula-tag .ensures) told h
+announced t c tag r told h = formula-announced _ _ _ _ _ tag _ r (c .before .before .if1 .left) (c .tag-at .ensures) (c .before .past .ensures .0) told h
 
 formula-end-returns : (t : ℕ) → formula-end-lts.Need-returns (formula-end-calls t) (formula-end-at t) formula-end.Post
 formula-end-returns t c = no-level _ _ _ _ (c .if1 .taken)
 
-formula-end-byte-at-requires : (t : ℕ) → formula-end-lts.Need-byte-at-requires (formula-end-calls t) (formula-end-at t) formula-end.Post
-formula-end-byte-at-requires t c κs = search needs
-
-formula-end-enum-known-byte : (t : ℕ) → formula-end-lts.Need-enum-known-byte (formula-end-calls t) (formula-end-at t) formula-end.Post
-formula-end-enum-known-byte t c = search needs
-
-formula-end-enum-told : (t : ℕ) → formula-end-lts.Need-enum-told (formula-end-calls t) (formula-end-at t) formula-end.Post
-formula-end-enum-told t c = search needs
-
-formula-end-returns-2 : (t : ℕ) → formula-end-lts.Need-returns-2 (formula-end-calls t) (formula-end-at t) formula-end.Post
-formula-end-returns-2 t c = no-tag _ _ _ _ (number-told _ (c .enum-told .given .1) (c .before .before .byte-at .ensures .0))
-
-formula-end-sub-below : (t : ℕ) → formula-end-lts.Need-sub-below (formula-end-calls t) (formula-end-at t) formula-end.Post
-formula-end-sub-below t c = omega (arith, c .before .before .before .before .if1 .left)
-
-formula-end-cast-formula-tag : (t : ℕ) → formula-end-lts.Need-cast-formula-tag (formula-end-calls t) (formula-end-at t) formula-end.Post
-formula-end-cast-formula-tag t c = omega (arith, bound-told _ (c .before .byte .given .1) (c .before .before .before .byte-at .ensures .1))
-
-formula-end-formula-tag-requires : (t : ℕ) → formula-end-lts.Need-formula-tag-requires (formula-end-calls t) (formula-end-at t) formula-end.Post
-formula-end-formula-tag-requires t c κs = search needs
-
-formula-end-enum-told-2 : (t : ℕ) → formula-end-lts.Need-enum-told-2 (formula-end-calls t) (formula-end-at t) formula-end.Post
-formula-end-enum-told-2 t c = search needs
-
-formula-end-enum-told-3 : (t : ℕ) → formula-end-lts.Need-enum-told-3 (formula-end-calls t) (formula-end-at t) formula-end.Post
-formula-end-enum-told-3 t c = search needs
-
-formula-end-enum-told-4 : (t : ℕ) → formula-end-lts.Need-enum-told-4 (formula-end-calls t) (formula-end-at t) formula-end.Post
-formula-end-enum-told-4 t c = search needs
-
-formula-end-enum-told-5 : (t : ℕ) → formula-end-lts.Need-enum-told-5 (formula-end-calls t) (formula-end-at t) formula-end.Post
-formula-end-enum-told-5 t c = search needs
-
 formula-end-body-end-requires : (t : ℕ) → formula-end-lts.Need-body-end-requires (formula-end-calls t) (formula-end-at t) formula-end.Post
 formula-end-body-end-requires t c κs =
     let tag = c .before .before in
-    (omega (arith, tag .before .before .before .before .before .if1 .left), tag .before .before .before .before .before .before .before .pre .1)
-
-formula-end-enum-told-6 : (t : ℕ) → formula-end-lts.Need-enum-told-6 (formula-end-calls t) (formula-end-at t) formula-end.Post
-formula-end-enum-told-6 t c = search needs
+    (omega (arith, tag .before .before .if1 .left), tag .before .before .before .before .pre .1)
 
 formula-end-body-end-requires-2 : (t : ℕ) → formula-end-lts.Need-body-end-requires-2 (formula-end-calls t) (formula-end-at t) formula-end.Post
 formula-end-body-end-requires-2 t c κs =
     let tag = c .before .before in
-    (omega (arith, tag .before .before .before .before .before .if1 .left), tag .before .before .before .before .before .before .before .pre .1)
-
-formula-end-enum-told-7 : (t : ℕ) → formula-end-lts.Need-enum-told-7 (formula-end-calls t) (formula-end-at t) formula-end.Post
-formula-end-enum-told-7 t c = search needs
+    (omega (arith, tag .before .before .if1 .left), tag .before .before .before .before .pre .1)
 
 formula-end-place-end-requires : (t : ℕ) → formula-end-lts.Need-place-end-requires (formula-end-calls t) (formula-end-at t) formula-end.Post
-formula-end-place-end-requires t c κs = c .before .before .before .before .before .before .before .before .before .pre .1
+formula-end-place-end-requires t c κs = c .before .before .before .before .before .before .pre .1
 
 formula-end-next-formula-end-requires : (t : ℕ) → formula-end-lts.Need-next-formula-end-requires (formula-end-calls t) (formula-end-at t) formula-end.Post
 formula-end-next-formula-end-requires t c κs =
     let tag = c .before .before .before in
-    (omega (arith, tag .before .before .before .before .before .if1 .left), tag .before .before .before .before .before .before .before .pre .1)
-
-formula-end-enum-told-8 : (t : ℕ) → formula-end-lts.Need-enum-told-8 (formula-end-calls t) (formula-end-at t) formula-end.Post
-formula-end-enum-told-8 t c = search needs
+    (omega (arith, tag .before .before .if1 .left), tag .before .before .before .before .pre .1)
 
 formula-end-two-times-end-requires : (t : ℕ) → formula-end-lts.Need-two-times-end-requires (formula-end-calls t) (formula-end-at t) formula-end.Post
-formula-end-two-times-end-requires t c κs = c .before .before .before .before .before .before .before .before .before .pre .1
+formula-end-two-times-end-requires t c κs = c .before .before .before .before .before .before .pre .1
 
 formula-end-next-formula-end-requires-2 : (t : ℕ) → formula-end-lts.Need-next-formula-end-requires-2 (formula-end-calls t) (formula-end-at t) formula-end.Post
 formula-end-next-formula-end-requires-2 t c κs =
     let tag = c .before .before .before in
-    (omega (arith, tag .before .before .before .before .before .if1 .left), tag .before .before .before .before .before .before .before .pre .1)
-
-formula-end-enum-told-9 : (t : ℕ) → formula-end-lts.Need-enum-told-9 (formula-end-calls t) (formula-end-at t) formula-end.Post
-formula-end-enum-told-9 t c = search needs
+    (omega (arith, tag .before .before .if1 .left), tag .before .before .before .before .pre .1)
 
 formula-end-arguments-end-requires : (t : ℕ) → formula-end-lts.Need-arguments-end-requires (formula-end-calls t) (formula-end-at t) formula-end.Post
-formula-end-arguments-end-requires t c κs = c .before .before .before .before .before .before .before .before .before .pre .1
-
-formula-end-enum-told-10 : (t : ℕ) → formula-end-lts.Need-enum-told-10 (formula-end-calls t) (formula-end-at t) formula-end.Post
-formula-end-enum-told-10 t c = search needs
+formula-end-arguments-end-requires t c κs = c .before .before .before .before .before .before .pre .1
 
 formula-end-arguments-end-requires-2 : (t : ℕ) → formula-end-lts.Need-arguments-end-requires-2 (formula-end-calls t) (formula-end-at t) formula-end.Post
-formula-end-arguments-end-requires-2 t c κs = c .before .before .before .before .before .before .before .before .before .pre .1
-
-formula-end-enum-told-11 : (t : ℕ) → formula-end-lts.Need-enum-told-11 (formula-end-calls t) (formula-end-at t) formula-end.Post
-formula-end-enum-told-11 t c = search needs
+formula-end-arguments-end-requires-2 t c κs = c .before .before .before .before .before .before .pre .1
 
 formula-end-two-times-end-requires-2 : (t : ℕ) → formula-end-lts.Need-two-times-end-requires-2 (formula-end-calls t) (formula-end-at t) formula-end.Post
-formula-end-two-times-end-requires-2 t c κs = c .before .before .before .before .before .before .before .before .before .pre .1
-
-formula-end-enum-told-12 : (t : ℕ) → formula-end-lts.Need-enum-told-12 (formula-end-calls t) (formula-end-at t) formula-end.Post
-formula-end-enum-told-12 t c = search needs
+formula-end-two-times-end-requires-2 t c κs = c .before .before .before .before .before .before .pre .1
 
 formula-end-sides-end-requires : (t : ℕ) → formula-end-lts.Need-sides-end-requires (formula-end-calls t) (formula-end-at t) formula-end.Post
 formula-end-sides-end-requires t c κs =
     let tag = c .before .before in
-    (omega (arith, tag .before .before .before .before .before .if1 .left), tag .before .before .before .before .before .before .before .pre .1)
+    (omega (arith, tag .before .before .if1 .left), tag .before .before .before .before .pre .1)
 
 formula-end-sides-end-requires-2 : (t : ℕ) → formula-end-lts.Need-sides-end-requires-2 (formula-end-calls t) (formula-end-at t) formula-end.Post
 formula-end-sides-end-requires-2 t c κs =
     let tag = c .before .before in
-    (omega (arith, tag .before .before .before .before .before .if1 .left), tag .before .before .before .before .before .before .before .pre .1)
+    (omega (arith, tag .before .before .if1 .left), tag .before .before .before .before .pre .1)
 
 formula-end-sides-end-requires-3 : (t : ℕ) → formula-end-lts.Need-sides-end-requires-3 (formula-end-calls t) (formula-end-at t) formula-end.Post
 formula-end-sides-end-requires-3 t c κs =
     let tag = c .before .before in
-    (omega (arith, tag .before .before .before .before .before .if1 .left), tag .before .before .before .before .before .before .before .pre .1)
+    (omega (arith, tag .before .before .if1 .left), tag .before .before .before .before .pre .1)
+
+formula-end-returns-2 : (t : ℕ) → formula-end-lts.Need-returns-2 (formula-end-calls t) (formula-end-at t) formula-end.Post
+formula-end-returns-2 t c = announced t (c .before .before) _ (At _) (c .enum-told .given .1) (top-ends _ _ _ _)
 
 formula-end-returns-3 : (t : ℕ) → formula-end-lts.Need-returns-3 (formula-end-calls t) (formula-end-at t) formula-end.Post
-formula-end-returns-3 t c = announced t (c .before .before) _ (At _) (c .enum-told2 .given .1) (top-ends _ _ _ _)
+formula-end-returns-3 t c =
+    announced t (c .before .before .before) _ (c .sides-end .result) (c .before .enum-told2 .given .1) (and-ends _ _ _ _ (c .sides-end .result) (c .sides-end .ensures))
 
 formula-end-returns-4 : (t : ℕ) → formula-end-lts.Need-returns-4 (formula-end-calls t) (formula-end-at t) formula-end.Post
 formula-end-returns-4 t c =
-    announced t (c .before .before .before) _ (c .sides-end .result) (c .before .enum-told3 .given .1) (and-ends _ _ _ _ (c .sides-end .result) (c .sides-end .ensures))
+    announced t (c .before .before .before) _ (c .sides-end2 .result) (c .before .enum-told3 .given .1) (implies-ends _ _ _ _ (c .sides-end2 .result) (c .sides-end2 .ensures))
 
 formula-end-returns-5 : (t : ℕ) → formula-end-lts.Need-returns-5 (formula-end-calls t) (formula-end-at t) formula-end.Post
+unfolding sort-of
 formula-end-returns-5 t c =
-    announced t (c .before .before .before) _ (c .sides-end2 .result) (c .before .enum-told4 .given .1) (implies-ends _ _ _ _ (c .sides-end2 .result) (c .sides-end2 .ensures))
+    announced t (c .before .before .before) _ (c .body-end .result) (c .before .enum-told4 .given .1) (all-names-ends _ _ _ _ (c .body-end .result) (c .body-end .ensures))
 
 formula-end-returns-6 : (t : ℕ) → formula-end-lts.Need-returns-6 (formula-end-calls t) (formula-end-at t) formula-end.Post
 unfolding sort-of
 formula-end-returns-6 t c =
-    announced t (c .before .before .before) _ (c .body-end .result) (c .before .enum-told5 .given .1) (all-names-ends _ _ _ _ (c .body-end .result) (c .body-end .ensures))
+    announced t (c .before .before .before) _ (c .body-end2 .result) (c .before .enum-told5 .given .1) (all-times-ends _ _ _ _ (c .body-end2 .result) (c .body-end2 .ensures))
 
 formula-end-returns-7 : (t : ℕ) → formula-end-lts.Need-returns-7 (formula-end-calls t) (formula-end-at t) formula-end.Post
 unfolding sort-of
 formula-end-returns-7 t c =
-    announced t (c .before .before .before) _ (c .body-end2 .result) (c .before .enum-told6 .given .1) (all-times-ends _ _ _ _ (c .body-end2 .result) (c .body-end2 .ensures))
+    announced t (c .before .before .before .before) _ (c .next-formula-end .result) (c .before .before .enum-told6 .given .1)
+    (says-ends _ _ _ _ (c .before .place-end .result) (c .next-formula-end .result) (c .before .place-end .ensures) (c .next-formula-end .ensures))
 
 formula-end-returns-8 : (t : ℕ) → formula-end-lts.Need-returns-8 (formula-end-calls t) (formula-end-at t) formula-end.Post
-unfolding sort-of
 formula-end-returns-8 t c =
-    announced t (c .before .before .before .before) _ (c .next-formula-end .result) (c .before .before .enum-told7 .given .1)
-    (says-ends _ _ _ _ (c .before .place-end .result) (c .next-formula-end .result) (c .before .place-end .ensures) (c .next-formula-end .ensures))
+    announced t (c .before .before .before .before) _ (c .next-formula-end2 .result) (c .before .before .enum-told7 .given .1)
+    (at-ends _ _ _ _ (c .before .two-times-end .result) (c .next-formula-end2 .result) (c .before .two-times-end .ensures) (c .next-formula-end2 .ensures))
 
 formula-end-returns-9 : (t : ℕ) → formula-end-lts.Need-returns-9 (formula-end-calls t) (formula-end-at t) formula-end.Post
 formula-end-returns-9 t c =
-    announced t (c .before .before .before .before) _ (c .next-formula-end2 .result) (c .before .before .enum-told8 .given .1)
-    (at-ends _ _ _ _ (c .before .two-times-end .result) (c .next-formula-end2 .result) (c .before .two-times-end .ensures) (c .next-formula-end2 .ensures))
+    announced t (c .before .before .before) _ (c .arguments-end .result) (c .before .enum-told8 .given .1) (atom-ends _ _ _ _ (c .arguments-end .result) (c .arguments-end .ensures))
 
 formula-end-returns-10 : (t : ℕ) → formula-end-lts.Need-returns-10 (formula-end-calls t) (formula-end-at t) formula-end.Post
 formula-end-returns-10 t c =
-    announced t (c .before .before .before) _ (c .arguments-end .result) (c .before .enum-told9 .given .1) (atom-ends _ _ _ _ (c .arguments-end .result) (c .arguments-end .ensures))
+    announced t (c .before .before .before) _ (c .arguments-end2 .result) (c .before .enum-told9 .given .1) (fact-ends _ _ _ _ (c .arguments-end2 .result) (c .arguments-end2 .ensures))
 
 formula-end-returns-11 : (t : ℕ) → formula-end-lts.Need-returns-11 (formula-end-calls t) (formula-end-at t) formula-end.Post
 formula-end-returns-11 t c =
-    announced t (c .before .before .before) _ (c .arguments-end2 .result) (c .before .enum-told10 .given .1) (fact-ends _ _ _ _ (c .arguments-end2 .result) (c .arguments-end2 .ensures))
+    announced t (c .before .before .before) _ (c .two-times-end2 .result) (c .before .enum-told10 .given .1) (order-ends _ _ _ _ (c .two-times-end2 .result) (c .two-times-end2 .ensures))
 
 formula-end-returns-12 : (t : ℕ) → formula-end-lts.Need-returns-12 (formula-end-calls t) (formula-end-at t) formula-end.Post
 formula-end-returns-12 t c =
-    announced t (c .before .before .before) _ (c .two-times-end2 .result) (c .before .enum-told11 .given .1) (order-ends _ _ _ _ (c .two-times-end2 .result) (c .two-times-end2 .ensures))
+    announced t (c .before .before .before) _ (c .sides-end3 .result) (c .before .enum-told11 .given .1) (or-ends _ _ _ _ (c .sides-end3 .result) (c .sides-end3 .ensures))
 
 formula-end-returns-13 : (t : ℕ) → formula-end-lts.Need-returns-13 (formula-end-calls t) (formula-end-at t) formula-end.Post
-formula-end-returns-13 t c =
-    announced t (c .before .before .before) _ (c .sides-end3 .result) (c .before .enum-told12 .given .1) (or-ends _ _ _ _ (c .sides-end3 .result) (c .sides-end3 .ensures))
+formula-end-returns-13 t c = announced t (c .before .before) _ (At _) (c .enum-told12 .given .1) (falsity-ends _ _ _ _)
 
 formula-end-returns-14 : (t : ℕ) → formula-end-lts.Need-returns-14 (formula-end-calls t) (formula-end-at t) formula-end.Post
-formula-end-returns-14 t c = announced t (c .before .before) _ (At _) (c .enum-told13 .given .1) (falsity-ends _ _ _ _)
-
-formula-end-returns-15 : (t : ℕ) → formula-end-lts.Need-returns-15 (formula-end-calls t) (formula-end-at t) formula-end.Post
-formula-end-returns-15 t c = announced t (c .before .before) NoFormulaTag Nowhere (c .enum-told14 .given .1) (no-formula _ _ _ _)
+formula-end-returns-14 t c = announced t (c .before .before) NoFormulaTag Nowhere (c .enum-told13 .given .1) (no-formula _ _ _ _)
 
 -- ── A formula after something else ──
 
@@ -317,38 +258,35 @@ pub +body-end+formula-end+next-formula-end+sides-end-spec : {M : Type 1} → sta
     (body-end-returns-2 t))
     (λ t. formula-end-lts.spec (formula-end-calls t) (formula-end-at t) formula-end.Post
     (formula-end-returns t)
-    (formula-end-byte-at-requires t)
-    (formula-end-enum-known-byte t)
-    (formula-end-enum-told t)
-    (formula-end-returns-2 t)
-    (formula-end-sub-below t)
-    (formula-end-cast-formula-tag t)
-    (formula-end-formula-tag-requires t)
-    (formula-end-enum-told-2 t)
-    (formula-end-enum-told-3 t)
+    (λ c. search needs)
+    (λ c κs. search needs)
+    (λ c κs. search needs)
+    (λ c. search needs)
+    (λ c. search needs)
     (formula-end-sides-end-requires t)
-    (formula-end-enum-told-4 t)
+    (λ c. search needs)
     (formula-end-sides-end-requires-2 t)
-    (formula-end-enum-told-5 t)
+    (λ c. search needs)
     (formula-end-body-end-requires t)
-    (formula-end-enum-told-6 t)
+    (λ c. search needs)
     (formula-end-body-end-requires-2 t)
-    (formula-end-enum-told-7 t)
+    (λ c. search needs)
     (formula-end-place-end-requires t)
     (formula-end-next-formula-end-requires t)
-    (formula-end-enum-told-8 t)
+    (λ c. search needs)
     (formula-end-two-times-end-requires t)
     (formula-end-next-formula-end-requires-2 t)
-    (formula-end-enum-told-9 t)
+    (λ c. search needs)
     (formula-end-arguments-end-requires t)
-    (formula-end-enum-told-10 t)
+    (λ c. search needs)
     (formula-end-arguments-end-requires-2 t)
-    (formula-end-enum-told-11 t)
+    (λ c. search needs)
     (formula-end-two-times-end-requires-2 t)
-    (formula-end-enum-told-12 t)
+    (λ c. search needs)
     (formula-end-sides-end-requires-3 t)
     (λ c. search needs)
     (λ c. search needs)
+    (formula-end-returns-2 t)
     (formula-end-returns-3 t)
     (formula-end-returns-4 t)
     (formula-end-returns-5 t)
@@ -360,8 +298,7 @@ pub +body-end+formula-end+next-formula-end+sides-end-spec : {M : Type 1} → sta
     (formula-end-returns-11 t)
     (formula-end-returns-12 t)
     (formula-end-returns-13 t)
-    (formula-end-returns-14 t)
-    (formula-end-returns-15 t))
+    (formula-end-returns-14 t))
     (λ t. next-formula-end-lts.spec (next-formula-end-calls t) (next-formula-end-at t) next-formula-end.Post
     (next-formula-end-enum-known-before t)
     (next-formula-end-formula-end-requires t)
