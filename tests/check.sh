@@ -115,6 +115,9 @@ presses trainee_in_march 1772323199 /dev/null 'refused=9\nplace=0\n'
 presses trainee_in_march 1775001599 /dev/null 'open\n'
 presses trainee_in_march 1775001600 /dev/null 'refused=9\nplace=0\n'
 presses trainee_in_march 1780272000 /dev/null 'refused=9\nplace=0\n'
+# By cases the facts of both are wanted, whichever blender is on duty.
+presses whoever_is_on_duty 1500 examples/loaded_and_idle.state 'open\n'
+presses whoever_is_on_duty 1500 examples/loaded.state 'refused=10\nplace=1\n'
 presses no_moment_left 1500 examples/loaded.state 'refused=12\nplace=0\n'
 # What is no number is no press, in none of the four places: the status is 2, and nothing is said of the door.
 for word in x '' -1 ' 7' 7x 0x7 18446744073709551616; do

@@ -68,7 +68,7 @@ tags_without_entry() { not_in "$scratch/entries" < "$scratch/tags"; }
 points_missing() { each '\b[DE][0-9]+\b' "${PAGES[@]}" | sort -u | not_in "$scratch/entries"; }
 codes_on_page() { awk -v wanted="## $1" '/^## / { here = ($0 == wanted) } here && /^\| [0-9A-F][0-9A-F]?[ |]/ { print $2 }' $SCOPE; }
 tags_defined() { each 'eqb b 0x[0-9a-f]{2}' crates/bl/specs/Tags.antt crates/procap/specs/Bytes.antt | each '..$' | tr a-f A-F; }
-steps_defined() { tags_defined | each '^2.'; }
+steps_defined() { tags_defined | each '^[23].'; }
 numbers_explained() { each '^\| \*\*[0-9]+\*\*' docs/ANSWERS.md | each '[0-9]+'; }
 limits_on_page() { sed -nE '/^## Limits/,/^## Presses/s/^\| .* \| ([0-9,]+) \| `([^:]+): ([^`]+)` \|$/\2: \3 = \1/p' $SCOPE | tr -d ','; }
 limits_defined() {
