@@ -2,19 +2,17 @@
 use crate::judge::Checked;
 use crate::judge::Inferred;
 use crate::judge::Inside;
-use crate::judge::Shell;
-use crate::judge::sides_of;
+use crate::judge::Sides;
 use crate::rows::Row;
 use crate::rows::Whose;
 use bl::FormulaTag;
 use formula::parts::FormulaAt;
 use formula::parts::Judgement;
 use formula::parts::is_a;
-use ledger::Ledger;
 use procap::time::TimeNumbers;
 ghost use mathlib.Core.Path.{_≡_};
 ghost use Rattle.judging.specs.Judging.{«plain-side»};
-ghost use Rattle.judging.specs.StepPromises.{TakesInside, ChecksFalsity};
+ghost use Rattle.judging.specs.StepPromises.{ChecksFalsity};
 
 // The side of a formula that begins at a place, as a plain assumption on an interval.
 pub fn side_on(judgement: Judgement, at: usize, from: TimeNumbers, to: TimeNumbers) -> Row
@@ -37,31 +35,16 @@ pub fn side_on(judgement: Judgement, at: usize, from: TimeNumbers, to: TimeNumbe
     }
 }
 
-// 2E: the left side of an "or", on the same interval.
-pub(crate) fn left_of(bytes: &[u8], offset: usize, judgement: Judgement, ledger: Ledger) -> Inside
-    ensures { λ r. ⌜ TakesInside (now (bytes .entry)) offset Shell.LeftShell judgement ledger r ⌝ }
+// 2E and 2F: the side of an "or" that begins at a place, on the same interval.
+pub(crate) fn side_inside(judgement: Judgement, sides: Sides, at: usize) -> Inside
+    ensures { λ r. ⌜ r ≡ record { ledger = sides .ledger; row = «plain-side» judgement at (judgement .from) (judgement .to) } ⌝ }
 {
-    let sides = sides_of(bytes, offset, FormulaTag::OrTag, judgement, ledger);
-    let after_sides = sides.ledger;
+    let ledger = sides.ledger;
     let from = judgement.from;
     let to = judgement.to;
     Inside {
-        ledger: after_sides,
-        row: side_on(judgement, sides.first, from, to),
-    }
-}
-
-// 2F: the right side of an "or", on the same interval.
-pub(crate) fn right_of(bytes: &[u8], offset: usize, judgement: Judgement, ledger: Ledger) -> Inside
-    ensures { λ r. ⌜ TakesInside (now (bytes .entry)) offset Shell.RightShell judgement ledger r ⌝ }
-{
-    let sides = sides_of(bytes, offset, FormulaTag::OrTag, judgement, ledger);
-    let after_sides = sides.ledger;
-    let from = judgement.from;
-    let to = judgement.to;
-    Inside {
-        ledger: after_sides,
-        row: side_on(judgement, sides.second, from, to),
+        ledger: ledger,
+        row: side_on(judgement, at, from, to),
     }
 }
 

@@ -1,6 +1,5 @@
 // What one step makes of a goal, or of what its parts inferred. Nothing here looks at other steps.
-use crate::either::left_of;
-use crate::either::right_of;
+use crate::either::side_inside;
 use crate::rows::MOST_ROWS;
 use crate::rows::Row;
 use crate::rows::Whose;
@@ -487,8 +486,14 @@ pub fn inside_of(
     match shell {
         Shell::AtShell => lifted(bytes, offset, judgement, ledger),
         Shell::SaysShell => said(bytes, offset, judgement, ledger),
-        Shell::LeftShell => left_of(bytes, offset, judgement, ledger),
-        Shell::RightShell => right_of(bytes, offset, judgement, ledger),
+        Shell::LeftShell => {
+            let sides = sides_of(bytes, offset, FormulaTag::OrTag, judgement, ledger);
+            side_inside(judgement, sides, sides.first)
+        }
+        Shell::RightShell => {
+            let sides = sides_of(bytes, offset, FormulaTag::OrTag, judgement, ledger);
+            side_inside(judgement, sides, sides.second)
+        }
     }
 }
 

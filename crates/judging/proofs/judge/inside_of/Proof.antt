@@ -4,7 +4,7 @@ use mathlib.Core.Path.{refl}
 use native.Mathlib.Omega.{arith}
 use Rattle.bl.specs.Rules.{plain, claim}
 use Rattle.judging.specs.RowsOf.{is-plain, is-claim}
-use Rattle.judging.specs.Judging.{inside}
+use Rattle.judging.specs.Judging.{sides, TwoSided, inside}
 use Rattle.judging.proofs.JudgingLaws.{takes-then}
 use Rattle.judging.proofs.judge.inside_of.Statement.{statement}
 use Rattle.judging.proofs.judge.inside_of.Tie as tie
@@ -22,12 +22,19 @@ returns-2 c F m =
     (takes-then _ (λ x. claim (x .0) (x .1) _ _) refl (λ x so. is-claim (so .0) (so .1)) (c .said .ensures F m))
 
 returns-3 : tie.Need-returns-3
-returns-3 c F m = rw (c .before .enum-told3 .given .1) (c .left-of .ensures F m)
+unfolding inside sides TwoSided
+returns-3 c F m =
+    rw (c .before .before .enum-told3 .given .1, c .side-inside .ensures)
+    (takes-then _ (λ x. plain (x .0) _ _) refl (λ x on. is-plain refl (λ h. omega arith) (on .0)) (c .before .sides-of .ensures F tt m))
 
 returns-4 : tie.Need-returns-4
-returns-4 c F m = rw (c .before .enum-told4 .given .1) (c .right-of .ensures F m)
+unfolding inside sides TwoSided
+returns-4 c F m =
+    rw (c .before .before .enum-told4 .given .1, c .side-inside2 .ensures)
+    (takes-then _ (λ x. plain (x .1) _ _) refl (λ x on. is-plain refl (λ h. omega arith) (on .1)) (c .before .sides-of2 .ensures F tt m))
 
 pub inside-of-spec : {M : Type 1} → statement M
-inside-of-spec = tie.close
-    (tie.spec (λ c. search needs) (λ c κs. search needs) (λ c. search needs) (λ c κs. search needs) (λ c. search needs) (λ c κs. search needs) (λ c. search needs) (λ c κs. search needs)
-    returns returns-2 returns-3 returns-4)
+inside-of-spec =
+    tie.close
+    (tie.spec (λ c. search needs) (λ c κs. search needs) (λ c. search needs) (λ c κs. search needs) (λ c. search needs) (λ c κs. search needs) (λ c κs. search needs)
+    (λ c. search needs) (λ c κs. search needs) (λ c κs. search needs) returns returns-2 returns-3 returns-4)
