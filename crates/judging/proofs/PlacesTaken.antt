@@ -11,7 +11,7 @@ use Rattle.procap.specs.declared.time.Time.{Time}
 use Rattle.procap.specs.declared.bytes.FactRead.{FactRead}
 use Rattle.procap.specs.declared.fact.Term.{Term}
 use Rattle.procap.specs.declared.fact.Term.the-variants.{Name, When}
-use Rattle.bl.specs.declared.FormulaTag.the-variants.{SaysTag, AtTag, FactTag, OrderTag, OrTag, FalsityTag}
+use Rattle.bl.specs.declared.FormulaTag.the-variants.{SaysTag, AtTag, FactTag, OrderTag}
 use Rattle.bl.specs.Trees as tree
 use Rattle.bl.specs.Trees.{Sort, Formula, says, fact, fixed, bound}
 use Rattle.bl.specs.Formulas.{argument}

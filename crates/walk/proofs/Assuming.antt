@@ -1,5 +1,5 @@
 -- A part that is checked with one assumption more: its row was put past those that stand around, and those are kept.
-use Prim.Native.Nat.{ℕ, suc, _+_}
+use Prim.Native.Nat.{ℕ, suc}
 use mathlib.Core.Path.{_≡_}
 use mathlib.Core.List.{List, _∷_}
 use mathlib.Core.Option.{some}

@@ -1,5 +1,5 @@
 -- The steps that check, over bytes: what the code comes to in each branch is what the walk of the step that the reader finds there comes to.
-use Prim.Native.Nat.{ℕ, zero, suc, _+_, _≤_, _<_}
+use Prim.Native.Nat.{ℕ, zero, suc, _+_, _<_}
 use mathlib.Core.Path.{_≡_, refl, ap, _∙_}
 use mathlib.Core.List.{List, _∷_, map}
 use mathlib.Core.Option.{some}
