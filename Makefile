@@ -22,7 +22,7 @@ CARGO_MISSING := $(if $(shell command -v cargo),,yes)
 COMPARE := target/rust/release/compare
 BENCH := target/rust/release/bench
 # The deepest proofs that the limits allow.
-DEEPEST := examples/thirty_assumptions examples/thirty_implications examples/sixteen_facts
+DEEPEST := examples/thirty_assumptions examples/thirty_implications examples/thirty_cases examples/sixteen_facts
 # How many cases `make test` compares, and from which seed; how long `make fuzz` runs.
 CASES ?= 100000
 SEED ?= 1

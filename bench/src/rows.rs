@@ -27,7 +27,7 @@ enum From {
 
 /// The rows: presses with one fact and with sixteen; case P, three proofs of 30 steps, the deepest proofs and the longest. The seeds are the first
 /// that give such proofs and are issued.
-const PLANS: [(What, From); 14] = [
+const PLANS: [(What, From); 15] = [
     (What::DoorOnValue, From::Example("p")),
     (What::DoorOnText, From::Example("p")),
     (What::DoorOnValue, From::Example("sixteen_facts")),
@@ -38,6 +38,7 @@ const PLANS: [(What, From); 14] = [
     (What::Verify, From::Valid(1850)),
     (What::Verify, From::Example("thirty_implications")),
     (What::Verify, From::Example("thirty_assumptions")),
+    (What::Verify, From::Example("thirty_cases")),
     (What::Verify, From::Example("sixteen_facts")),
     (What::Verify, From::AtALimit(8)),
     (What::Verify, From::AtALimit(16)),
