@@ -1,6 +1,6 @@
 -- What falls at each call of the walk: the levels left, and at the same level the bytes left. A level counts as much as all bytes of the proof and one more.
 use Prim.Native.Nat.{ℕ, suc, _+_, _-_, _*_, _≤_, _<_}
-use mathlib.Core.Path.{_≡_, refl, sym, ap, _∙_}
+use mathlib.Core.Path.{_≡_, sym, ap, _∙_}
 use mathlib.Core.List.{List}
 use native.Mathlib.Omega.{arith}
 use native.Mathlib.Decide.{decLt}
@@ -25,11 +25,6 @@ part-falls all here at t more is =
 pub here-falls : (all : ℕ) (here part : Here) (at : ℕ) (ledger : Ledger) (place t : ℕ) → part ≡ record { scope = here .scope; at = at; ledger = ledger; left = here .left - 1 }
     → 0 < here .left → left-over (here .left) all (here .at + 1) ≡ t → left-over (part .left) all place < t
 here-falls all here part at ledger place t is more equal = rw is (part-falls all here place t more equal)
-
--- The same inside of the call that read the tag: there the tag is left besides.
-pub own-part-falls : (all : ℕ) (here part : Here) (at : ℕ) (ledger : Ledger) (place t : ℕ) → part ≡ record { scope = here .scope; at = at; ledger = ledger; left = here .left - 1 }
-    → 0 < here .left → left-over (here .left) all (here .at) ≡ t → left-over (part .left) all place < t
-own-part-falls all here part at ledger place t is more equal = omega (arith, here-falls all here part at ledger place _ is more refl)
 
 -- Where the tag is handed on, a byte less is left.
 pub tag-falls : (all : ℕ) (here : Here) (t : ℕ) → here .at < all → left-over (here .left) all (here .at) ≡ t → left-over (here .left) all (here .at + 1) < t

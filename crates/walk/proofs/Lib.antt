@@ -4,4 +4,4 @@ pub mod Falling
 pub mod Inferring
 pub mod Assuming
 pub mod Checking
-pub mod CheckingEither
+pub mod CheckingCases

@@ -5,7 +5,7 @@ use lib.ListN.{getD}
 use Rattle.procap.specs.Lent.{Lent}
 use Rattle.bl.specs.declared.InferTag.{InferTag}
 use Rattle.bl.specs.declared.CheckTag.{CheckTag}
-use Rattle.bl.specs.declared.CheckTag.the-variants.{PairTag, AtInTag, AtOutTag, SaysInTag, SaysOutTag, OrLeftTag, OrRightTag, OrOutTag}
+use Rattle.bl.specs.declared.CheckTag.the-variants.{PairTag, AtInTag, AtOutTag, SaysInTag, SaysOutTag, OrLeftTag, OrRightTag, OrOutTag, FalsityOutTag}
 use Rattle.bl.specs.Tags.{infer-tag}
 use Rattle.formula.specs.declared.parts.Judgement.{Judgement}
 use Rattle.judging.specs.declared.judge.Inferred.{Inferred}
@@ -13,6 +13,8 @@ use Rattle.judging.specs.declared.judge.Checked.{Checked}
 use Rattle.judging.specs.declared.judge.Shell.{Shell}
 use Rattle.judging.specs.declared.judge.Shell.the-variants.{AtShell, SaysShell, LeftShell, RightShell}
 use Rattle.walk.specs.declared.Here.{Here}
+use Rattle.walk.specs.declared.Cases.{Cases}
+use Rattle.walk.specs.declared.Cases.the-variants.{BothSides, NoCase}
 use Rattle.walk.specs.Walking.{Sources, Keeps, InfersAt, ChecksAt, ChecksBy}
 
 -- The slices that are lent all through.
@@ -30,6 +32,11 @@ pub data Puts : CheckTag → Shell → Type 0 where
 pub data TakesOut : CheckTag → Shell → Type 0 where
   takes-at : TakesOut AtOutTag AtShell
   takes-says : TakesOut SaysOutTag SaysShell
+
+-- The steps that go through the cases that are left.
+pub data Leaves : CheckTag → Cases → Type 0 where
+  leaves-both : Leaves OrOutTag BothSides
+  leaves-none : Leaves FalsityOutTag NoCase
 
 module _ (S : Sources) (facts assumptions : Lent) where
   -- A step that infers, of at most so many levels, by the tag that stands at its place.
@@ -53,16 +60,16 @@ module _ (S : Sources) (facts assumptions : Lent) where
     abbrev pub ChecksPair : Type 0
     ChecksPair = ChecksTagged PairTag
 
-    -- Both sides of an "or", each in its turn.
-    abbrev pub ChecksEither : Type 0
-    ChecksEither = ChecksTagged OrOutTag
-
     -- The step that puts a formula into a shell, and the one that takes it out.
     abbrev pub ChecksPut : Shell → Type 0
     ChecksPut shell = (tag : CheckTag) → Puts tag shell → ChecksTagged tag
 
     abbrev pub ChecksTaken : Shell → Type 0
     ChecksTaken shell = (tag : CheckTag) → TakesOut tag shell → ChecksTagged tag
+
+    -- The step that goes through the cases that are left.
+    abbrev pub ChecksCases : Cases → Type 0
+    ChecksCases cases = (tag : CheckTag) → Leaves tag cases → ChecksTagged tag
 
 -- The rows of the assumptions that stand around are kept.
 abbrev pub KeepsRows : Here → Lent → Type 0

@@ -35,7 +35,7 @@ use steps::infer_tag_at;
 use steps::term_at;
 ghost use mathlib.Core.Path.{_≡_};
 ghost use Prim.Native.Nat.{_-_, _<_};
-ghost use Rattle.walk.specs.WalkCalls.{sources, Infers, Checks, ChecksPair, ChecksPut, ChecksTaken, ChecksEither, KeepsRows};
+ghost use Rattle.walk.specs.WalkCalls.{sources, Infers, Checks, ChecksPair, ChecksPut, ChecksTaken, ChecksCases, KeepsRows};
 
 // Where the walk stands: in which scope, at which step, with what ledger, and how many levels are left there.
 pub struct Here {
@@ -43,6 +43,12 @@ pub struct Here {
     pub at: usize,
     pub ledger: Ledger,
     pub left: u64,
+}
+
+// The cases that what was inferred leaves: the two sides of an "or"; or none, where it is falsity.
+pub enum Cases {
+    BothSides,
+    NoCase,
 }
 
 impl Here {
@@ -129,12 +135,8 @@ pub fn check(
         CheckTag::OrderStepTag => Checked { ledger: order(goal_bytes, at, goal, ledger), next: past(proof, at) },
         CheckTag::OrLeftTag => put_in(buffer, proof, state, certificates, ends, facts, assumptions, Shell::LeftShell, goal_bytes, goal, here),
         CheckTag::OrRightTag => put_in(buffer, proof, state, certificates, ends, facts, assumptions, Shell::RightShell, goal_bytes, goal, here),
-        CheckTag::OrOutTag => either(buffer, proof, state, certificates, ends, facts, assumptions, goal_bytes, goal, here),
-        CheckTag::FalsityOutTag => {
-            let begin = past(proof, at);
-            let inferred = infer(buffer, proof, state, certificates, ends, facts, assumptions, infer_tag_at(proof, begin), here.part(begin, ledger));
-            from_falsity(buffer, at, inferred)
-        }
+        CheckTag::OrOutTag => by_cases(buffer, proof, state, certificates, ends, facts, assumptions, Cases::BothSides, goal_bytes, goal, here),
+        CheckTag::FalsityOutTag => by_cases(buffer, proof, state, certificates, ends, facts, assumptions, Cases::NoCase, goal_bytes, goal, here),
         CheckTag::InferredTag => {
             let inferred = infer(buffer, proof, state, certificates, ends, facts, assumptions, infer_tag_at(proof, at), here);
             checked_by(buffer, goal_bytes, at, inferred, goal)
@@ -222,14 +224,14 @@ fn take_out(
     check(buffer, proof, state, certificates, ends, facts, assumptions, goal_bytes, goal, inner)
 }
 
-// 30: each side of the "or" that was inferred shows the goal, as a plain assumption on the interval of the "or".
+// 30 and 31: the goal is shown in each case that what was inferred leaves: with a side of an "or" as a plain assumption on its interval.
 #[rattlefmt::skip]
-fn either(
+fn by_cases(
     buffer: &[u8], proof: &[u8], state: &[u8], certificates: &[u64], ends: &[u16], facts: &mut [u64], assumptions: &mut [u64],
-    goal_bytes: &[u8], goal: Judgement, here: Here,
+    cases: Cases, goal_bytes: &[u8], goal: Judgement, here: Here,
 ) -> Checked
     requires { ⌜ 0 < here .left ⌝ }
-    ensures walks { λ r. ⌜ ChecksEither (sources buffer proof state certificates ends) facts assumptions «goal_bytes» goal here r ⌝ }
+    ensures walks { λ r. ⌜ ChecksCases (sources buffer proof state certificates ends) facts assumptions «goal_bytes» goal here r cases ⌝ }
     ensures keeps { λ _. ⌜ KeepsRows here assumptions ⌝ }
 {
     let scope = here.scope;
@@ -237,6 +239,10 @@ fn either(
     let ledger = here.ledger;
     let begin = past(proof, at);
     let inferred = infer(buffer, proof, state, certificates, ends, facts, assumptions, infer_tag_at(proof, begin), here.part(begin, ledger));
+    match cases {
+        Cases::NoCase => return from_falsity(buffer, at, inferred),
+        Cases::BothSides => {}
+    }
     let sides = sides_inferred(buffer, at, FormulaTag::OrTag, inferred);
     let after_sides = sides.ledger;
     if !after_sides.goes_on() {

@@ -1,28 +1,28 @@
--- The walk over a proof, in one cycle of calls: each answer is a law of Inferring, Checking or CheckingEither, over what the calls before it promise.
+-- The walk over a proof, in one cycle of calls: each answer is a law of Inferring, Checking or CheckingCases, over what the calls before it promise.
 -- Each call keeps the rows below its count, so what stood around the first call of a step stands around its second.
 -- What falls at each call is what is left of levels and bytes (Falling).
 
 use Prim.Native.Nat.{ℕ, _<_}
 use borrow.Fn.Kinds.{In}
 use borrow.Fn.PlainCycle.{Measures, is, falls, and}
+use Rattle.walk.proofs.by_cases.Reads as by-cases
+use Rattle.walk.proofs.by_cases.Kinds as by-cases-kinds
+use Rattle.walk.proofs.+by_cases+check+infer+pair+put_in+take_out.Lts-by_cases as by-cases-lts
 use Rattle.walk.proofs.check.Reads as check
 use Rattle.walk.proofs.check.Kinds as check-kinds
-use Rattle.walk.proofs.+check+either+infer+pair+put_in+take_out.Lts-check as check-lts
-use Rattle.walk.proofs.either.Reads as either
-use Rattle.walk.proofs.either.Kinds as either-kinds
-use Rattle.walk.proofs.+check+either+infer+pair+put_in+take_out.Lts-either as either-lts
+use Rattle.walk.proofs.+by_cases+check+infer+pair+put_in+take_out.Lts-check as check-lts
 use Rattle.walk.proofs.infer.Reads as infer
 use Rattle.walk.proofs.infer.Kinds as infer-kinds
-use Rattle.walk.proofs.+check+either+infer+pair+put_in+take_out.Lts-infer as infer-lts
+use Rattle.walk.proofs.+by_cases+check+infer+pair+put_in+take_out.Lts-infer as infer-lts
 use Rattle.walk.proofs.pair.Reads as pair
 use Rattle.walk.proofs.pair.Kinds as pair-kinds
-use Rattle.walk.proofs.+check+either+infer+pair+put_in+take_out.Lts-pair as pair-lts
+use Rattle.walk.proofs.+by_cases+check+infer+pair+put_in+take_out.Lts-pair as pair-lts
 use Rattle.walk.proofs.put_in.Reads as put-in
 use Rattle.walk.proofs.put_in.Kinds as put-in-kinds
-use Rattle.walk.proofs.+check+either+infer+pair+put_in+take_out.Lts-put_in as put-in-lts
+use Rattle.walk.proofs.+by_cases+check+infer+pair+put_in+take_out.Lts-put_in as put-in-lts
 use Rattle.walk.proofs.take_out.Reads as take-out
 use Rattle.walk.proofs.take_out.Kinds as take-out-kinds
-use Rattle.walk.proofs.+check+either+infer+pair+put_in+take_out.Lts-take_out as take-out-lts
+use Rattle.walk.proofs.+by_cases+check+infer+pair+put_in+take_out.Lts-take_out as take-out-lts
 use Rattle.judging.proofs.either.from_falsity.Reads as from-falsity-reads
 use Rattle.judging.proofs.either.side_on.Reads as side-on-reads
 use Rattle.judging.proofs.judge.Scope.inside.Reads as inside-reads
@@ -51,8 +51,8 @@ use Rattle.steps.proofs.ends.end_in.Reads as end-in-reads
 use Rattle.steps.proofs.infer_tag_at.Reads as infer-tag-at-reads
 use Rattle.steps.proofs.term_at.Reads as term-at-reads
 use Rattle.walk.proofs.Here.part.Reads as part-reads
-use Rattle.walk.proofs.+check+either+infer+pair+put_in+take_out.{statement}
-use Rattle.walk.proofs.+check+either+infer+pair+put_in+take_out.Tie.{close}
+use Rattle.walk.proofs.+by_cases+check+infer+pair+put_in+take_out.{statement}
+use Rattle.walk.proofs.+by_cases+check+infer+pair+put_in+take_out.Tie.{close}
 use Prim.Native.Nat.{suc, _+_, _-_}
 use mathlib.Core.Path.{_≡_, sym, ap, _∙_}
 use native.Mathlib.Omega.{arith}
@@ -61,23 +61,23 @@ use mathlib.Core.List.{List}
 use lib.ListN.{length, getD}
 use Rattle.procap.proofs.Telling.{holds-else, fails-where}
 use Rattle.steps.proofs.TermsGiven.{term-found}
-use Rattle.bl.specs.declared.CheckTag.the-variants.{AtInTag, AtOutTag, SaysInTag, SaysOutTag, OrLeftTag, OrRightTag}
+use Rattle.bl.specs.declared.CheckTag.the-variants.{AtInTag, AtOutTag, SaysInTag, SaysOutTag, OrLeftTag, OrRightTag, OrOutTag, FalsityOutTag}
 use Rattle.bl.specs.declared.CheckTag.{CheckTag}
 use Rattle.bl.specs.Tags.{check-tag}
 use Rattle.judging.specs.declared.judge.Checked.{Checked}
 use Rattle.walk.specs.Walking.{Sources, ChecksAt, ChecksBy}
-use Rattle.walk.specs.WalkCalls.{puts-at, puts-says, puts-left, puts-right, takes-at, takes-says}
-use Rattle.walk.proofs.Falling.{left-over, part-falls, here-falls, own-part-falls, tag-falls, IsTag, tag-inside}
+use Rattle.walk.specs.WalkCalls.{puts-at, puts-says, puts-left, puts-right, takes-at, takes-says, leaves-both, leaves-none}
+use Rattle.walk.proofs.Falling.{left-over, part-falls, here-falls, tag-falls, IsTag, tag-inside}
 use Rattle.walk.proofs.Surroundings.{keeps-same, keeps-then, keeps-assumed, keeps-inside, checks-kept}
 use Rattle.walk.proofs.Inferring.{infer-none, infer-tagged, infer-local, infer-certificate, infer-no-tag, infer-first, infer-second, infer-instance, infer-apply-stopped, infer-apply}
 use Rattle.walk.proofs.Checking.{ChecksItself, check-none, check-tagged, check-inferred, check-no-tag, check-trivial, check-state, check-order, check-pair-unfit, check-pair-stopped, check-pair, check-put-unfit, check-put, check-take-stopped, check-take}
-use Rattle.walk.proofs.CheckingEither.{check-falsity, check-either-unfit, check-either-stopped, check-either}
+use Rattle.walk.proofs.CheckingCases.{both-left, none-left, check-falsity, check-cases-unfit, check-cases-stopped, check-cases}
+
+abbrev μ-by-cases : Measures 8 by-cases-kinds.ps ℕ
+μ-by-cases κs a = left-over (a .1 .1 .1 .1 .1 .1 .1 .1 .1 .1 .0 .left) (length (a .1 .0 .now)) (a .1 .1 .1 .1 .1 .1 .1 .1 .1 .1 .0 .at + 1)
 
 abbrev μ-check : Measures 8 check-kinds.ps ℕ
 μ-check κs a = left-over (a .1 .1 .1 .1 .1 .1 .1 .1 .1 .0 .left) (length (a .1 .0 .now)) (a .1 .1 .1 .1 .1 .1 .1 .1 .1 .0 .at)
-
-abbrev μ-either : Measures 8 either-kinds.ps ℕ
-μ-either κs a = left-over (a .1 .1 .1 .1 .1 .1 .1 .1 .1 .0 .left) (length (a .1 .0 .now)) (a .1 .1 .1 .1 .1 .1 .1 .1 .1 .0 .at + 1)
 
 abbrev μ-infer : Measures 7 infer-kinds.ps ℕ
 μ-infer κs a = left-over (a .1 .1 .1 .1 .1 .1 .1 .1 .0 .left) (length (a .1 .0 .now)) (a .1 .1 .1 .1 .1 .1 .1 .1 .0 .at + 1)
@@ -91,17 +91,17 @@ abbrev μ-put-in : Measures 8 put-in-kinds.ps ℕ
 abbrev μ-take-out : Measures 8 take-out-kinds.ps ℕ
 μ-take-out κs a = left-over (a .1 .1 .1 .1 .1 .1 .1 .1 .1 .1 .0 .left) (length (a .1 .0 .now)) (a .1 .1 .1 .1 .1 .1 .1 .1 .1 .1 .0 .at + 1)
 
+abbrev by-cases-at : ℕ → In 8 by-cases-kinds.ps
+by-cases-at t = and 8 by-cases-kinds.ps (is 8 by-cases-kinds.ps μ-by-cases t) by-cases.Pre
+
+abbrev by-cases-below : ℕ → In 8 by-cases-kinds.ps
+by-cases-below t = and 8 by-cases-kinds.ps (falls 8 by-cases-kinds.ps _<_ μ-by-cases t) by-cases.Pre
+
 abbrev check-at : ℕ → In 8 check-kinds.ps
 check-at t = and 8 check-kinds.ps (is 8 check-kinds.ps μ-check t) check.Pre
 
 abbrev check-below : ℕ → In 8 check-kinds.ps
 check-below t = and 8 check-kinds.ps (falls 8 check-kinds.ps _<_ μ-check t) check.Pre
-
-abbrev either-at : ℕ → In 8 either-kinds.ps
-either-at t = and 8 either-kinds.ps (is 8 either-kinds.ps μ-either t) either.Pre
-
-abbrev either-below : ℕ → In 8 either-kinds.ps
-either-below t = and 8 either-kinds.ps (falls 8 either-kinds.ps _<_ μ-either t) either.Pre
 
 abbrev infer-at : ℕ → In 7 infer-kinds.ps
 infer-at t = and 7 infer-kinds.ps (is 7 infer-kinds.ps μ-infer t) infer.Pre
@@ -127,11 +127,11 @@ take-out-at t = and 8 take-out-kinds.ps (is 8 take-out-kinds.ps μ-take-out t) t
 abbrev take-out-below : ℕ → In 8 take-out-kinds.ps
 take-out-below t = and 8 take-out-kinds.ps (falls 8 take-out-kinds.ps _<_ μ-take-out t) take-out.Pre
 
-abbrev check-calls : ℕ → check-lts.Claims
-check-calls t = (misfit-reads.Asked, misfit-reads.Learnt, check-tag-at-reads.Asked, check-tag-at-reads.Learnt, pair-below t, pair.Post, top-reads.Asked, top-reads.Learnt, past-reads.Asked, past-reads.Learnt, put-in-below t, put-in.Post, take-out-below t, take-out.Post, state-fact-reads.Asked, state-fact-reads.Learnt, order-reads.Asked, order-reads.Learnt, either-below t, either.Post, infer-tag-at-reads.Asked, infer-tag-at-reads.Learnt, part-reads.Asked, part-reads.Learnt, infer-below t, infer.Post, from-falsity-reads.Asked, from-falsity-reads.Learnt, checked-by-reads.Asked, checked-by-reads.Learnt)
+abbrev by-cases-calls : ℕ → by-cases-lts.Claims
+by-cases-calls t = (past-reads.Asked, past-reads.Learnt, infer-tag-at-reads.Asked, infer-tag-at-reads.Learnt, part-reads.Asked, part-reads.Learnt, infer-below t, infer.Post, from-falsity-reads.Asked, from-falsity-reads.Learnt, sides-inferred-reads.Asked, sides-inferred-reads.Learnt, goes-on-reads.Asked, goes-on-reads.Learnt, side-on-reads.Asked, side-on-reads.Learnt, assume-reads.Asked, assume-reads.Learnt, check-below t, check.Post)
 
-abbrev either-calls : ℕ → either-lts.Claims
-either-calls t = (past-reads.Asked, past-reads.Learnt, infer-tag-at-reads.Asked, infer-tag-at-reads.Learnt, part-reads.Asked, part-reads.Learnt, infer-below t, infer.Post, sides-inferred-reads.Asked, sides-inferred-reads.Learnt, goes-on-reads.Asked, goes-on-reads.Learnt, side-on-reads.Asked, side-on-reads.Learnt, assume-reads.Asked, assume-reads.Learnt, check-below t, check.Post)
+abbrev check-calls : ℕ → check-lts.Claims
+check-calls t = (misfit-reads.Asked, misfit-reads.Learnt, check-tag-at-reads.Asked, check-tag-at-reads.Learnt, pair-below t, pair.Post, top-reads.Asked, top-reads.Learnt, past-reads.Asked, past-reads.Learnt, put-in-below t, put-in.Post, take-out-below t, take-out.Post, state-fact-reads.Asked, state-fact-reads.Learnt, order-reads.Asked, order-reads.Learnt, by-cases-below t, by-cases.Post, infer-tag-at-reads.Asked, infer-tag-at-reads.Learnt, infer-below t, infer.Post, checked-by-reads.Asked, checked-by-reads.Learnt)
 
 abbrev infer-calls : ℕ → infer-lts.Claims
 infer-calls t = (misfit-reads.Asked, misfit-reads.Learnt, nothing-reads.Asked, nothing-reads.Learnt, past-reads.Asked, past-reads.Learnt, local-reads.Asked, local-reads.Learnt, certificate-reads.Asked, certificate-reads.Learnt, infer-tag-at-reads.Asked, infer-tag-at-reads.Learnt, part-reads.Asked, part-reads.Learnt, infer-below t, infer.Post, first-reads.Asked, first-reads.Learnt, second-reads.Asked, second-reads.Learnt, end-in-reads.Asked, end-in-reads.Learnt, put-to-use-reads.Asked, put-to-use-reads.Learnt, goes-on-reads.Asked, goes-on-reads.Learnt, check-below t, check.Post, part-at-reads.Asked, part-at-reads.Learnt, term-at-reads.Asked, term-at-reads.Learnt, instance-reads.Asked, instance-reads.Learnt)
@@ -144,6 +144,144 @@ put-in-calls t = (inside-of-reads.Asked, inside-of-reads.Learnt, goes-on-reads.A
 
 abbrev take-out-calls : ℕ → take-out-lts.Claims
 take-out-calls t = (past-reads.Asked, past-reads.Learnt, infer-tag-at-reads.Asked, infer-tag-at-reads.Learnt, part-reads.Asked, part-reads.Learnt, infer-below t, infer.Post, inside-inferred-reads.Asked, inside-inferred-reads.Learnt, goes-on-reads.Asked, goes-on-reads.Learnt, assume-reads.Asked, assume-reads.Learnt, check-below t, check.Post)
+
+-- ── by_cases ──
+
+by-cases-part-requires : (t : ℕ) → by-cases-lts.Need-part-requires (by-cases-calls t) (by-cases-at t) by-cases.Post
+by-cases-part-requires t c κs =
+    let start = c .before .before .before .before .before .before .before .before .before .before .before .before .before .before in
+    start .pre .1
+
+by-cases-infer-requires : (t : ℕ) → by-cases-lts.Need-infer-requires (by-cases-calls t) (by-cases-at t) by-cases.Post
+by-cases-infer-requires t c κs =
+    let start = c .before .before .before .before .before .before .before .before .before .before .before .before .before .before .before in
+    (here-falls _ (start .args .here) _ _ _ _ _ (c .part .ensures) (start .pre .1) (start .pre .0), tt)
+
+by-cases-returns : (t : ℕ) → by-cases-lts.Need-returns (by-cases-calls t) (by-cases-at t) by-cases.Post
+by-cases-returns t c =
+    let after-enum-told = c .before in
+    let after-infer = after-enum-told .before .before .before .before .before .before in
+    let after-part = after-infer .before in
+    let after-infer-tag-at = after-part .before in
+    let after-past = after-infer-tag-at .before .before .before in
+    let infers = rw (after-part .part .ensures) at (after-infer .infer .ensures .0) in (
+      none-left _ _ _ _ _ _ _ _ _ (after-enum-told .enum-told .given .1) (check-falsity _ _ _ _ _ _ _ _ _ (after-past .past .ensures .0) (infers (after-infer-tag-at .infer-tag-at .ensures)) (c .from-falsity .ensures)),
+      (rw (after-part .part .ensures) at (after-infer .infer .ensures .1)),
+    )
+
+by-cases-returns-2 : (t : ℕ) → by-cases-lts.Need-returns-2 (by-cases-calls t) (by-cases-at t) by-cases.Post
+by-cases-returns-2 t c =
+    let after-goes-on = c .before in
+    let after-sides = after-goes-on .before .before in
+    let after-infer = after-sides .before .before .before .before .before .before .before in
+    let after-part = after-infer .before in
+    let after-infer-tag-at = after-part .before in
+    let after-past = after-infer-tag-at .before .before .before in
+    let both = after-sides .before .enum-told2 .given .1 in
+    let infers = rw (after-part .part .ensures) at (after-infer .infer .ensures .0) in (
+      both-left _ _ _ _ _ _ _ _ _ both (check-cases-unfit _ _ _ _ _ _ _ _ _ (after-past .past .ensures .0) (infers (after-infer-tag-at .infer-tag-at .ensures)) (after-sides .sides-inferred .ensures .0) (after-sides .sides-inferred .ensures .1)
+          (fails-where (after-goes-on .goes-on .result) (c .if1 .taken) (after-goes-on .goes-on .ensures))),
+      (rw (after-part .part .ensures) at (after-infer .infer .ensures .1)),
+    )
+
+by-cases-sub-left : (t : ℕ) → by-cases-lts.Need-sub-left (by-cases-calls t) (by-cases-at t) by-cases.Post
+by-cases-sub-left t c =
+    let start = c .before .before .before .before .before .before .before .before .before .before .before .before .before .before .before .before .before .before .before .before .before .before .before .before .before .before .before .before .before .before in
+    omega (arith, start .pre .1)
+
+by-cases-check-requires : (t : ℕ) → by-cases-lts.Need-check-requires (by-cases-calls t) (by-cases-at t) by-cases.Post
+by-cases-check-requires t c κs =
+    let start = c .before .before .before .before .before .before .before .before .before .before .before .before .before .before .before .before .before .before .before .before .before .before .before .before .before .before .before .before .before .before .before .before .before .before .before .before .before in
+    (part-falls _ (start .args .here) _ _ (start .pre .1) (start .pre .0), tt)
+
+by-cases-same-length-5 : (t : ℕ) → by-cases-lts.Need-same-length-5 (by-cases-calls t) (by-cases-at t) by-cases.Post
+by-cases-same-length-5 t c =
+    let after-check = c .before .before .before .before .before .before .before in
+    let after-infer = after-check .before .before .before .before .before .before .before .before .before .before .before .before .before .before .before .before .before .before .before .before .before .before in
+    after-check .check .kept .1 .1 .1 .1 .1 .0 ∙ after-infer .infer .kept .1 .1 .1 .1 .1 .0
+
+by-cases-same-length-6 : (t : ℕ) → by-cases-lts.Need-same-length-6 (by-cases-calls t) (by-cases-at t) by-cases.Post
+by-cases-same-length-6 t c =
+    let after-check = c .before .before .before .before .before .before .before in
+    let after-assume = after-check .before .before .before .before .before in
+    let after-infer = after-assume .before .before .before .before .before .before .before .before .before .before .before .before .before .before .before .before .before in
+    after-check .check .kept .1 .1 .1 .1 .1 .1 .0 ∙ after-assume .assume .kept .0 ∙ after-infer .infer .kept .1 .1 .1 .1 .1 .1 .0
+
+by-cases-returns-3 : (t : ℕ) → by-cases-lts.Need-returns-3 (by-cases-calls t) (by-cases-at t) by-cases.Post
+by-cases-returns-3 t c =
+    let after-goes-on2 = c .before in
+    let after-check = after-goes-on2 .before .before .before .before .before .before in
+    let after-assume = after-check .before .before .before .before .before in
+    let after-side-on = after-assume .before in
+    let after-if1 = after-side-on .before .before .before .before .before .before in
+    let after-goes-on = after-if1 .before in
+    let after-sides = after-goes-on .before .before in
+    let after-infer = after-sides .before .before .before .before .before .before .before in
+    let after-part = after-infer .before in
+    let after-infer-tag-at = after-part .before in
+    let after-past = after-infer-tag-at .before .before .before in
+    let start = after-past .before .before .before .before .before .before .before .before .before .before .before in
+    let both = after-sides .before .enum-told2 .given .1 in
+    let infers = rw (after-part .part .ensures) at (after-infer .infer .ensures .0) in
+    let kept = rw (after-part .part .ensures) at (after-infer .infer .ensures .1) in
+    let put = rw (after-side-on .side-on .ensures) at (after-assume .assume .ensures .0) in (
+      both-left _ _ _ _ _ _ _ _ _ both (check-cases-stopped _ _ _ _ _ _ _ _ _ (after-past .past .ensures .0) (infers (after-infer-tag-at .infer-tag-at .ensures)) (after-sides .sides-inferred .ensures .0) (after-sides .sides-inferred .ensures .1)
+          (holds-else (after-goes-on .goes-on .result) (after-if1 .if1 .left) (after-goes-on .goes-on .ensures)) kept put (after-assume .assume .kept .0)
+          (rw (after-assume .assume .ensures .1) at (after-check .check .ensures .0)) (fails-where (after-goes-on2 .goes-on2 .result) (c .if2 .taken) (after-goes-on2 .goes-on2 .ensures))),
+      keeps-then kept (keeps-assumed (start .args .here .scope) _ _ put (after-assume .assume .kept .0) (rw (after-assume .assume .ensures .1) at (after-check .check .ensures .1))),
+    )
+
+by-cases-check-requires-2 : (t : ℕ) → by-cases-lts.Need-check-requires-2 (by-cases-calls t) (by-cases-at t) by-cases.Post
+by-cases-check-requires-2 t c κs =
+    let start = c .before .before .before .before .before .before .before .before .before .before .before .before .before .before .before .before .before .before .before .before .before .before .before .before .before .before .before .before .before .before .before .before .before .before .before .before .before .before .before .before .before .before .before .before .before .before .before .before .before .before .before .before in
+    (part-falls _ (start .args .here) _ _ (start .pre .1) (start .pre .0), tt)
+
+by-cases-same-length-7 : (t : ℕ) → by-cases-lts.Need-same-length-7 (by-cases-calls t) (by-cases-at t) by-cases.Post
+by-cases-same-length-7 t c =
+    let after-check2 = c .before .before .before .before in
+    let after-check = after-check2 .before .before .before .before .before .before .before .before .before .before .before .before .before .before .before in
+    let after-infer = after-check .before .before .before .before .before .before .before .before .before .before .before .before .before .before .before .before .before .before .before .before .before .before in
+    after-check2 .check2 .kept .1 .1 .1 .1 .1 .0 ∙ after-check .check .kept .1 .1 .1 .1 .1 .0 ∙ after-infer .infer .kept .1 .1 .1 .1 .1 .0
+
+by-cases-same-length-8 : (t : ℕ) → by-cases-lts.Need-same-length-8 (by-cases-calls t) (by-cases-at t) by-cases.Post
+by-cases-same-length-8 t c =
+    let after-check2 = c .before .before .before .before in
+    let after-assume2 = after-check2 .before .before .before .before .before in
+    let after-check = after-assume2 .before .before .before .before .before .before .before .before .before .before in
+    let after-assume = after-check .before .before .before .before .before in
+    let after-infer = after-assume .before .before .before .before .before .before .before .before .before .before .before .before .before .before .before .before .before in
+    after-check2 .check2 .kept .1 .1 .1 .1 .1 .1 .0 ∙ after-assume2 .assume2 .kept .0 ∙ after-check .check .kept .1 .1 .1 .1 .1 .1 .0 ∙ after-assume .assume .kept .0 ∙ after-infer .infer .kept .1 .1 .1 .1 .1 .1 .0
+
+by-cases-returns-4 : (t : ℕ) → by-cases-lts.Need-returns-4 (by-cases-calls t) (by-cases-at t) by-cases.Post
+by-cases-returns-4 t c =
+    let after-check2 = c .before .before .before .before in
+    let after-assume2 = after-check2 .before .before .before .before .before in
+    let after-side-on2 = after-assume2 .before in
+    let after-if2 = after-side-on2 .before .before in
+    let after-goes-on2 = after-if2 .before in
+    let after-check = after-goes-on2 .before .before .before .before .before .before in
+    let after-assume = after-check .before .before .before .before .before in
+    let after-side-on = after-assume .before in
+    let after-if1 = after-side-on .before .before .before .before .before .before in
+    let after-goes-on = after-if1 .before in
+    let after-sides = after-goes-on .before .before in
+    let after-infer = after-sides .before .before .before .before .before .before .before in
+    let after-part = after-infer .before in
+    let after-infer-tag-at = after-part .before in
+    let after-past = after-infer-tag-at .before .before .before in
+    let start = after-past .before .before .before .before .before .before .before .before .before .before .before in
+    let both = after-sides .before .enum-told2 .given .1 in
+    let infers = rw (after-part .part .ensures) at (after-infer .infer .ensures .0) in
+    let kept = rw (after-part .part .ensures) at (after-infer .infer .ensures .1) in
+    let put = rw (after-side-on .side-on .ensures) at (after-assume .assume .ensures .0) in
+    let put2 = rw (after-side-on2 .side-on2 .ensures) at (after-assume2 .assume2 .ensures .0) in
+    let kept2 = keeps-then kept (keeps-assumed (start .args .here .scope) _ _ put (after-assume .assume .kept .0) (rw (after-assume .assume .ensures .1) at (after-check .check .ensures .1))) in (
+      both-left _ _ _ _ _ _ _ _ _ both (check-cases _ _ _ _ _ _ _ _ _ (after-past .past .ensures .0) (infers (after-infer-tag-at .infer-tag-at .ensures)) (after-sides .sides-inferred .ensures .0) (after-sides .sides-inferred .ensures .1)
+          (holds-else (after-goes-on .goes-on .result) (after-if1 .if1 .left) (after-goes-on .goes-on .ensures)) kept put (after-assume .assume .kept .0)
+          (rw (after-assume .assume .ensures .1) at (after-check .check .ensures .0)) (holds-else (after-goes-on2 .goes-on2 .result) (after-if2 .if2 .left) (after-goes-on2 .goes-on2 .ensures))
+          kept2 put2 (after-assume2 .assume2 .kept .0) (rw (after-assume2 .assume2 .ensures .1) at (after-check2 .check2 .ensures .0))),
+      keeps-then kept2 (keeps-assumed (start .args .here .scope) _ _ put2 (after-assume2 .assume2 .kept .0) (rw (after-assume2 .assume2 .ensures .1) at (after-check2 .check2 .ensures .1))),
+    )
 
 -- ── check ──
 
@@ -218,25 +356,20 @@ check-put-in-requires-4 t c κs =
     let after-check-tag-at = after-enum-told10 .before .before in
     check-falls t after-check-tag-at (after-enum-told10 .enum-told10 .given .1) tt
 
-check-either-requires : (t : ℕ) → check-lts.Need-either-requires (check-calls t) (check-at t) check.Post
-check-either-requires t c κs =
+check-by-cases-requires : (t : ℕ) → check-lts.Need-by-cases-requires (check-calls t) (check-at t) check.Post
+check-by-cases-requires t c κs =
     let after-enum-told11 = c .before .before in
     let after-check-tag-at = after-enum-told11 .before .before in
     check-falls t after-check-tag-at (after-enum-told11 .enum-told11 .given .1) tt
 
-check-part-requires : (t : ℕ) → check-lts.Need-part-requires (check-calls t) (check-at t) check.Post
-check-part-requires t c κs =
-    let after-check-tag-at = c .before .before .before .before .before .before in
-    omega (arith, after-check-tag-at .before .if1 .left)
+check-by-cases-requires-2 : (t : ℕ) → check-lts.Need-by-cases-requires-2 (check-calls t) (check-at t) check.Post
+check-by-cases-requires-2 t c κs =
+    let after-enum-told12 = c .before .before in
+    let after-check-tag-at = after-enum-told12 .before .before in
+    check-falls t after-check-tag-at (after-enum-told12 .enum-told12 .given .1) tt
 
 check-infer-requires : (t : ℕ) → check-lts.Need-infer-requires (check-calls t) (check-at t) check.Post
 check-infer-requires t c κs =
-    let after-check-tag-at = c .before .before .before .before .before .before .before in
-    let start = after-check-tag-at .before .before .before .before .before .before .before .before .before .before .before .before in
-    (own-part-falls _ (start .args .here) _ _ _ _ _ (c .part .ensures) (omega (arith, after-check-tag-at .before .if1 .left)) (start .pre .0), tt)
-
-check-infer-requires-2 : (t : ℕ) → check-lts.Need-infer-requires-2 (check-calls t) (check-at t) check.Post
-check-infer-requires-2 t c κs =
     let after-enum-told13 = c .before .before .before in
     let after-check-tag-at = after-enum-told13 .before .before in
     (check-falls t after-check-tag-at (after-enum-told13 .enum-told13 .given .1) tt .0, tt)
@@ -333,35 +466,30 @@ check-returns-11 t c =
 
 check-returns-12 : (t : ℕ) → check-lts.Need-returns-12 (check-calls t) (check-at t) check.Post
 check-returns-12 t c =
-    let after-either = c .before .before .before .before in
-    let after-enum-told11 = after-either .before .before .before in
+    let after-by-cases = c .before .before .before .before in
+    let after-enum-told11 = after-by-cases .before .before .before in
     let after-check-tag-at = after-enum-told11 .before .before in (
-      check-by-tag t after-check-tag-at (after-enum-told11 .enum-told11 .given .1) tt (λ inside. after-either .either .ensures .0),
-      after-either .either .ensures .1,
+      check-by-tag t after-check-tag-at (after-enum-told11 .enum-told11 .given .1) tt (λ inside. after-by-cases .by-cases .ensures .0 OrOutTag leaves-both),
+      after-by-cases .by-cases .ensures .1,
     )
 
 check-returns-13 : (t : ℕ) → check-lts.Need-returns-13 (check-calls t) (check-at t) check.Post
 check-returns-13 t c =
-    let after-infer = c .before .before .before .before .before in
-    let after-part = after-infer .before in
-    let after-infer-tag-at = after-part .before in
-    let after-past4 = after-infer-tag-at .before .before .before in
-    let after-enum-told12 = after-past4 .before in
-    let after-check-tag-at = after-enum-told12 .before .before in
-    let infers = rw (after-part .part .ensures) at (after-infer .infer .ensures .0) in (
-      check-by-tag t after-check-tag-at (after-enum-told12 .enum-told12 .given .1) tt
-          (λ inside. check-falsity _ _ _ _ _ _ _ _ _ (after-past4 .past4 .ensures .0) (infers (after-infer-tag-at .infer-tag-at .ensures)) (c .from-falsity .ensures)),
-      (rw (after-part .part .ensures) at (after-infer .infer .ensures .1)),
+    let after-by-cases2 = c .before .before .before .before in
+    let after-enum-told12 = after-by-cases2 .before .before .before in
+    let after-check-tag-at = after-enum-told12 .before .before in (
+      check-by-tag t after-check-tag-at (after-enum-told12 .enum-told12 .given .1) tt (λ inside. after-by-cases2 .by-cases2 .ensures .0 FalsityOutTag leaves-none),
+      after-by-cases2 .by-cases2 .ensures .1,
     )
 
 check-returns-14 : (t : ℕ) → check-lts.Need-returns-14 (check-calls t) (check-at t) check.Post
 check-returns-14 t c =
-    let after-infer2 = c .before .before .before .before .before in
-    let after-infer-tag-at2 = after-infer2 .before in
-    let after-enum-told13 = after-infer-tag-at2 .before .before .before in
+    let after-infer = c .before .before .before .before .before in
+    let after-infer-tag-at = after-infer .before in
+    let after-enum-told13 = after-infer-tag-at .before .before .before in
     let after-check-tag-at = after-enum-told13 .before .before in (
-      check-inferred _ _ _ _ _ _ _ _ _ _ (check-level t after-check-tag-at) (check-tag-is t after-check-tag-at (after-enum-told13 .enum-told13 .given .1)) (after-infer2 .infer2 .ensures .0 (after-infer-tag-at2 .infer-tag-at2 .ensures)) (c .checked-by .ensures),
-      after-infer2 .infer2 .ensures .1,
+      check-inferred _ _ _ _ _ _ _ _ _ _ (check-level t after-check-tag-at) (check-tag-is t after-check-tag-at (after-enum-told13 .enum-told13 .given .1)) (after-infer .infer .ensures .0 (after-infer-tag-at .infer-tag-at .ensures)) (c .checked-by .ensures),
+      after-infer .infer .ensures .1,
     )
 
 check-returns-15 : (t : ℕ) → check-lts.Need-returns-15 (check-calls t) (check-at t) check.Post
@@ -370,129 +498,6 @@ check-returns-15 t c =
     let after-check-tag-at = after-enum-told14 .before .before in (
       check-by-tag t after-check-tag-at (after-enum-told14 .enum-told14 .given .1) tt (λ inside. check-no-tag _ _ _ _ _ _ _ _ _),
       keeps-same _ _,
-    )
-
--- ── either ──
-
-either-part-requires : (t : ℕ) → either-lts.Need-part-requires (either-calls t) (either-at t) either.Post
-either-part-requires t c κs =
-    let start = c .before .before .before .before .before .before .before .before .before .before .before .before .before .before in
-    start .pre .1
-
-either-infer-requires : (t : ℕ) → either-lts.Need-infer-requires (either-calls t) (either-at t) either.Post
-either-infer-requires t c κs =
-    let start = c .before .before .before .before .before .before .before .before .before .before .before .before .before .before .before in
-    (here-falls _ (start .args .here) _ _ _ _ _ (c .part .ensures) (start .pre .1) (start .pre .0), tt)
-
-either-returns : (t : ℕ) → either-lts.Need-returns (either-calls t) (either-at t) either.Post
-either-returns t c =
-    let after-goes-on = c .before in
-    let after-sides = after-goes-on .before .before in
-    let after-infer = after-sides .before .before .before .before .before in
-    let after-part = after-infer .before in
-    let after-infer-tag-at = after-part .before in
-    let after-past = after-infer-tag-at .before .before .before in
-    let infers = rw (after-part .part .ensures) at (after-infer .infer .ensures .0) in (
-      check-either-unfit _ _ _ _ _ _ _ _ _ (after-past .past .ensures .0) (infers (after-infer-tag-at .infer-tag-at .ensures)) (after-sides .sides-inferred .ensures .0) (after-sides .sides-inferred .ensures .1)
-          (fails-where (after-goes-on .goes-on .result) (c .if1 .taken) (after-goes-on .goes-on .ensures)),
-      (rw (after-part .part .ensures) at (after-infer .infer .ensures .1)),
-    )
-
-either-sub-left : (t : ℕ) → either-lts.Need-sub-left (either-calls t) (either-at t) either.Post
-either-sub-left t c =
-    let start = c .before .before .before .before .before .before .before .before .before .before .before .before .before .before .before .before .before .before .before .before .before .before .before .before .before .before .before .before in
-    omega (arith, start .pre .1)
-
-either-check-requires : (t : ℕ) → either-lts.Need-check-requires (either-calls t) (either-at t) either.Post
-either-check-requires t c κs =
-    let start = c .before .before .before .before .before .before .before .before .before .before .before .before .before .before .before .before .before .before .before .before .before .before .before .before .before .before .before .before .before .before .before .before .before .before .before in
-    (part-falls _ (start .args .here) _ _ (start .pre .1) (start .pre .0), tt)
-
-either-same-length-3 : (t : ℕ) → either-lts.Need-same-length-3 (either-calls t) (either-at t) either.Post
-either-same-length-3 t c =
-    let after-check = c .before .before .before .before .before .before .before in
-    let after-infer = after-check .before .before .before .before .before .before .before .before .before .before .before .before .before .before .before .before .before .before .before .before in
-    after-check .check .kept .1 .1 .1 .1 .1 .0 ∙ after-infer .infer .kept .1 .1 .1 .1 .1 .0
-
-either-same-length-4 : (t : ℕ) → either-lts.Need-same-length-4 (either-calls t) (either-at t) either.Post
-either-same-length-4 t c =
-    let after-check = c .before .before .before .before .before .before .before in
-    let after-assume = after-check .before .before .before .before .before in
-    let after-infer = after-assume .before .before .before .before .before .before .before .before .before .before .before .before .before .before .before in
-    after-check .check .kept .1 .1 .1 .1 .1 .1 .0 ∙ after-assume .assume .kept .0 ∙ after-infer .infer .kept .1 .1 .1 .1 .1 .1 .0
-
-either-returns-2 : (t : ℕ) → either-lts.Need-returns-2 (either-calls t) (either-at t) either.Post
-either-returns-2 t c =
-    let after-goes-on2 = c .before in
-    let after-check = after-goes-on2 .before .before .before .before .before .before in
-    let after-assume = after-check .before .before .before .before .before in
-    let after-side-on = after-assume .before in
-    let after-if1 = after-side-on .before .before .before .before .before .before in
-    let after-goes-on = after-if1 .before in
-    let after-sides = after-goes-on .before .before in
-    let after-infer = after-sides .before .before .before .before .before in
-    let after-part = after-infer .before in
-    let after-infer-tag-at = after-part .before in
-    let after-past = after-infer-tag-at .before .before .before in
-    let start = after-past .before .before .before .before .before .before .before .before .before .before .before in
-    let infers = rw (after-part .part .ensures) at (after-infer .infer .ensures .0) in
-    let kept = rw (after-part .part .ensures) at (after-infer .infer .ensures .1) in
-    let put = rw (after-side-on .side-on .ensures) at (after-assume .assume .ensures .0) in (
-      check-either-stopped _ _ _ _ _ _ _ _ _ (after-past .past .ensures .0) (infers (after-infer-tag-at .infer-tag-at .ensures)) (after-sides .sides-inferred .ensures .0) (after-sides .sides-inferred .ensures .1)
-          (holds-else (after-goes-on .goes-on .result) (after-if1 .if1 .left) (after-goes-on .goes-on .ensures)) kept put (after-assume .assume .kept .0)
-          (rw (after-assume .assume .ensures .1) at (after-check .check .ensures .0)) (fails-where (after-goes-on2 .goes-on2 .result) (c .if2 .taken) (after-goes-on2 .goes-on2 .ensures)),
-      keeps-then kept (keeps-assumed (start .args .here .scope) _ _ put (after-assume .assume .kept .0) (rw (after-assume .assume .ensures .1) at (after-check .check .ensures .1))),
-    )
-
-either-check-requires-2 : (t : ℕ) → either-lts.Need-check-requires-2 (either-calls t) (either-at t) either.Post
-either-check-requires-2 t c κs =
-    let start = c .before .before .before .before .before .before .before .before .before .before .before .before .before .before .before .before .before .before .before .before .before .before .before .before .before .before .before .before .before .before .before .before .before .before .before .before .before .before .before .before .before .before .before .before .before .before .before .before .before .before in
-    (part-falls _ (start .args .here) _ _ (start .pre .1) (start .pre .0), tt)
-
-either-same-length-5 : (t : ℕ) → either-lts.Need-same-length-5 (either-calls t) (either-at t) either.Post
-either-same-length-5 t c =
-    let after-check2 = c .before .before .before .before in
-    let after-check = after-check2 .before .before .before .before .before .before .before .before .before .before .before .before .before .before .before in
-    let after-infer = after-check .before .before .before .before .before .before .before .before .before .before .before .before .before .before .before .before .before .before .before .before in
-    after-check2 .check2 .kept .1 .1 .1 .1 .1 .0 ∙ after-check .check .kept .1 .1 .1 .1 .1 .0 ∙ after-infer .infer .kept .1 .1 .1 .1 .1 .0
-
-either-same-length-6 : (t : ℕ) → either-lts.Need-same-length-6 (either-calls t) (either-at t) either.Post
-either-same-length-6 t c =
-    let after-check2 = c .before .before .before .before in
-    let after-assume2 = after-check2 .before .before .before .before .before in
-    let after-check = after-assume2 .before .before .before .before .before .before .before .before .before .before in
-    let after-assume = after-check .before .before .before .before .before in
-    let after-infer = after-assume .before .before .before .before .before .before .before .before .before .before .before .before .before .before .before in
-    after-check2 .check2 .kept .1 .1 .1 .1 .1 .1 .0 ∙ after-assume2 .assume2 .kept .0 ∙ after-check .check .kept .1 .1 .1 .1 .1 .1 .0 ∙ after-assume .assume .kept .0 ∙ after-infer .infer .kept .1 .1 .1 .1 .1 .1 .0
-
-either-returns-3 : (t : ℕ) → either-lts.Need-returns-3 (either-calls t) (either-at t) either.Post
-either-returns-3 t c =
-    let after-check2 = c .before .before .before .before in
-    let after-assume2 = after-check2 .before .before .before .before .before in
-    let after-side-on2 = after-assume2 .before in
-    let after-if2 = after-side-on2 .before .before in
-    let after-goes-on2 = after-if2 .before in
-    let after-check = after-goes-on2 .before .before .before .before .before .before in
-    let after-assume = after-check .before .before .before .before .before in
-    let after-side-on = after-assume .before in
-    let after-if1 = after-side-on .before .before .before .before .before .before in
-    let after-goes-on = after-if1 .before in
-    let after-sides = after-goes-on .before .before in
-    let after-infer = after-sides .before .before .before .before .before in
-    let after-part = after-infer .before in
-    let after-infer-tag-at = after-part .before in
-    let after-past = after-infer-tag-at .before .before .before in
-    let start = after-past .before .before .before .before .before .before .before .before .before .before .before in
-    let infers = rw (after-part .part .ensures) at (after-infer .infer .ensures .0) in
-    let kept = rw (after-part .part .ensures) at (after-infer .infer .ensures .1) in
-    let put = rw (after-side-on .side-on .ensures) at (after-assume .assume .ensures .0) in
-    let put2 = rw (after-side-on2 .side-on2 .ensures) at (after-assume2 .assume2 .ensures .0) in
-    let kept2 = keeps-then kept (keeps-assumed (start .args .here .scope) _ _ put (after-assume .assume .kept .0) (rw (after-assume .assume .ensures .1) at (after-check .check .ensures .1))) in (
-      check-either _ _ _ _ _ _ _ _ _ (after-past .past .ensures .0) (infers (after-infer-tag-at .infer-tag-at .ensures)) (after-sides .sides-inferred .ensures .0) (after-sides .sides-inferred .ensures .1)
-          (holds-else (after-goes-on .goes-on .result) (after-if1 .if1 .left) (after-goes-on .goes-on .ensures)) kept put (after-assume .assume .kept .0)
-          (rw (after-assume .assume .ensures .1) at (after-check .check .ensures .0)) (holds-else (after-goes-on2 .goes-on2 .result) (after-if2 .if2 .left) (after-goes-on2 .goes-on2 .ensures))
-          kept2 put2 (after-assume2 .assume2 .kept .0) (rw (after-assume2 .assume2 .ensures .1) at (after-check2 .check2 .ensures .0)),
-      keeps-then kept2 (keeps-assumed (start .args .here .scope) _ _ put2 (after-assume2 .assume2 .kept .0) (rw (after-assume2 .assume2 .ensures .1) at (after-check2 .check2 .ensures .1))),
     )
 
 -- ── infer ──
@@ -846,13 +851,13 @@ take-out-returns-2 t c =
       keeps-then kept (keeps-assumed (start .args .here .scope) _ _ (after-assume .assume .ensures .0) (after-assume .assume .kept .0) (rw (after-assume .assume .ensures .1) at (after-check .check .ensures .1))),
     )
 
-pub +check+either+infer+pair+put-in+take-out-spec : {M : Type 1} → statement M
-+check+either+infer+pair+put-in+take-out-spec =
-    close μ-check μ-either μ-infer μ-pair μ-put-in μ-take-out
+pub +by-cases+check+infer+pair+put-in+take-out-spec : {M : Type 1} → statement M
++by-cases+check+infer+pair+put-in+take-out-spec =
+    close μ-by-cases μ-check μ-infer μ-pair μ-put-in μ-take-out
+    (λ t. by-cases-lts.spec (by-cases-calls t) (by-cases-at t) by-cases.Post
+    (λ c κs. search needs) (λ c κs. search needs) (by-cases-part-requires t) (by-cases-infer-requires t) (λ c. search needs) (λ c κs. search needs) (λ c. search needs) (λ c. search needs) (by-cases-returns t) (λ c. search needs) (λ c κs. search needs) (λ c κs. search needs) (λ c. search needs) (λ c. search needs) (by-cases-returns-2 t) (by-cases-sub-left t) (λ c κs. search needs) (λ c κs. search needs) (by-cases-check-requires t) (λ c κs. search needs) (by-cases-same-length-5 t) (by-cases-same-length-6 t) (by-cases-returns-3 t) (λ c κs. search needs) (λ c κs. search needs) (by-cases-check-requires-2 t) (by-cases-same-length-7 t) (by-cases-same-length-8 t) (by-cases-returns-4 t))
     (λ t. check-lts.spec (check-calls t) (check-at t) check.Post
-    (λ c κs. search needs) (check-returns t) (λ c κs. search needs) (λ c. search needs) (check-pair-requires t) (λ c. search needs) (λ c κs. search needs) (λ c κs. search needs) (λ c. search needs) (check-put-in-requires t) (λ c. search needs) (check-take-out-requires t) (λ c. search needs) (check-put-in-requires-2 t) (λ c. search needs) (check-take-out-requires-2 t) (λ c. search needs) (λ c κs. search needs) (λ c κs. search needs) (λ c. search needs) (λ c κs. search needs) (λ c κs. search needs) (λ c. search needs) (check-put-in-requires-3 t) (λ c. search needs) (check-put-in-requires-4 t) (λ c. search needs) (check-either-requires t) (λ c. search needs) (λ c κs. search needs) (λ c κs. search needs) (check-part-requires t) (check-infer-requires t) (λ c κs. search needs) (λ c. search needs) (λ c κs. search needs) (check-infer-requires-2 t) (λ c κs. search needs) (λ c. search needs) (λ c κs. search needs) (λ c. search needs) (λ c. search needs) (check-returns-2 t) (check-returns-3 t) (λ c. search needs) (λ c. search needs) (check-returns-4 t) (λ c. search needs) (λ c. search needs) (check-returns-5 t) (λ c. search needs) (λ c. search needs) (check-returns-6 t) (λ c. search needs) (λ c. search needs) (check-returns-7 t) (λ c. search needs) (check-returns-8 t) (check-returns-9 t) (λ c. search needs) (λ c. search needs) (check-returns-10 t) (λ c. search needs) (λ c. search needs) (check-returns-11 t) (λ c. search needs) (λ c. search needs) (check-returns-12 t) (λ c. search needs) (λ c. search needs) (check-returns-13 t) (λ c. search needs) (λ c. search needs) (check-returns-14 t) (check-returns-15 t))
-    (λ t. either-lts.spec (either-calls t) (either-at t) either.Post
-    (λ c κs. search needs) (λ c κs. search needs) (either-part-requires t) (either-infer-requires t) (λ c κs. search needs) (λ c κs. search needs) (λ c. search needs) (λ c. search needs) (either-returns t) (either-sub-left t) (λ c κs. search needs) (λ c κs. search needs) (either-check-requires t) (λ c κs. search needs) (either-same-length-3 t) (either-same-length-4 t) (either-returns-2 t) (λ c κs. search needs) (λ c κs. search needs) (either-check-requires-2 t) (either-same-length-5 t) (either-same-length-6 t) (either-returns-3 t))
+    (λ c κs. search needs) (check-returns t) (λ c κs. search needs) (λ c. search needs) (check-pair-requires t) (λ c. search needs) (λ c κs. search needs) (λ c κs. search needs) (λ c. search needs) (check-put-in-requires t) (λ c. search needs) (check-take-out-requires t) (λ c. search needs) (check-put-in-requires-2 t) (λ c. search needs) (check-take-out-requires-2 t) (λ c. search needs) (λ c κs. search needs) (λ c κs. search needs) (λ c. search needs) (λ c κs. search needs) (λ c κs. search needs) (λ c. search needs) (check-put-in-requires-3 t) (λ c. search needs) (check-put-in-requires-4 t) (λ c. search needs) (check-by-cases-requires t) (λ c. search needs) (check-by-cases-requires-2 t) (λ c. search needs) (λ c κs. search needs) (check-infer-requires t) (λ c κs. search needs) (λ c. search needs) (λ c κs. search needs) (λ c. search needs) (λ c. search needs) (check-returns-2 t) (check-returns-3 t) (λ c. search needs) (λ c. search needs) (check-returns-4 t) (λ c. search needs) (λ c. search needs) (check-returns-5 t) (λ c. search needs) (λ c. search needs) (check-returns-6 t) (λ c. search needs) (λ c. search needs) (check-returns-7 t) (λ c. search needs) (check-returns-8 t) (check-returns-9 t) (λ c. search needs) (λ c. search needs) (check-returns-10 t) (λ c. search needs) (λ c. search needs) (check-returns-11 t) (λ c. search needs) (λ c. search needs) (check-returns-12 t) (λ c. search needs) (λ c. search needs) (check-returns-13 t) (λ c. search needs) (λ c. search needs) (check-returns-14 t) (check-returns-15 t))
     (λ t. infer-lts.spec (infer-calls t) (infer-at t) infer.Post
     (λ c κs. search needs) (λ c κs. search needs) (infer-returns t) (λ c κs. search needs) (λ c. search needs) (λ c κs. search needs) (λ c. search needs) (λ c κs. search needs) (λ c. search needs) (λ c κs. search needs) (infer-part-requires t) (infer-infer-requires t) (λ c κs. search needs) (λ c. search needs) (λ c κs. search needs) (infer-part-requires-2 t) (infer-infer-requires-2 t) (λ c κs. search needs) (λ c. search needs) (λ c κs. search needs) (infer-part-requires-3 t) (infer-infer-requires-3 t) (λ c κs. search needs) (λ c κs. search needs) (λ c κs. search needs) (λ c κs. search needs) (λ c. search needs) (λ c. search needs) (infer-returns-2 t) (infer-part-requires-4 t) (infer-check-requires t) (λ c κs. search needs) (λ c. search needs) (λ c κs. search needs) (λ c κs. search needs) (infer-part-requires-5 t) (infer-infer-requires-4 t) (λ c κs. search needs) (λ c. search needs) (λ c κs. search needs) (λ c κs. search needs) (λ c. search needs) (infer-returns-3 t) (infer-returns-4 t) (λ c. search needs) (λ c. search needs) (infer-returns-5 t) (λ c. search needs) (λ c. search needs) (infer-returns-6 t) (infer-same-length-8 t) (infer-same-length-9 t) (infer-returns-7 t) (λ c. search needs) (λ c. search needs) (infer-returns-8 t) (infer-returns-9 t))
     (λ t. pair-lts.spec (pair-calls t) (pair-at t) pair.Post

@@ -27,7 +27,10 @@ use Rattle.judging.specs.RowsOf.{RowIs, is-plain}
 use Rattle.judging.specs.RowNumbers.{rows-with}
 use Rattle.judging.specs.Judging.{view-in, scope-with, plain-side, and-then, sides, TwoSided, branches}
 use Rattle.judging.specs.StepPromises.{TakesSidesInferred, StaysStopped, ChecksFalsity}
+use Rattle.walk.specs.declared.Cases.{Cases}
+use Rattle.walk.specs.declared.Cases.the-variants.{BothSides, NoCase}
 use Rattle.walk.specs.Walking.{Sources, Around, Keeps, InfersAt, ChecksAt, ChecksBy}
+use Rattle.walk.specs.WalkCalls.{Leaves, leaves-both, leaves-none}
 use Rattle.steps.proofs.StepsRead.{OrOutRead, or-out-read, falsity-out-read}
 use Rattle.judging.proofs.StepWalks.{or-out-walk, falsity-out-walk}
 use Rattle.judging.proofs.Coming.{Comes, comes-taken, comes-inferred, comes-checked, comes-or-stays, passes-halted, passes-then}
@@ -44,6 +47,15 @@ module _ (S : Sources) (rows : List ℕ) (scope : Scope) (ledger : Ledger) (list
   -- The step here, by its tag.
   abbrev By : CheckTag → Checked → List ℕ → Type 0
   By tag r list′ = ChecksBy S rows scope ledger list left tag goal-bytes goal at r list′
+
+  -- By the cases that are left: of an "or", of falsity.
+  pub both-left : {cases : Cases} {r : Checked} {list′ : List ℕ} → cases ≡ BothSides → By OrOutTag r list′ → (tag : CheckTag) → Leaves tag cases → By tag r list′
+  both-left e h tag leaves-both = h
+  both-left e h tag leaves-none = let z : _≡_ {A = ℕ} 0 1 = cc e in absurd (omega arith)
+
+  pub none-left : {cases : Cases} {r : Checked} {list′ : List ℕ} → cases ≡ NoCase → By FalsityOutTag r list′ → (tag : CheckTag) → Leaves tag cases → By tag r list′
+  none-left e h tag leaves-none = h
+  none-left e h tag leaves-both = let z : _≡_ {A = ℕ} 0 1 = cc e in absurd (omega arith)
 
   -- Both have a part that infers after their tag.
   module _ {begin : ℕ} (begins : at < length (S .proof) → begin ≡ at + 1) {inferred : Inferred} {list₁ : List ℕ}
@@ -80,8 +92,8 @@ module _ (S : Sources) (rows : List ℕ) (scope : Scope) (ledger : Ledger) (list
           (λ n. ap (λ l. book l list₁) (stays n))
 
       -- Where it is no "or", or the walk has stopped before.
-      pub check-either-unfit : (stop-of (parts .ledger) ≡ Going → ⊥) → {next : ℕ} → By OrOutTag (record { ledger = parts .ledger; next = next }) list₁
-      check-either-unfit n {next} cs Γ N e sound around reads told G means =
+      pub check-cases-unfit : (stop-of (parts .ledger) ≡ Going → ⊥) → {next : ℕ} → By OrOutTag (record { ledger = parts .ledger; next = next }) list₁
+      check-cases-unfit n {next} cs Γ N e sound around reads told G means =
           let found = or-out-read (S .proof) (length cs) left (scope .count) at NoInferTag N e reads in
           rw (found .is, or-out-walk cs Γ view at G (from-of goal) (to-of goal) (found .part) (found .one) (found .other))
           (passes-halted (S .state) (book ledger list) _ (parts .ledger) list₁ (branches-come cs Γ N e sound around found told) _ e n next)
@@ -100,8 +112,8 @@ module _ (S : Sources) (rows : List ℕ) (scope : Scope) (ledger : Ledger) (list
             (part-assuming S rows scope left goal-bytes goal (side-row (parts .first)) kept put all (parts .ledger) list₁ (inferred .next) checks
             cs Γ (found .one) (found .later) sound around (rw begins (found .one-reads)) (told-is (S .ends) (found .is) told .1) x is G means)
 
-        pub check-either-stopped : (stop-of (one .ledger) ≡ Going → ⊥) → By OrOutTag one list₂
-        check-either-stopped n cs Γ N e sound around reads told G means =
+        pub check-cases-stopped : (stop-of (one .ledger) ≡ Going → ⊥) → By OrOutTag one list₂
+        check-cases-stopped n cs Γ N e sound around reads told G means =
             let found = or-out-read (S .proof) (length cs) left (scope .count) at NoInferTag N e reads in
             rw (found .is, or-out-walk cs Γ view at G (from-of goal) (to-of goal) (found .part) (found .one) (found .other))
             (passes-then (S .state) (book ledger list) _ (parts .ledger) list₁ (branches-come cs Γ N e sound around found told) _ e going one list₂
@@ -109,12 +121,12 @@ module _ (S : Sources) (rows : List ℕ) (scope : Scope) (ledger : Ledger) (list
             (one-comes cs Γ N e sound around found told (so .2) (x .0) (so .0) G means) _ e n (one .next)))
 
         -- And then the second, with the right side assumed.
-        pub check-either : stop-of (one .ledger) ≡ Going → {between₂ more₂ : List ℕ} → Keeps (scope .count) rows between₂
+        pub check-cases : stop-of (one .ledger) ≡ Going → {between₂ more₂ : List ℕ} → Keeps (scope .count) rows between₂
             → more₂ ≡ rows-with between₂ (scope .count) (side-row (parts .second)) → length more₂ ≡ length between₂ → {other : Checked} {list₃ : List ℕ}
             → ChecksAt S more₂ (scope-with scope) (one .ledger) list₂ left goal-bytes goal (one .next) other list₃
             → By OrOutTag other list₃
         unfolding ToldChecking
-        check-either goes kept₂ put₂ all₂ {other} {list₃} checks₂ cs Γ N e sound around reads told G means =
+        check-cases goes kept₂ put₂ all₂ {other} {list₃} checks₂ cs Γ N e sound around reads told G means =
             let found = or-out-read (S .proof) (length cs) left (scope .count) at NoInferTag N e reads in
             rw (found .is, or-out-walk cs Γ view at G (from-of goal) (to-of goal) (found .part) (found .one) (found .other))
             (passes-then (S .state) (book ledger list) _ (parts .ledger) list₁ (branches-come cs Γ N e sound around found told) _ e going other list₃
