@@ -58,9 +58,12 @@ outermost = record { count = 0; shut = 0; view = record { kind = 0; principal = 
 abbrev pub view-on : ℕ → Judgement → View
 view-on k j = record { kind = 1; principal = k; from = j .from; to = j .to }
 
--- One assumption more, where a row has room for it.
+-- One assumption more; and the same where a row has room for it.
+abbrev pub one-more : Scope → Scope
+one-more s = record { count = s .count + 1; shut = s .shut; view = s .view }
+
 unfoldable pub scope-with : Scope → Scope
-scope-with s = pick (ltb (s .count) most-rows) (record { count = s .count + 1; shut = s .shut; view = s .view }) s
+scope-with s = pick (ltb (s .count) most-rows) (one-more s) s
 
 -- The scope inside of a shell, by whose the row is that stands there, and by its judgement.
 abbrev pub scope-by : Scope → Whose → Judgement → Scope

@@ -38,7 +38,7 @@ use Rattle.judging.specs.Judging.{view-by, view-in, view-on, scope-inside, scop
 use Rattle.judging.specs.StepPromises.{TakesSides, TakesInside, TakesInsideInferred, StaysStopped, ChecksInferred}
 use Rattle.walk.specs.Walking.{Sources, Around, Keeps, InfersAt, ChecksAt, ChecksBy}
 use Rattle.walk.specs.WalkCalls.{Puts, puts-at, puts-says, puts-left, puts-right, TakesOut, takes-at, takes-says}
-use Rattle.steps.proofs.StepsRead.{check-read, pair-read, trivial-read, state-read, compare-read, at-in-read, says-in-read, at-out-read, says-out-read, or-left-read, or-right-read, no-check-read, inferred-read, begins-there}
+use Rattle.steps.proofs.StepsRead.{PartRead, check-read, pair-read, trivial-read, state-read, compare-read, at-in-read, says-in-read, at-out-read, says-out-read, or-left-read, or-right-read, no-check-read, inferred-read, begins-there}
 use Rattle.judging.proofs.StepWalks.{check-inside, pair-walk, trivial-walk, state-walk, compare-walk, at-in-walk, says-in-walk, at-out-walk, says-out-walk, or-left-walk, or-right-walk, inferred-walk}
 use Rattle.judging.proofs.Coming.{Comes, comes-taken, comes-inferred, comes-checked, comes-or-stays, passes-on, passes-halted, passes-then}
 use Rattle.judging.proofs.JudgingLaws.{takes-so}
@@ -107,22 +107,32 @@ record PutRead (proof ends : List ℕ) (c n h q : ℕ) (shell : Shell) (N : Chec
   walks : (cs : List Statement) (Γ : List Assumption) (v : View) (j : walk.Judgement)
       → check cs Γ v N (j .0) (j .1) (j .2) ≡ and-then (inside shell q j) (check-inside cs Γ v part)
 
+-- One that was read, by what is told of its part and by the walk of the step that it is.
+put-found : (proof ends : List ℕ) (c n h q : ℕ) (shell : Shell) {make : Check → Check} {N : Check} {e : ℕ} → PartRead proof c n h q make N e
+    → ((M : Check) → ToldChecking ends (make M) → ToldChecking ends M)
+    → ((cs : List Statement) (Γ : List Assumption) (v : View) (j : walk.Judgement) (M : Check)
+    → check cs Γ v (make M) (j .0) (j .1) (j .2) ≡ and-then (inside shell q j) (check-inside cs Γ v M))
+    → ToldChecking ends N → PutRead proof ends c n h q shell N e
+put-found proof ends c n h q shell found tells walks told =
+    record {
+      part = found .part;
+      reads = found .reads;
+      told = tells (found .part) (told-is ends (found .is) told);
+      walks = λ cs Γ v j. ap (λ N. check cs Γ v N (j .0) (j .1) (j .2)) (found .is) ∙ walks cs Γ v j (found .part);
+    }
+
 put-read : (proof ends : List ℕ) (c n h q : ℕ) (tag : CheckTag) (shell : Shell) (N : Check) (e : ℕ) → Puts tag shell
     → check-by proof c (infer-step proof c n) (check-step proof c n) h q NoInferTag tag (q + 1) ≡ some (N, e) → ToldChecking ends N
     → PutRead proof ends c n h q shell N e
 unfolding ToldChecking
-put-read proof ends c n h q AtInTag AtShell N e puts-at reads told =
-    let found = at-in-read proof c n h q NoInferTag N e reads in
-    record { part = found .part; reads = found .reads; told = told-is ends (found .is) told; walks = λ cs Γ v j. ap (λ N. check cs Γ v N (j .0) (j .1) (j .2)) (found .is) ∙ at-in-walk cs Γ v q (j .0) (j .1) (j .2) (found .part) }
-put-read proof ends c n h q SaysInTag SaysShell N e puts-says reads told =
-    let found = says-in-read proof c n h q NoInferTag N e reads in
-    record { part = found .part; reads = found .reads; told = told-is ends (found .is) told; walks = λ cs Γ v j. ap (λ N. check cs Γ v N (j .0) (j .1) (j .2)) (found .is) ∙ says-in-walk cs Γ v q (j .0) (j .1) (j .2) (found .part) }
-put-read proof ends c n h q OrLeftTag LeftShell N e puts-left reads told =
-    let found = or-left-read proof c n h q NoInferTag N e reads in
-    record { part = found .part; reads = found .reads; told = told-is ends (found .is) told; walks = λ cs Γ v j. ap (λ N. check cs Γ v N (j .0) (j .1) (j .2)) (found .is) ∙ or-left-walk cs Γ v q (j .0) (j .1) (j .2) (found .part) }
-put-read proof ends c n h q OrRightTag RightShell N e puts-right reads told =
-    let found = or-right-read proof c n h q NoInferTag N e reads in
-    record { part = found .part; reads = found .reads; told = told-is ends (found .is) told; walks = λ cs Γ v j. ap (λ N. check cs Γ v N (j .0) (j .1) (j .2)) (found .is) ∙ or-right-walk cs Γ v q (j .0) (j .1) (j .2) (found .part) }
+put-read proof ends c n h q AtInTag AtShell N e puts-at reads =
+    put-found proof ends c n h q AtShell (at-in-read proof c n h q NoInferTag N e reads) (λ M t. t) (λ cs Γ v j. at-in-walk cs Γ v q (j .0) (j .1) (j .2))
+put-read proof ends c n h q SaysInTag SaysShell N e puts-says reads =
+    put-found proof ends c n h q SaysShell (says-in-read proof c n h q NoInferTag N e reads) (λ M t. t) (λ cs Γ v j. says-in-walk cs Γ v q (j .0) (j .1) (j .2))
+put-read proof ends c n h q OrLeftTag LeftShell N e puts-left reads =
+    put-found proof ends c n h q LeftShell (or-left-read proof c n h q NoInferTag N e reads) (λ M t. t) (λ cs Γ v j. or-left-walk cs Γ v q (j .0) (j .1) (j .2))
+put-read proof ends c n h q OrRightTag RightShell N e puts-right reads =
+    put-found proof ends c n h q RightShell (or-right-read proof c n h q NoInferTag N e reads) (λ M t. t) (λ cs Γ v j. or-right-walk cs Γ v q (j .0) (j .1) (j .2))
 
 -- A step that takes a formula out of a shell: the part that infers it, the part that assumes what is inside, and its walk.
 record TakeRead (proof ends : List ℕ) (c n h q : ℕ) (shell : Shell) (N : Check) (e : ℕ) : Type 0 where

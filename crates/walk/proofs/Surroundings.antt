@@ -1,6 +1,6 @@
 -- What stands around the parts of a step: the same with a level less, the plain ones shut out, or one assumption more.
 -- A call writes no row below its count, so what stood around before it stands around after it.
-use Prim.Native.Nat.{ℕ, zero, suc, _+_, _≤_, _<_}
+use Prim.Native.Nat.{ℕ, zero, suc, _≤_, _<_}
 use mathlib.Core.Path.{_≡_, refl, _∙_}
 use mathlib.Core.List.{List, [], _∷_, map}
 use native.Mathlib.Omega.{arith}
@@ -21,7 +21,7 @@ use Rattle.judging.specs.declared.judge.Checked.{Checked}
 use Rattle.formula.specs.PutIn.{terms-numbers}
 use Rattle.judging.specs.declared.rows.Whose.{Whose}
 use Rattle.judging.specs.declared.rows.Whose.the-variants.{Plain, Claim}
-use Rattle.judging.specs.Judging.{scope-by, scope-with}
+use Rattle.judging.specs.Judging.{scope-by, one-more, scope-with}
 use Rattle.judging.specs.RowsOf.{most-rows, row-in, RowIs, is-plain, is-claim, is-shut, Assumed}
 use Rattle.judging.specs.RowNumbers.{rows-with}
 use Rattle.judging.proofs.RowLaws.{row-there, earlier-stay}
@@ -84,11 +84,11 @@ scope-grows : (scope : Scope) → scope .count ≤ scope-with scope .count
 unfolding scope-with
 scope-grows scope = by (ltb (scope .count) most-rows)
   where
-    by : (b : Bool) → scope .count ≤ (pick b (record { count = scope .count + 1; shut = scope .shut; view = scope .view }) scope) .count
+    by : (b : Bool) → scope .count ≤ (pick b (one-more scope) scope) .count
     by true = omega arith
     by false = omega arith
 
-pub scope-more : (scope : Scope) → scope .count < most-rows → scope-with scope ≡ record { count = scope .count + 1; shut = scope .shut; view = scope .view }
+pub scope-more : (scope : Scope) → scope .count < most-rows → scope-with scope ≡ one-more scope
 unfolding scope-with
 scope-more scope room = rw (lt-ltb (scope .count) most-rows room) refl
 
@@ -127,7 +127,7 @@ module _ (S : Sources) (rows : List ℕ) (scope : Scope) (left : ℕ) (cs : List
 
   -- A part with one assumption more: the row is put past those that are there.
   pub around-more : (more : List ℕ) (row : Row) (x : Assumption) → RowIs (S .buffer) row 0 0 x → more ≡ rows-with rows (scope .count) row → Keeps (scope .count) rows more
-      → Around S more (record { count = scope .count + 1; shut = scope .shut; view = scope .view }) left cs (x ∷ Γ)
+      → Around S more (one-more scope) left cs (x ∷ Γ)
   unfolding Assumed
   around-more more row x usable put keeps =
       let room = around .room in
