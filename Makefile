@@ -106,7 +106,8 @@ test-c: archives
 	@$(if $(EMULATED),echo "under an emulator the sanitizers and valgrind are left out",$(MAKE) --no-print-directory test-c-memory)
 endif
 
-# Presses and damaged inputs at the door, its stack, the stack of the office's calls, and the demands put to every example, linked with LINK.
+# Presses and damaged inputs at the door, its stack, the stack of the office's calls, a case with pairs, and the demands put to every example,
+# linked with LINK.
 test-c-linked: archives
 	@echo "linked with $(LINK):"
 	@$(call linked,$(LINK),door_test,tests/c/door_test.c tests/c/model.c $(DOOR))
@@ -115,6 +116,8 @@ test-c-linked: archives
 	@bin/stack
 	@$(call linked,$(LINK),office_stack,tests/c/office_stack.c tests/c/own_stack.c tests/c/case_bytes.c target/staticlib/libfrom_c.a)
 	@bin/office_stack $(DEEPEST:%=%.case)
+	@$(call linked,$(LINK),with_pairs,examples/with_pairs.c tests/c/case_bytes.c target/staticlib/libfrom_c.a)
+	@tests/with_pairs.sh bin/with_pairs
 	@$(call linked,$(LINK),kept,tests/c/kept.c tests/c/case_bytes.c target/staticlib/libkept.a)
 	@bin/kept examples/loaded.state examples/*.case examples/*.procap
 

@@ -1,6 +1,6 @@
 /*
  * Puts cases to demand 3 and texts to demand 2, as calls that are proved to answer yes: each case at moments at and around the numbers of the
- * examples and at the ends of the clock, in no state, in the one given, and in one that is none.
+ * examples and at the ends of the clock, in no state, in the one given, and in one that is none; with no pairs, and with a chain of two.
  * usage: kept STATE CASE_OR_PROCAP..
  */
 #include "case_bytes.h"
@@ -11,6 +11,7 @@
 
 static const uint64_t moments[] = {0, 1, 499, 500, 999, 1000, 1400, 1500, 2000, 2001, LATEST, LATEST + 1, UINT64_MAX};
 static const uint8_t no_state[] = {0};
+static const uint8_t chain[] = {0, 2, 0, 3, 0, 3, 0, 1}; /* 2 stands above 3, and 3 above 1 */
 static struct case_bytes given;
 static char file[70000], state[8192];
 static size_t state_length, asked, denied;
@@ -22,11 +23,13 @@ static void count(bool kept)
     denied += !kept;
 }
 
-/* Demand 3 of the case that was read, at a moment in a state. */
+/* Demand 3 of the case that was read, at a moment in a state, with no pairs and with some. */
 static void press(uint64_t moment, const uint8_t *bytes, size_t length)
 {
     count(kept_demand_3(given.who, given.what, given.right, given.records, given.records_length, given.buffer, given.buffer_length,
-                        given.proof, given.proof_length, moment, bytes, length));
+                        NULL, 0, given.proof, given.proof_length, moment, bytes, length));
+    count(kept_demand_3(given.who, given.what, given.right, given.records, given.records_length, given.buffer, given.buffer_length,
+                        chain, sizeof chain, given.proof, given.proof_length, moment, bytes, length));
 }
 
 /* Demand 3 of a case, at every moment in every state. */

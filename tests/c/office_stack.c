@@ -10,6 +10,8 @@
 #define LIMIT (1024 * 1024)
 
 static struct case_bytes given;
+static uint8_t pairs[MOST_PAIRS * PAIR_BYTES];
+static size_t pairs_length;
 static char input[70000];
 static size_t input_length;
 static uint8_t text[MOST_TEXT];
@@ -20,14 +22,23 @@ static volatile uint64_t answer;
 static void verify(void)
 {
     answer = office_verify(given.who, given.what, given.right, given.records, given.records_length, given.buffer,
-                           given.buffer_length, given.proof, given.proof_length, text, sizeof text);
+                           given.buffer_length, pairs, pairs_length, given.proof, given.proof_length, text, sizeof text);
 }
 
 /* The direct check, in an empty state: the walk is as deep as verify's up to the first fact. */
 static void direct(void)
 {
     answer = office_direct(given.who, given.what, given.right, given.records, given.records_length, given.buffer,
-                           given.buffer_length, given.proof, given.proof_length, 1500, NULL, 0);
+                           given.buffer_length, pairs, pairs_length, given.proof, given.proof_length, 1500, NULL, 0);
+}
+
+/* 128 pairs in a chain: each principal from 2 to 129 stands above the next. */
+static void fill_pairs(void)
+{
+    for (int i = 0; i < MOST_PAIRS; i++) {
+        pairs[i * PAIR_BYTES + 1] = (uint8_t)(i + 2);
+        pairs[i * PAIR_BYTES + 3] = (uint8_t)(i + 3);
+    }
 }
 
 static void answer_case(void)
@@ -63,13 +74,18 @@ static int measure(const char *call, void (*made)(void), unsigned refused)
 int main(int count, char **words)
 {
     int bad = 0;
+    fill_pairs();
     for (int i = 1; i < count; i++) {
         input_length = read_file(words[i], input, sizeof input);
         read_case(input, &given);
         printf("%s\n", words[i]);
+        pairs_length = 0;
         bad |= measure("verify", verify, 0);
         text_length = LENGTH_OF(answer);
         bad |= measure("the direct check", direct, 10);
+        pairs_length = sizeof pairs;
+        bad |= measure("verify with 128 pairs", verify, 0);
+        bad |= measure("the direct check with 128 pairs", direct, 10);
         bad |= measure("reading and writing the text", rewrite, 0);
         bad |= measure("answering the case", answer_case, 0);
     }

@@ -15,7 +15,7 @@
 
 #define ROOM 131072
 #define LATEST 1099511627775u
-enum { RECORDS, BUFFER, PROOF, STATE, TEXT, OUT, SLOTS };
+enum { RECORDS, BUFFER, PAIRS, PROOF, STATE, TEXT, OUT, SLOTS };
 
 /* What is left of the input. */
 static const uint8_t *rest;
@@ -77,7 +77,7 @@ static struct part buffer_to_write(size_t length) {
 /* A call that writes gives a number that it may give, and leaves the buffer alone past what it wrote. */
 static void hold_written(uint64_t answer, struct part out, unsigned most) {
     unsigned refused = NUMBER_OF(answer);
-    hold(refused <= most || refused == 12 || refused == 13, "a number that this call does not give");
+    hold(refused <= most || refused == 12 || refused == 13 || (most == 5 && refused == 21), "a number that this call does not give");
     hold(refused == 0 || LENGTH_OF(answer) == 0, "a refusal has length 0");
     hold(LENGTH_OF(answer) <= out.length, "no more is written than there is room for");
     for (size_t i = LENGTH_OF(answer); i < out.length; i++) hold(out.bytes[i] == 0xa5, "bytes past the text stay as they were");
@@ -110,17 +110,18 @@ static void press(struct part text) {
 static void verify(void) {
     uint16_t who = number(2), what = number(2), right = number(2);
     uint64_t moment = number(8);
-    struct part records = part(RECORDS), buffer = part(BUFFER), proof = part(PROOF), state = part(STATE);
+    struct part records = part(RECORDS), buffer = part(BUFFER), pairs = part(PAIRS), proof = part(PROOF), state = part(STATE);
     struct part out = buffer_to_write(MOST_TEXT);
-    hold(kept_demand_3(who, what, right, records.bytes, records.length, buffer.bytes, buffer.length, proof.bytes, proof.length, moment,
-                       state.bytes, state.length),
+    hold(kept_demand_3(who, what, right, records.bytes, records.length, buffer.bytes, buffer.length, pairs.bytes, pairs.length, proof.bytes,
+                       proof.length, moment, state.bytes, state.length),
          "demand 3 says no");
-    uint64_t answer = office_verify(who, what, right, records.bytes, records.length, buffer.bytes, buffer.length, proof.bytes,
-                                    proof.length, out.bytes, out.length);
+    uint64_t answer = office_verify(who, what, right, records.bytes, records.length, buffer.bytes, buffer.length, pairs.bytes,
+                                    pairs.length, proof.bytes, proof.length, out.bytes, out.length);
     hold_written(answer, out, 5);
     hold(PLACE_OF(answer) < 4096, "a place is an index or an offset in the proof");
-    uint64_t direct = office_direct(who, what, right, records.bytes, records.length, buffer.bytes, buffer.length, proof.bytes,
-                                    proof.length, moment, state.bytes, state.length);
+    hold(NUMBER_OF(answer) != 21 || pairs.length > MOST_PAIRS * PAIR_BYTES, "21 is for over 128 pairs");
+    uint64_t direct = office_direct(who, what, right, records.bytes, records.length, buffer.bytes, buffer.length, pairs.bytes,
+                                    pairs.length, proof.bytes, proof.length, moment, state.bytes, state.length);
     if (NUMBER_OF(answer) != 0) {
         hold(NUMBER_OF(direct) != 0, "nothing is accepted for which no procap is issued");
         return;

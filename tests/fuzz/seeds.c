@@ -63,7 +63,7 @@ static void keep(const char *folder, const char *file, char letter)
     length = 0;
 }
 
-/* The question of a case to verify. */
+/* The question of a case to verify, with 2 above 3 and 3 above 1. */
 static void verify_seed(const char *text)
 {
     static struct case_bytes given;
@@ -73,6 +73,7 @@ static void verify_seed(const char *text)
     number(1500, 8);
     part(given.records, given.records_length);
     part(given.buffer, given.buffer_length);
+    part("\x00\x02\x00\x03\x00\x03\x00\x01", 8);
     part(given.proof, given.proof_length);
     state();
 }

@@ -51,12 +51,12 @@ facts-from k (suc n) = (200, Name k ∷ []) ∷ facts-from (suc k) n
 
 -- Sixteen facts are asked for, and all are listed.
 sixteen-are-listed :
-    verified request-P (records 141) (rule (sixteen 0x11 loaded)) (applied (sixteen 0x22 asked)) ≡ granted (procap-of request-P earliest latest (facts-from 0 16))
+    verified request-P (records 141) (rule (sixteen 0x11 loaded)) [] (applied (sixteen 0x22 asked)) ≡ granted (procap-of request-P earliest latest (facts-from 0 16))
 unfolding computes facts-from
 sixteen-are-listed = refl
 
 -- The first of them is asked for again: that is a 17th step 2C, and the answer is 2, at no place.
 a-seventeenth-step-is-malformed :
-    verified request-P (records 149) (rule (0x11 ∷ (sixteen 0x11 loaded ++ loaded 0))) (applied (0x22 ∷ (sixteen 0x22 asked ++ asked 0))) ≡ refused ProofMalformed
+    verified request-P (records 149) (rule (0x11 ∷ (sixteen 0x11 loaded ++ loaded 0))) [] (applied (0x22 ∷ (sixteen 0x22 asked ++ asked 0))) ≡ refused ProofMalformed
 unfolding computes
 a-seventeenth-step-is-malformed = refl

@@ -1,6 +1,6 @@
 -- No refusal of verify, of the reader and the writer of a text, or of a case has the number of a grant.
 use Prim.Native.Nat.{ℕ, zero, suc, _<_}
-use mathlib.Core.List.{List}
+use mathlib.Core.List.{List, []}
 use mathlib.Core.Option.{Option, some, none}
 use native.Mathlib.Decide.{decLe}
 use native.Mathlib.Omega.{arith}
@@ -28,10 +28,10 @@ abbrev pub Refuses : Answer → Type 0
 Refuses answer = 0 < number-of answer
 
 -- Where verify is refused, it is so with the answer of a refusal.
-pub verified-refuses : (r : Request) (records : List Certificate) (buffer proof : List ℕ) → IfRefused Refuses (verified r records buffer proof)
+pub verified-refuses : (r : Request) (records : List Certificate) (buffer pairs proof : List ℕ) → IfRefused Refuses (verified r records buffer pairs proof)
 unfolding verified
-verified-refuses r records buffer proof =
-    go-on-refused Refuses _ _ (case-refused Refuses (λ i. omega arith) (omega arith) records buffer proof) λ x _.
+verified-refuses r records buffer pairs proof =
+    go-on-refused Refuses _ _ (case-refused Refuses (λ i. omega arith) (omega arith) (omega arith) records buffer pairs proof) λ x _.
     go-on-refused Refuses _ _ (run-refused Refuses (λ q. omega arith) (λ q. omega arith) (λ q. omega arith) _ _ _) λ w _.
     issue-refused Refuses (omega arith) r (w .1)
 
@@ -104,4 +104,4 @@ module _ (bytes : List ℕ) where
 pub checked-refuses : (input : List ℕ) → IfRefused Refuses (checked input)
 unfolding checked
 checked-refuses input =
-    go-on-refused Refuses _ _ (input-refuses input) λ c _. verified-refuses (c .request) (records-from 0 (c .groups)) (buffer-of (c .groups)) (c .proof)
+    go-on-refused Refuses _ _ (input-refuses input) λ c _. verified-refuses (c .request) (records-from 0 (c .groups)) (buffer-of (c .groups)) [] (c .proof)

@@ -1,6 +1,6 @@
 -- [Program] What the program prints for its input.
 use Prim.Native.Nat.{ℕ}
-use mathlib.Core.List.{List}
+use mathlib.Core.List.{List, []}
 use Rattle.procap.specs.Outcome.{Outcome, granted, refused, go-on}
 use Rattle.procap.specs.declared.procap.Procap.{Procap}
 use Rattle.bl.specs.Calls.{verified}
@@ -12,7 +12,7 @@ use Rattle.cases.specs.Case.{case-in, buffer-of, records-from}
 unfoldable pub checked : List ℕ → Outcome Procap
 checked input =
     go-on (case-in input) λ c.
-    verified (c .request) (records-from 0 (c .groups)) (buffer-of (c .groups)) (c .proof)
+    verified (c .request) (records-from 0 (c .groups)) (buffer-of (c .groups)) [] (c .proof)
 
 -- [Program] The text of the procap, or the refusal's number and place.
 unfoldable pub printed-of : Outcome Procap → List ℕ

@@ -124,4 +124,4 @@ CaseReads o r bytes = Reads o (r .form) (CaseFound o r bytes)
 -- What verify comes to for a request, its records, and the formulas and the proof in a buffer: the one ends at `split`, the other at `end`.
 abbrev pub verified-in : List ℕ → Request → Records → ℕ → ℕ → Outcome Procap
 verified-in bytes request certificates split end =
-    verified request (kept-records certificates) (take split bytes) (take (end - split) (drop split bytes))
+    verified request (kept-records certificates) (take split bytes) [] (take (end - split) (drop split bytes))

@@ -47,7 +47,7 @@ pub fn answer_case(input: &[u8], out: &mut [u8]) -> WrittenText
     write_verified(verified, out)
 }
 
-// What verify answers for the formulas and the proof that stand in the buffer, one after the other.
+// What verify answers for the formulas and the proof that stand in the buffer, one after the other. A case has no pairs.
 fn verify_parts(
     request: Request,
     certificates: Records,
@@ -62,7 +62,15 @@ fn verify_parts(
 {
     let count = certificates.count;
     let records = certificates.records;
-    verify_lent(request, records, count, &bytes[..split], &bytes[split..end])
+    let no_pairs = [0u32; 0];
+    verify_lent(
+        request,
+        records,
+        count,
+        &bytes[..split],
+        &no_pairs,
+        &bytes[split..end],
+    )
 }
 
 // What verify answers to the first `count` of the records, which are lent to it.
@@ -71,12 +79,13 @@ fn verify_lent(
     records: [Certificate; MOST_CERTIFICATES],
     count: usize,
     buffer: &[u8],
+    pairs: &[u32],
     proof: &[u8],
 ) -> Verified
     requires { ⌜ count ≤ «most-certificates» ⌝ }
-    ensures { λ r. ⌜ HandsOver (verified request (take count records) (now (buffer .entry)) (now (proof .entry))) r ⌝ }
+    ensures { λ r. ⌜ HandsOver (verified request (take count records) (now (buffer .entry)) (now (pairs .entry)) (now (proof .entry))) r ⌝ }
 {
-    verify(request, &records[..count], buffer, proof)
+    verify(request, &records[..count], buffer, pairs, proof)
 }
 
 // Puts what is printed for what verify answers at the front of the buffer.

@@ -2,7 +2,7 @@
 -- `Opening` (an issued procap at the door), `Printed` (what the program prints), and the theorems of `bl`, `text`, `door` and `cases`.
 use Prim.Native.Nat.{ℕ, _≤_}
 use mathlib.Core.Path.{_≡_, sym, _∙_}
-use mathlib.Core.List.{List}
+use mathlib.Core.List.{List, []}
 use mathlib.Core.Option.{some}
 use mathlib.Core.Logic.{_↔_, Iff·symm, Iff·trans}
 use native.Mathlib.Omega.{arith}
@@ -51,9 +51,9 @@ pub every-number-has-an-answer : (n : ℕ) → In n numbers → (answer : Answer
 every-number-has-an-answer n listed = listed-is-a-number n listed
 
 -- Demand 1. A blender who is refused at the office walks away with an empty procap.
-pub refused-verify-is-empty : (r : Request) (certificates : List Certificate) (buffer proof : List ℕ) (v : Verified)
-    → VerifyGives r certificates buffer proof v → (v .answer ≡ Granted → ⊥) → v .procap ≡ empty-procap
-refused-verify-is-empty r certificates buffer proof v gives n = gives .procap ∙ handed-of-refusal _ (λ e. n (gives .answer ∙ e))
+pub refused-verify-is-empty : (r : Request) (certificates : List Certificate) (buffer pairs proof : List ℕ) (v : Verified)
+    → VerifyGives r certificates buffer pairs proof v → (v .answer ≡ Granted → ⊥) → v .procap ≡ empty-procap
+refused-verify-is-empty r certificates buffer pairs proof v gives n = gives .procap ∙ handed-of-refusal _ (λ e. n (gives .answer ∙ e))
 
 -- Demand 1. So does one whose text is scribbled on.
 pub refused-read-is-empty : (text : List ℕ) (v : ReadText) → ReadGives text v → (v .answer ≡ Granted → ⊥) → v .procap ≡ empty-procap
@@ -84,12 +84,12 @@ every-case-is-answered input before room w after gives =
 
 -- Demand 2. The direct check answers 0 exactly when all that is lent reads and the proof is a derivation by the rules, at that moment in
 -- that state: no search tool, however clever or broken, gets a blender's press through that the house's rules do not give.
-pub accepted-exactly-when-derived : (r : Request) (certificates : List Certificate) (buffer proof : List ℕ) (m : ℕ) (state : List ℕ) (answer : Answer)
-    → DirectGives r certificates buffer proof m state answer
-    → (answer ≡ Granted) ↔ Derivable r certificates buffer proof m state
-accepted-exactly-when-derived r certificates buffer proof m state answer gives =
-    Iff·trans (accepts-exactly r certificates buffer proof m state answer gives)
-    (direct-accepts-exactly-derivations r certificates buffer proof m state)
+pub accepted-exactly-when-derived : (r : Request) (certificates : List Certificate) (buffer pairs proof : List ℕ) (m : ℕ) (state : List ℕ) (answer : Answer)
+    → DirectGives r certificates buffer pairs proof m state answer
+    → (answer ≡ Granted) ↔ Derivable r certificates buffer pairs proof m state
+accepted-exactly-when-derived r certificates buffer pairs proof m state answer gives =
+    Iff·trans (accepts-exactly r certificates buffer pairs proof m state answer gives)
+    (direct-accepts-exactly-derivations r certificates buffer pairs proof m state)
 
 -- Demand 2. What we write reads back the same: the procap that a blender carries to the desk as a text is the one that was issued.
 pub what-is-written-reads-back : (p : Procap) (before : List ℕ) (w : WrittenText) (after : List ℕ) → WriteGives p before w after
@@ -108,32 +108,32 @@ what-reads-is-what-would-be-written text v gives granted-it before room w after 
 
 -- ── Demand 3 ──
 
-module _ (r : Request) (certificates : List Certificate) (buffer proof : List ℕ) where
+module _ (r : Request) (certificates : List Certificate) (buffer pairs proof : List ℕ) where
   -- Demand 3, the issuing half. Verify answers 0 exactly when some press would be accepted if that proof were checked there: a blender
   -- who may start at some time gets a procap, and nobody else does.
-  pub issued-exactly-where-some-press-is-answered : AreBytes buffer → AreBytes proof → (v : Verified) → VerifyGives r certificates buffer proof v
-      → (v .answer ≡ Granted) ↔ AnsweredSomewhere r certificates buffer proof
+  pub issued-exactly-where-some-press-is-answered : AreBytes buffer → AreBytes proof → (v : Verified) → VerifyGives r certificates buffer pairs proof v
+      → (v .answer ≡ Granted) ↔ AnsweredSomewhere r certificates buffer pairs proof
   issued-exactly-where-some-press-is-answered in-bytes proof-in-bytes v gives =
-      let somewhere = issued-exactly-where-some-press-is-accepted r certificates buffer proof in-bytes proof-in-bytes in
-      let answered = somewhere-exactly r certificates buffer proof in (
-        λ e. answered .0 (somewhere .0 (v .procap, issues-exactly r certificates buffer proof v gives .0 e)),
+      let somewhere = issued-exactly-where-some-press-is-accepted r certificates buffer pairs proof in-bytes proof-in-bytes in
+      let answered = somewhere-exactly r certificates buffer pairs proof in (
+        λ e. answered .0 (somewhere .0 (v .procap, issues-exactly r certificates buffer pairs proof v gives .0 e)),
         λ s. let (p, e) = somewhere .1 (answered .1 s) in gives .answer ∙ answer-granted _ p e,
       )
 
   module _ (names : RequestInForm r) (in-bytes : AreBytes buffer) (proof-in-bytes : AreBytes proof) (v : Verified)
-      (gives : VerifyGives r certificates buffer proof v) (issued : v .answer ≡ Granted) where
+      (gives : VerifyGives r certificates buffer pairs proof v) (issued : v .answer ≡ Granted) where
     -- Demand 3, the opening half. At every press, whatever was answered at another one: the procap that verify hands over, shown for its
     -- own request, opens the door exactly where the same proof would be accepted if the blender brought it to the desk.
     pub opens-exactly-where-direct-answers : (m : ℕ) → m ≤ latest → (state : List ℕ) (σ : List Spelled) → stated state ≡ some σ
         → (opened : Answer) → OpenGives (v .procap) r m state opened
-        → (checked : Answer) → DirectGives r certificates buffer proof m state checked
+        → (checked : Answer) → DirectGives r certificates buffer pairs proof m state checked
         → (opened ≡ Granted) ↔ (checked ≡ Granted)
     opens-exactly-where-direct-answers m in-range state σ reads opened opens checked checks =
-        let e = issues-exactly r certificates buffer proof v gives .0 issued in
-        let can-be-written = issued-can-be-written r certificates buffer proof names in-bytes proof-in-bytes (v .procap) e in
-        let law = issued-opens-the-door-exactly-where-direct-accepts r certificates buffer proof names in-bytes proof-in-bytes (v .procap) e in
+        let e = issues-exactly r certificates buffer pairs proof v gives .0 issued in
+        let can-be-written = issued-can-be-written r certificates buffer pairs proof names in-bytes proof-in-bytes (v .procap) e in
+        let law = issued-opens-the-door-exactly-where-direct-accepts r certificates buffer pairs proof names in-bytes proof-in-bytes (v .procap) e in
         let at-the-door = opens-exactly (v .procap) can-be-written r m state opened opens in
-        let at-the-check = accepts-exactly r certificates buffer proof m state checked checks in
+        let at-the-check = accepts-exactly r certificates buffer pairs proof m state checked checks in
         Iff·trans at-the-door (Iff·trans (law m in-range state σ reads) (Iff·symm at-the-check))
 
     -- Demand 3, the way from the office to the desk. What is issued can be written into every buffer with room for 1,223 bytes, so that a
@@ -141,8 +141,8 @@ module _ (r : Request) (certificates : List Certificate) (buffer proof : List �
     pub what-is-issued-is-written : (before : List ℕ) → most-text ≤ length before → (w : WrittenText) (after : List ℕ)
         → WriteGives (v .procap) before w after → w .answer ≡ Granted
     what-is-issued-is-written before room w after writes =
-        let e = issues-exactly r certificates buffer proof v gives .0 issued in
-        let law = issued-is-written r certificates buffer proof names in-bytes proof-in-bytes (v .procap) e in
+        let e = issues-exactly r certificates buffer pairs proof v gives .0 issued in
+        let law = issued-is-written r certificates buffer pairs proof names in-bytes proof-in-bytes (v .procap) e in
         writes .answer ∙ answer-granted _ _ (law (length before) room)
 
     -- Demand 3, the opening half, for the desk firmware. The text that is written of the procap opens the door exactly where the same proof
@@ -150,14 +150,14 @@ module _ (r : Request) (certificates : List Certificate) (buffer proof : List �
     pub its-text-opens-exactly-where-direct-answers : (before : List ℕ) (w : WrittenText) (after : List ℕ) → WriteGives (v .procap) before w after
         → w .answer ≡ Granted → (m : ℕ) → m ≤ latest → (state : List ℕ) (σ : List Spelled) → stated state ≡ some σ
         → (number : ℕ) → DoorGives (take (w .length) after) r m state number
-        → (checked : Answer) → DirectGives r certificates buffer proof m state checked
+        → (checked : Answer) → DirectGives r certificates buffer pairs proof m state checked
         → (number ≡ 0) ↔ (checked ≡ Granted)
     its-text-opens-exactly-where-direct-answers before w after writes written m in-range state σ reads number opens checked checks =
-        let e = issues-exactly r certificates buffer proof v gives .0 issued in
+        let e = issues-exactly r certificates buffer pairs proof v gives .0 issued in
         let given = writes-exactly (v .procap) before w after writes .0 written in
-        let law = its-text-opens-the-door-exactly-where-direct-accepts r certificates buffer proof names in-bytes proof-in-bytes (v .procap) e in
+        let law = its-text-opens-the-door-exactly-where-direct-accepts r certificates buffer pairs proof names in-bytes proof-in-bytes (v .procap) e in
         let at-the-door = lets-in-exactly (take (w .length) after) r m state number opens in
-        let at-the-check = accepts-exactly r certificates buffer proof m state checked checks in
+        let at-the-check = accepts-exactly r certificates buffer pairs proof m state checked checks in
         Iff·trans at-the-door (Iff·trans (law (length before) _ given m in-range state σ reads) (Iff·symm at-the-check))
 
 -- Demand 3, from the case to the desk. Whatever the program prints for a case, a procap or a refusal, shown at the door for the case's own
@@ -165,7 +165,7 @@ module _ (r : Request) (certificates : List Certificate) (buffer proof : List �
 pub what-is-printed-opens-exactly-where-direct-accepts : (input : List ℕ) (c : Case) → case-in input ≡ granted c
     → (m : ℕ) → m ≤ latest → (state : List ℕ) → AreBytes state → (σ : List Spelled) → stated state ≡ some σ
     → (number : ℕ) → DoorGives (printed input) (c .request) m state number
-    → (number ≡ 0) ↔ (directly (c .request) (records-from 0 (c .groups)) (buffer-of (c .groups)) (c .proof) m state ≡ granted tt)
+    → (number ≡ 0) ↔ (directly (c .request) (records-from 0 (c .groups)) (buffer-of (c .groups)) [] (c .proof) m state ≡ granted tt)
 what-is-printed-opens-exactly-where-direct-accepts input c reads m in-range state in-bytes σ states number opens =
     Iff·trans (lets-in-exactly (printed input) (c .request) m state number opens)
     (printed-opens-exactly input c reads m in-range state in-bytes σ states)

@@ -28,6 +28,7 @@ use Rattle.text.proofs.Written.{fitted}
 use Rattle.text.proofs.Theorems.{one-text-each, written-is-read}
 use Rattle.cases.proofs.Refusals.{Refuses, verified-refuses, reading-refuses, writing-refuses}
 use Rattle.from_c.specs.Records.{records-in}
+use Rattle.from_c.specs.Pairs.{pair-numbers}
 use Rattle.from_c.specs.Packing.{packed, HandsBack, number-in, length-in}
 use Rattle.from_c.specs.Values.{value-bytes, value-of, value-in}
 use Rattle.from_c.specs.Calls.{verifying, rewriting, value-writing}
@@ -126,27 +127,27 @@ value-writing-is-short value room text e = value-written-from value room text e 
 
 -- ── The office ──
 
-module _ (r : Request) (records buffer proof : List ℕ) where
-  pub verifying-refuses : (room : ℕ) → IfRefused Refuses (verifying r records buffer proof room)
+module _ (r : Request) (records buffer pairs proof : List ℕ) where
+  pub verifying-refuses : (room : ℕ) → IfRefused Refuses (verifying r records buffer pairs proof room)
   unfolding verifying
-  verifying-refuses room = go-on-refused Refuses _ _ (verified-refuses r (records-in records) buffer proof) λ p _. writing-refuses p room
+  verifying-refuses room = go-on-refused Refuses _ _ (verified-refuses r (records-in records) buffer (pair-numbers pairs) proof) λ p _. writing-refuses p room
 
   -- A text that verify's call gives is the one that is written of the procap that it issues.
-  pub issued-for : {C : Type 0} (room : ℕ) (text : List ℕ) → verifying r records buffer proof room ≡ granted text
-      → ((p : Procap) → verified r (records-in records) buffer proof ≡ granted p → writing p room ≡ granted text → C) → C
+  pub issued-for : {C : Type 0} (room : ℕ) (text : List ℕ) → verifying r records buffer pairs proof room ≡ granted text
+      → ((p : Procap) → verified r (records-in records) buffer (pair-numbers pairs) proof ≡ granted p → writing p room ≡ granted text → C) → C
   unfolding verifying
   issued-for room text e k = went-on _ _ _ e k
 
-  pub verifying-is-short : (room : ℕ) (text : List ℕ) → verifying r records buffer proof room ≡ granted text → length text ≤ most-text
+  pub verifying-is-short : (room : ℕ) (text : List ℕ) → verifying r records buffer pairs proof room ≡ granted text → length text ≤ most-text
   verifying-is-short room text e = issued-for room text e λ p _ writes. written-is-short p room text writes
 
   -- The direct check's number is 0 exactly where it accepts.
-  pub zero-exactly-when-accepted : (m : ℕ) (state : List ℕ) (number : ℕ) → OfficeDirectGives r records buffer proof m state number
-      → (number-in number ≡ 0) ↔ (directly r (records-in records) buffer proof m state ≡ granted tt)
+  pub zero-exactly-when-accepted : (m : ℕ) (state : List ℕ) (number : ℕ) → OfficeDirectGives r records buffer pairs proof m state number
+      → (number-in number ≡ 0) ↔ (directly r (records-in records) buffer (pair-numbers pairs) proof m state ≡ granted tt)
   zero-exactly-when-accepted m state number gives =
-      let o = directly r (records-in records) buffer proof m state in
+      let o = directly r (records-in records) buffer (pair-numbers pairs) proof m state in
       let told = ap number-in gives ∙ unpacked-number (answer-of o) 0 in
-      let refuses = directly-refuses r (records-in records) buffer proof m state in (
+      let refuses = directly-refuses r (records-in records) buffer (pair-numbers pairs) proof m state in (
         λ zero. granted-answer o refuses (zero-exactly-when-granted (answer-of o) .0 (sym told ∙ zero)) .1,
         λ accepts. told ∙ ap number-of (answer-granted o tt accepts),
       )

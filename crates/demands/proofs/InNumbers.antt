@@ -3,7 +3,7 @@
 -- state.
 use Prim.Native.Nat.{ℕ, _/_, _%_, _≤_, _<_}
 use mathlib.Core.Path.{_≡_, refl, sym, ap, _∙_}
-use mathlib.Core.List.{List}
+use mathlib.Core.List.{List, []}
 use mathlib.Core.Option.{some}
 use mathlib.Core.Logic.{_↔_, _⊎_, inl, inr, Iff·symm, Iff·trans}
 use native.Mathlib.Omega.{arith}
@@ -36,6 +36,7 @@ use Rattle.cases.specs.Calls.{checked, printed-of, printed}
 use Rattle.cases.proofs.AlwaysPrinted.{printed-is-short, always-printed}
 use Rattle.cases.proofs.Refusals.{Refuses, checked-refuses}
 use Rattle.from_c.specs.Records.{records-in}
+use Rattle.from_c.specs.Pairs.{pair-numbers}
 use Rattle.from_c.specs.Packing.{HandsBack, number-in, length-in}
 use Rattle.from_c.specs.Values.{value-in}
 use Rattle.from_c.specs.Calls.{verifying, rewriting}
@@ -98,11 +99,11 @@ every-case-is-answered-with-0 input before room number after gives =
 -- ── Demand 2 ──
 
 -- The number of the direct check is 0 exactly when all that is lent reads and the proof is a derivation, at that moment in that state.
-pub direct-has-0-exactly-when-derived : (r : Request) (records buffer proof : List ℕ) (m : ℕ) (state : List ℕ) (number : ℕ)
-    → OfficeDirectGives r records buffer proof m state number → (number-in number ≡ 0) ↔ Derivable r (records-in records) buffer proof m state
-direct-has-0-exactly-when-derived r records buffer proof m state number gives =
-    Iff·trans (zero-exactly-when-accepted r records buffer proof m state number gives)
-    (direct-accepts-exactly-derivations r (records-in records) buffer proof m state)
+pub direct-has-0-exactly-when-derived : (r : Request) (records buffer pairs proof : List ℕ) (m : ℕ) (state : List ℕ) (number : ℕ)
+    → OfficeDirectGives r records buffer pairs proof m state number → (number-in number ≡ 0) ↔ Derivable r (records-in records) buffer (pair-numbers pairs) proof m state
+direct-has-0-exactly-when-derived r records buffer pairs proof m state number gives =
+    Iff·trans (zero-exactly-when-accepted r records buffer pairs proof m state number gives)
+    (direct-accepts-exactly-derivations r (records-in records) buffer (pair-numbers pairs) proof m state)
 
 -- What reads is what would have been written: bytes that are rewritten with 0 stand in front of the buffer as they were.
 pub what-reads-is-rewritten : (text before : List ℕ) (number : ℕ) (after : List ℕ) → OfficeRewriteGives text before number after → number-in number ≡ 0
@@ -137,35 +138,35 @@ module _ (value before : List ℕ) (number : ℕ) (after : List ℕ) (gives : Of
 
 -- ── Demand 3 ──
 
-module _ (r : Request) (records buffer proof : List ℕ) where
+module _ (r : Request) (records buffer pairs proof : List ℕ) where
   -- A press that is accepted somewhere is one at which the number of the direct check is 0.
-  zero-somewhere-exactly : AcceptedSomewhere r (records-in records) buffer proof ↔ ZeroSomewhere r records buffer proof
+  zero-somewhere-exactly : AcceptedSomewhere r (records-in records) buffer (pair-numbers pairs) proof ↔ ZeroSomewhere r records buffer pairs proof
   zero-somewhere-exactly =
-      let exactly = zero-exactly-when-accepted r records buffer proof in (
+      let exactly = zero-exactly-when-accepted r records buffer pairs proof in (
         so-there (λ m state accepts. (_, refl, exactly m state _ refl .1 accepts)),
         so-there (λ m state so. exactly m state (so .0) (so .1) .0 (so .2)),
       )
 
   module _ (names : RequestInForm r) (in-bytes : AreBytes buffer) (proof-in-bytes : AreBytes proof) (before : List ℕ) (room : most-text ≤ length before)
-      (number : ℕ) (after : List ℕ) (gives : OfficeVerifyGives r records buffer proof before number after) where
+      (number : ℕ) (after : List ℕ) (gives : OfficeVerifyGives r records buffer pairs proof before number after) where
     -- The text of the procap that is issued, where the number is 0.
     issued-text : {C : Type 0} → number-in number ≡ 0
-        → ((p : Procap) → verified r (records-in records) buffer proof ≡ granted p → (text : List ℕ) → writing p (length before) ≡ granted text
+        → ((p : Procap) → verified r (records-in records) buffer (pair-numbers pairs) proof ≡ granted p → (text : List ℕ) → writing p (length before) ≡ granted text
         → take (length-in number) after ≡ text → C) → C
     issued-text zero k =
-        let (text, grant) = zero-is-a-grant _ before number after gives (verifying-refuses r records buffer proof (length before)) zero in
-        issued-for r records buffer proof (length before) text grant λ p issued writes.
+        let (text, grant) = zero-is-a-grant _ before number after gives (verifying-refuses r records buffer pairs proof (length before)) zero in
+        issued-for r records buffer pairs proof (length before) text grant λ p issued writes.
         k p issued text writes (text-in-front _ before number after gives text grant (written-is-short p (length before) text writes))
 
     -- The issuing half: verify's number is 0 exactly when the direct check's is 0 at some moment in range in some well-formed state.
-    pub issued-with-0-exactly-where-some-press-has-0 : (number-in number ≡ 0) ↔ ZeroSomewhere r records buffer proof
+    pub issued-with-0-exactly-where-some-press-has-0 : (number-in number ≡ 0) ↔ ZeroSomewhere r records buffer pairs proof
     unfolding verifying
     issued-with-0-exactly-where-some-press-has-0 =
-        let somewhere = issued-exactly-where-some-press-is-accepted r (records-in records) buffer proof in-bytes proof-in-bytes in (
+        let somewhere = issued-exactly-where-some-press-is-accepted r (records-in records) buffer (pair-numbers pairs) proof in-bytes proof-in-bytes in (
           λ zero. issued-text zero λ p issued _ _ _. zero-somewhere-exactly .0 (somewhere .0 (p, issued)),
           λ z.
               let (p, issued) = somewhere .1 (zero-somewhere-exactly .1 z) in
-              let written = issued-is-written r (records-in records) buffer proof names in-bytes proof-in-bytes p issued (length before) room in
+              let written = issued-is-written r (records-in records) buffer (pair-numbers pairs) proof names in-bytes proof-in-bytes p issued (length before) room in
               grant-is-zero _ before number after gives (text-of p) (goes-on _ _ p issued ∙ written) (written-is-short p (length before) (text-of p) written),
         )
 
@@ -173,28 +174,28 @@ module _ (r : Request) (records buffer proof : List ℕ) where
     -- check's number is 0, at every press.
     pub opens-with-0-exactly-where-direct-has-0 : number-in number ≡ 0 → (m : ℕ) (state : List ℕ)
         → (pressed : ℕ) → DoorGives (take (length-in number) after) r m state pressed
-        → (checked : ℕ) → OfficeDirectGives r records buffer proof m state checked
+        → (checked : ℕ) → OfficeDirectGives r records buffer pairs proof m state checked
         → (pressed ≡ 0) ↔ (number-in checked ≡ 0)
     opens-with-0-exactly-where-direct-has-0 zero m state pressed opens checked checks =
         issued-text zero λ p issued text writes front.
-        let law = its-text-opens-the-door-at-the-same-presses r (records-in records) buffer proof names in-bytes proof-in-bytes p issued in
+        let law = its-text-opens-the-door-at-the-same-presses r (records-in records) buffer (pair-numbers pairs) proof names in-bytes proof-in-bytes p issued in
         Iff·trans (lets-in-exactly text r m state pressed (rw front at opens))
-        (Iff·trans (law (length before) text writes m state) (Iff·symm (zero-exactly-when-accepted r records buffer proof m state checked checks)))
+        (Iff·trans (law (length before) text writes m state) (Iff·symm (zero-exactly-when-accepted r records buffer pairs proof m state checked checks)))
 
     -- Where verify's number is another, nothing is accepted: the direct check's number is never 0.
     pub refused-has-0-nowhere : (number-in number ≡ 0 → ⊥) → (m : ℕ) (state : List ℕ) → AreBytes state
-        → (checked : ℕ) → OfficeDirectGives r records buffer proof m state checked → number-in checked ≡ 0 → ⊥
+        → (checked : ℕ) → OfficeDirectGives r records buffer pairs proof m state checked → number-in checked ≡ 0 → ⊥
     refused-has-0-nowhere other m state state-in-bytes checked checks zero =
-        let accepts = zero-exactly-when-accepted r records buffer proof m state checked checks .0 zero in
-        other (issued-with-0-exactly-where-some-press-has-0 .1 (zero-somewhere-exactly .0 (accepted-there _ _ _ _ m state state-in-bytes accepts)))
+        let accepts = zero-exactly-when-accepted r records buffer pairs proof m state checked checks .0 zero in
+        other (issued-with-0-exactly-where-some-press-has-0 .1 (zero-somewhere-exactly .0 (accepted-there _ _ _ _ _ m state state-in-bytes accepts)))
 
 -- From the case to the desk: whatever the program prints for a case, shown at the door for the case's own request, is answered 0 exactly
 -- where the number of the direct check of that case is 0.
 pub what-is-printed-opens-with-0-exactly-where-direct-has-0 : (input : List ℕ) (c : Case) → case-in input ≡ granted c
     → (m : ℕ) → m ≤ latest → (state : List ℕ) → AreBytes state → (σ : List Spelled) → stated state ≡ some σ
     → (pressed : ℕ) → DoorGives (printed input) (c .request) m state pressed
-    → (checked : Answer) → DirectGives (c .request) (records-from 0 (c .groups)) (buffer-of (c .groups)) (c .proof) m state checked
+    → (checked : Answer) → DirectGives (c .request) (records-from 0 (c .groups)) (buffer-of (c .groups)) [] (c .proof) m state checked
     → (pressed ≡ 0) ↔ (number-of checked ≡ 0)
 what-is-printed-opens-with-0-exactly-where-direct-has-0 input c reads m in-range state in-bytes σ states pressed opens checked checks =
     Iff·trans (what-is-printed-opens-exactly-where-direct-accepts input c reads m in-range state in-bytes σ states pressed opens)
-    (Iff·trans (Iff·symm (accepts-exactly _ _ _ _ m state checked checks)) (Iff·symm (zero-exactly-when-granted checked)))
+    (Iff·trans (Iff·symm (accepts-exactly _ _ _ _ _ m state checked checks)) (Iff·symm (zero-exactly-when-granted checked)))

@@ -40,7 +40,7 @@ pub data Press : Type 0 where
 
 abbrev pub ComesOut : Press → Type 0
 ComesOut (office proof number place procap) =
-    let out = verified request-P records-P buffer-P proof in
+    let out = verified request-P records-P buffer-P [] proof in
     (number-of (answer-of out) ≡ number) × (place-of (answer-of out) ≡ place) × (procap-handed out ≡ procap)
 ComesOut (desk request moment state number place) =
     let out = opening-text (bytes-of text-P) request moment state in

@@ -2,7 +2,7 @@
 -- opens nothing, and where verify refuses, no press is accepted.
 use Prim.Native.Nat.{ℕ, _≤_}
 use mathlib.Core.Path.{_≡_, refl, sym, ap, _∙_}
-use mathlib.Core.List.{List}
+use mathlib.Core.List.{List, []}
 use mathlib.Core.Option.{some}
 use mathlib.Core.Logic.{_↔_}
 use native.Mathlib.Omega.{arith}
@@ -51,14 +51,14 @@ module _ (input : List ℕ) (c : Case) (reads : case-in input ≡ granted c) (m 
     (σ : List Spelled) (states : stated state ≡ some σ) where
   -- What is accepted of the case, where it is checked at the desk.
   abbrev Accepted : Type 0
-  Accepted = directly (c .request) (records-from 0 (c .groups)) (buffer-of (c .groups)) (c .proof) m state ≡ granted tt
+  Accepted = directly (c .request) (records-from 0 (c .groups)) (buffer-of (c .groups)) [] (c .proof) m state ≡ granted tt
 
   -- A case that verify refuses is accepted nowhere.
   refused-is-accepted-nowhere : (answer : Answer) → verified-of c ≡ refused answer → Accepted → ⊥
   refused-is-accepted-nowhere answer e accepted =
       let (_, formulas-in-bytes, proof-in-bytes) = case-in-form input c reads in
-      let somewhere = issued-exactly-where-some-press-is-accepted _ _ _ _ formulas-in-bytes proof-in-bytes in
-      let (p, issued) = somewhere .1 (accepted-there _ _ _ _ m state in-bytes accepted) in
+      let somewhere = issued-exactly-where-some-press-is-accepted _ _ _ _ _ formulas-in-bytes proof-in-bytes in
+      let (p, issued) = somewhere .1 (accepted-there _ _ _ _ _ m state in-bytes accepted) in
       no-grant (sym e ∙ issued)
 
   -- What is printed of what verify comes to opens the door exactly where the case is accepted.
@@ -66,8 +66,8 @@ module _ (input : List ℕ) (c : Case) (reads : case-in input ≡ granted c) (m 
   unfolding printed-of
   opens-exactly (granted p) e =
       let (names, formulas-in-bytes, proof-in-bytes) = case-in-form input c reads in
-      let written = issued-is-written _ _ _ _ names formulas-in-bytes proof-in-bytes p e most-text (omega arith) in
-      its-text-opens-the-door-exactly-where-direct-accepts _ _ _ _ names formulas-in-bytes proof-in-bytes p e most-text (text-of p) written
+      let written = issued-is-written _ _ _ _ _ names formulas-in-bytes proof-in-bytes p e most-text (omega arith) in
+      its-text-opens-the-door-exactly-where-direct-accepts _ _ _ _ _ names formulas-in-bytes proof-in-bytes p e most-text (text-of p) written
       m in-range state σ states
   opens-exactly (refused answer) e = (
     λ opens. absurd (refusal-stays-shut answer (c .request) m state opens),

@@ -95,22 +95,22 @@ so-there follows s =
       is-so = follows (s .moment) (s .state) (s .is-so);
     }
 
-module _ (r : Request) (records : List Certificate) (buffer proof : List ℕ) where
+module _ (r : Request) (records : List Certificate) (buffer pairs proof : List ℕ) where
   -- No refusal of the direct check has the answer 0.
-  pub directly-refuses : (m : ℕ) (state : List ℕ) → IfRefused Refuses (directly r records buffer proof m state)
+  pub directly-refuses : (m : ℕ) (state : List ℕ) → IfRefused Refuses (directly r records buffer pairs proof m state)
   unfolding directly
   directly-refuses m state =
-      go-on-refused Refuses _ _ (case-refused Refuses (λ i. omega arith) (omega arith) records buffer proof) λ x _.
+      go-on-refused Refuses _ _ (case-refused Refuses (λ i. omega arith) (omega arith) (omega arith) records buffer pairs proof) λ x _.
       go-on-refused Refuses _ _ (press-refused Refuses (omega arith) (omega arith) m state) λ σ _.
       go-on-refused Refuses _ _ (run-refused Refuses (λ q. omega arith) (λ q. omega arith) (λ q. omega arith) _ _ _) λ w _.
       tt
 
-module _ (r : Request) (certificates : List Certificate) (buffer proof : List ℕ) where
+module _ (r : Request) (certificates : List Certificate) (buffer pairs proof : List ℕ) where
   -- A press that is accepted has a moment in range and a state that is well formed: it is one somewhere.
-  pub accepted-there : (m : ℕ) (state : List ℕ) → AreBytes state → directly r certificates buffer proof m state ≡ granted tt
-      → AcceptedSomewhere r certificates buffer proof
+  pub accepted-there : (m : ℕ) (state : List ℕ) → AreBytes state → directly r certificates buffer pairs proof m state ≡ granted tt
+      → AcceptedSomewhere r certificates buffer pairs proof
   accepted-there m state in-bytes accepts =
-      let derived = direct-accepts-exactly-derivations r certificates buffer proof m state .0 accepts in
+      let derived = direct-accepts-exactly-derivations r certificates buffer pairs proof m state .0 accepts in
       record {
         moment = m;
         moment-in-range = derived .moment-in-range;
@@ -122,18 +122,18 @@ module _ (r : Request) (certificates : List Certificate) (buffer proof : List �
       }
 
   -- The direct check answers 0 exactly when it accepts.
-  pub accepts-exactly : (m : ℕ) (state : List ℕ) (answer : Answer) → DirectGives r certificates buffer proof m state answer
-      → (answer ≡ Granted) ↔ (directly r certificates buffer proof m state ≡ granted tt)
-  accepts-exactly m state answer gives = answer-tells _ (directly-refuses r certificates buffer proof m state) answer gives
+  pub accepts-exactly : (m : ℕ) (state : List ℕ) (answer : Answer) → DirectGives r certificates buffer pairs proof m state answer
+      → (answer ≡ Granted) ↔ (directly r certificates buffer pairs proof m state ≡ granted tt)
+  accepts-exactly m state answer gives = answer-tells _ (directly-refuses r certificates buffer pairs proof m state) answer gives
 
   -- Verify answers 0 exactly when it issues the procap that it hands over.
-  pub issues-exactly : (v : Verified) → VerifyGives r certificates buffer proof v
-      → (v .answer ≡ Granted) ↔ (verified r certificates buffer proof ≡ granted (v .procap))
+  pub issues-exactly : (v : Verified) → VerifyGives r certificates buffer pairs proof v
+      → (v .answer ≡ Granted) ↔ (verified r certificates buffer pairs proof ≡ granted (v .procap))
   issues-exactly v gives =
-      procap-tells _ (verified-refuses r certificates buffer proof) (v .answer) (v .procap) (gives .answer) (gives .procap)
+      procap-tells _ (verified-refuses r certificates buffer pairs proof) (v .answer) (v .procap) (gives .answer) (gives .procap)
 
   -- A press that is accepted is one at which the direct check answers 0.
-  pub somewhere-exactly : AcceptedSomewhere r certificates buffer proof ↔ AnsweredSomewhere r certificates buffer proof
+  pub somewhere-exactly : AcceptedSomewhere r certificates buffer pairs proof ↔ AnsweredSomewhere r certificates buffer pairs proof
   somewhere-exactly = (
     so-there (λ m state accepts. sym (answer-granted _ tt accepts)),
     so-there (λ m state answers. accepts-exactly m state Granted answers .0 refl),

@@ -57,13 +57,13 @@ module _ {M : Type 1} (𝓤 : URA M) (H : Heap 𝓤) (A : Atoms 𝓤) (mem : Mem
 
   -- ── The office ──
 
-  pub verify-tied : (κs : Lfts 3) (a : Args verify.signature κs)
-      → PromisesBoth (verify.clauses 𝓤 H A mem run κs a) λ v _. VerifyGives (a .0) (a .1 .0 .now) (a .1 .1 .0 .now) (a .1 .1 .1 .0 .now) v
+  pub verify-tied : (κs : Lfts 4) (a : Args verify.signature κs)
+      → PromisesBoth (verify.clauses 𝓤 H A mem run κs a) λ v _. VerifyGives (a .0) (a .1 .0 .now) (a .1 .1 .0 .now) (a .1 .1 .1 .0 .now) (a .1 .1 .1 .1 .0 .now) v
   verify-tied κs a = record { one = _; other = _; asks-nothing = refl; promises = refl; both = λ _ _. both-handed-over }
 
-  pub direct-tied : (κs : Lfts 4) (a : Args direct.signature κs)
+  pub direct-tied : (κs : Lfts 5) (a : Args direct.signature κs)
       → Promises (direct.clauses 𝓤 H A mem run κs a) λ answer _.
-      DirectGives (a .0) (a .1 .0 .now) (a .1 .1 .0 .now) (a .1 .1 .1 .0 .now) (a .1 .1 .1 .1 .0) (a .1 .1 .1 .1 .1 .0 .now) answer
+      DirectGives (a .0) (a .1 .0 .now) (a .1 .1 .0 .now) (a .1 .1 .1 .0 .now) (a .1 .1 .1 .1 .0 .now) (a .1 .1 .1 .1 .1 .0) (a .1 .1 .1 .1 .1 .1 .0 .now) answer
   direct-tied κs a = (refl, refl)
 
   pub answer-case-tied : (κs : Lfts 2) (a : Args answer-case.signature κs)
@@ -96,16 +96,16 @@ module _ {M : Type 1} (𝓤 : URA M) (H : Heap 𝓤) (A : Atoms 𝓤) (mem : Mem
 
   -- ── The calls for C ──
 
-  pub office-verify-tied : (κs : Lfts 4) (a : Args office-verify.signature κs)
+  pub office-verify-tied : (κs : Lfts 5) (a : Args office-verify.signature κs)
       → PromisesBoth (office-verify.clauses 𝓤 H A mem run κs a) λ number left.
       OfficeVerifyGives (request-of (a .0) (a .1 .0) (a .1 .1 .0)) (a .1 .1 .1 .0 .now) (a .1 .1 .1 .1 .0 .now) (a .1 .1 .1 .1 .1 .0 .now)
-      (a .1 .1 .1 .1 .1 .1 .0 .now) number (left .1 .1 .1 .1 .1 .1 .0 .now)
+      (a .1 .1 .1 .1 .1 .1 .0 .now) (a .1 .1 .1 .1 .1 .1 .1 .0 .now) number (left .1 .1 .1 .1 .1 .1 .1 .0 .now)
   office-verify-tied κs a = record { one = _; other = _; asks-nothing = refl; promises = refl; both = λ _ _. halves }
 
-  pub office-direct-tied : (κs : Lfts 4) (a : Args office-direct.signature κs)
+  pub office-direct-tied : (κs : Lfts 5) (a : Args office-direct.signature κs)
       → Promises (office-direct.clauses 𝓤 H A mem run κs a) λ number _.
       OfficeDirectGives (request-of (a .0) (a .1 .0) (a .1 .1 .0)) (a .1 .1 .1 .0 .now) (a .1 .1 .1 .1 .0 .now) (a .1 .1 .1 .1 .1 .0 .now)
-      (a .1 .1 .1 .1 .1 .1 .0) (a .1 .1 .1 .1 .1 .1 .1 .0 .now) number
+      (a .1 .1 .1 .1 .1 .1 .0 .now) (a .1 .1 .1 .1 .1 .1 .1 .0) (a .1 .1 .1 .1 .1 .1 .1 .1 .0 .now) number
   office-direct-tied κs a = (refl, refl)
 
   pub office-answer-case-tied : (κs : Lfts 2) (a : Args office-answer-case.signature κs)

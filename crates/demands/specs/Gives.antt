@@ -19,6 +19,7 @@ use Rattle.door.specs.Door.{opening, opening-text, packed}
 use Rattle.verifier.specs.declared.verify.Verified.{Verified}
 use Rattle.cases.specs.Calls.{answering}
 use Rattle.from_c.specs.Records.{records-in}
+use Rattle.from_c.specs.Pairs.{pair-numbers}
 use Rattle.from_c.specs.Packing.{HandsBack, number-in, packed as handed-to-c}
 use Rattle.from_c.specs.Calls.{verifying, rewriting, value-writing, value-opening, opened-of}
 
@@ -28,12 +29,12 @@ pub record GivesProcap (o : Outcome Procap) (given : Answer) (handed : Procap) :
   pub procap : handed ≡ procap-handed o
 
 -- `verify` gives an answer and a procap.
-abbrev pub VerifyGives : Request → List Certificate → List ℕ → List ℕ → Verified → Type 0
-VerifyGives r certificates buffer proof v = GivesProcap (verified r certificates buffer proof) (v .answer) (v .procap)
+abbrev pub VerifyGives : Request → List Certificate → List ℕ → List ℕ → List ℕ → Verified → Type 0
+VerifyGives r certificates buffer pairs proof v = GivesProcap (verified r certificates buffer pairs proof) (v .answer) (v .procap)
 
 -- `direct` gives an answer, at a moment in a state.
-abbrev pub DirectGives : Request → List Certificate → List ℕ → List ℕ → ℕ → List ℕ → Answer → Type 0
-DirectGives r certificates buffer proof m state answer = answer ≡ answer-of (directly r certificates buffer proof m state)
+abbrev pub DirectGives : Request → List Certificate → List ℕ → List ℕ → List ℕ → ℕ → List ℕ → Answer → Type 0
+DirectGives r certificates buffer pairs proof m state answer = answer ≡ answer-of (directly r certificates buffer pairs proof m state)
 
 -- `open`, the door on a value, gives an answer.
 abbrev pub OpenGives : Procap → Request → ℕ → List ℕ → Answer → Type 0
@@ -62,12 +63,12 @@ PrintGives input before w after = Wrote (answering input (length before)) before
 -- ── The calls for C ──
 
 -- `office_verify` hands back a number, and leaves the procap's text in the buffer.
-abbrev pub OfficeVerifyGives : Request → List ℕ → List ℕ → List ℕ → List ℕ → ℕ → List ℕ → Type 0
-OfficeVerifyGives r records buffer proof before number after = HandsBack (verifying r records buffer proof (length before)) before number after
+abbrev pub OfficeVerifyGives : Request → List ℕ → List ℕ → List ℕ → List ℕ → List ℕ → ℕ → List ℕ → Type 0
+OfficeVerifyGives r records buffer pairs proof before number after = HandsBack (verifying r records buffer pairs proof (length before)) before number after
 
 -- `office_direct` hands back a number.
-abbrev pub OfficeDirectGives : Request → List ℕ → List ℕ → List ℕ → ℕ → List ℕ → ℕ → Type 0
-OfficeDirectGives r records buffer proof m state number = number ≡ handed-to-c (answer-of (directly r (records-in records) buffer proof m state)) 0
+abbrev pub OfficeDirectGives : Request → List ℕ → List ℕ → List ℕ → List ℕ → ℕ → List ℕ → ℕ → Type 0
+OfficeDirectGives r records buffer pairs proof m state number = number ≡ handed-to-c (answer-of (directly r (records-in records) buffer (pair-numbers pairs) proof m state)) 0
 
 -- `office_answer_case` hands back a number, and leaves in the buffer what is printed for an input.
 abbrev pub OfficePrintGives : List ℕ → List ℕ → ℕ → List ℕ → Type 0
@@ -92,10 +93,10 @@ DeskPressesGives text r m state presses opened = opened ≡ opened-of (opening-t
 -- ── A press that is accepted ──
 
 -- Somewhere `direct` answers 0.
-abbrev pub AnsweredSomewhere : Request → List Certificate → List ℕ → List ℕ → Type 0
-AnsweredSomewhere r certificates buffer proof = Somewhere λ m state. DirectGives r certificates buffer proof m state Granted
+abbrev pub AnsweredSomewhere : Request → List Certificate → List ℕ → List ℕ → List ℕ → Type 0
+AnsweredSomewhere r certificates buffer pairs proof = Somewhere λ m state. DirectGives r certificates buffer pairs proof m state Granted
 
 -- The same as C sees it: somewhere `office_direct` hands back a number that has 0 for its answer.
-abbrev pub ZeroSomewhere : Request → List ℕ → List ℕ → List ℕ → Type 0
-ZeroSomewhere r records buffer proof =
-    Somewhere λ m state. (number : ℕ) × OfficeDirectGives r records buffer proof m state number × (number-in number ≡ 0)
+abbrev pub ZeroSomewhere : Request → List ℕ → List ℕ → List ℕ → List ℕ → Type 0
+ZeroSomewhere r records buffer pairs proof =
+    Somewhere λ m state. (number : ℕ) × OfficeDirectGives r records buffer pairs proof m state number × (number-in number ≡ 0)

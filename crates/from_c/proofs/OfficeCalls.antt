@@ -16,6 +16,7 @@ use Rattle.verifier.specs.Verifying.{HandsOver}
 use Rattle.verifier.specs.declared.verify.Verified.{Verified}
 use Rattle.cases.proofs.Refusals.{verified-refuses, reading-refuses}
 use Rattle.from_c.specs.Records.{lent-at-most, records-in}
+use Rattle.from_c.specs.Pairs.{pairs-at-most, pair-numbers}
 use Rattle.from_c.specs.Values.{value-bytes, value-of}
 use Rattle.from_c.specs.Packing.{packed}
 use Rattle.from_c.specs.Calls.{verifying, rewriting, value-writing}
@@ -23,33 +24,36 @@ use Rattle.from_c.proofs.TooMany.{verifies-the-same, checks-the-same}
 use Rattle.from_c.proofs.ValuesRead.{value-goes-on, value-refused}
 use Rattle.from_c.proofs.HandedBack.{stops-there, goes-on-with}
 
-module _ (r : Request) (bytes buffer proof : List ℕ) (lent : List Certificate) (lent-on : lent ≡ take lent-at-most (records-in bytes)) where
-  -- What verify hands over for the records that are lent on is what it comes to for all.
-  pub hands-over-all : (v : Verified) → HandsOver (verified r lent buffer proof) v → HandsOver (verified r (records-in bytes) buffer proof) v
+module _ (r : Request) (bytes buffer pair-bytes proof : List ℕ) (lent : List Certificate) (numbers : List ℕ)
+    (lent-on : lent ≡ take lent-at-most (records-in bytes)) (paired : numbers ≡ take pairs-at-most (pair-numbers pair-bytes)) where
+  -- What verify hands over for the records and the pairs that are lent on is what it comes to for all.
+  pub hands-over-all : (v : Verified) → HandsOver (verified r lent buffer numbers proof) v → HandsOver (verified r (records-in bytes) buffer (pair-numbers pair-bytes) proof) v
   hands-over-all v hands =
-      let same : verified r lent buffer proof ≡ verified r (records-in bytes) buffer proof =
-      ap (λ rs. verified r rs buffer proof) lent-on ∙ verifies-the-same buffer proof (records-in bytes) r in
+      let same : verified r lent buffer numbers proof ≡ verified r (records-in bytes) buffer (pair-numbers pair-bytes) proof =
+      rw (lent-on, paired) (verifies-the-same buffer (pair-numbers pair-bytes) proof (records-in bytes) r) in
       rw same at hands
 
   -- What the direct check answers for them, packed, is what it answers for all.
   pub packs-for-all : (m : ℕ) (state : List ℕ) (answer : Answer) (number : ℕ) → number ≡ packed answer 0
-      → answer ≡ answer-of (directly r lent buffer proof m state) → number ≡ packed (answer-of (directly r (records-in bytes) buffer proof m state)) 0
+      → answer ≡ answer-of (directly r lent buffer numbers proof m state)
+      → number ≡ packed (answer-of (directly r (records-in bytes) buffer (pair-numbers pair-bytes) proof m state)) 0
   packs-for-all m state answer number packs answers =
-      let same : directly r lent buffer proof m state ≡ directly r (records-in bytes) buffer proof m state =
-      ap (λ rs. directly r rs buffer proof m state) lent-on ∙ checks-the-same buffer proof (records-in bytes) r m state in
+      let same : directly r lent buffer numbers proof m state ≡ directly r (records-in bytes) buffer (pair-numbers pair-bytes) proof m state =
+      rw (lent-on, paired) (checks-the-same buffer (pair-numbers pair-bytes) proof (records-in bytes) r m state) in
       packs ∙ ap (λ a. packed a 0) (answers ∙ ap answer-of same)
 
-module _ (r : Request) (bytes buffer proof : List ℕ) (room : ℕ) (v : Verified) (hands : HandsOver (verified r (records-in bytes) buffer proof) v) where
+module _ (r : Request) (bytes buffer pairs proof : List ℕ) (room : ℕ) (v : Verified)
+    (hands : HandsOver (verified r (records-in bytes) buffer (pair-numbers pairs) proof) v) where
   -- Verify refuses, and no text is written.
-  pub verifying-stops : (number-of (v .answer) ≡ 0 → ⊥) → verifying r bytes buffer proof room ≡ refused (v .answer)
+  pub verifying-stops : (number-of (v .answer) ≡ 0 → ⊥) → verifying r bytes buffer pairs proof room ≡ refused (v .answer)
   unfolding verifying
   verifying-stops other = stops-there _ (v .answer) (hands .answer) _ other
 
   -- Verify issues a procap, and its text is written.
-  pub verifying-writes : number-of (v .answer) ≡ 0 → verifying r bytes buffer proof room ≡ writing (v .procap) room
+  pub verifying-writes : number-of (v .answer) ≡ 0 → verifying r bytes buffer pairs proof room ≡ writing (v .procap) room
   unfolding verifying
   verifying-writes zero =
-      goes-on-with _ (v .answer) (hands .answer) (λ p. writing p room) (verified-refuses r (records-in bytes) buffer proof) zero (v .procap) (hands .procap)
+      goes-on-with _ (v .answer) (hands .answer) (λ p. writing p room) (verified-refuses r (records-in bytes) buffer (pair-numbers pairs) proof) zero (v .procap) (hands .procap)
 
 module _ (text : List ℕ) (room : ℕ) (answer : Answer) (given : answer ≡ answer-of (reading text)) where
   -- Bytes that are no text: nothing is written.

@@ -1,17 +1,18 @@
--- Laws of values in a row, and of an array that is filled with them one by one: so the records, the terms of a fact and the facts of a value are read.
+-- Laws of values in a row, and of an array that is filled with them one by one: so the records, the pairs, the terms of a fact and the facts of a value are read.
 use Prim.Native.Nat.{ℕ, zero, suc, _+_, _*_, _≤_, _<_}
 use mathlib.Core.Path.{_≡_, refl, sym, ap, ap₂, _∙_}
 use mathlib.Core.List.{List, [], _∷_, _++_}
 use native.Mathlib.Nat.{mul-suc}
 use native.Mathlib.Numerals.{add-one}
 use native.Mathlib.Omega.{arith}
+use native.Mathlib.Decide.{decLe}
 use lib.ListN.{length, take, set, length-set}
 use lib.Seq.{take-all, take-suc-set}
 use Rattle.from_c.specs.InARow.{in-a-row}
 
 module _ {A : Type 0} (value : ℕ → A) (step : ℕ) where
   -- There are so many.
-  pub row-length : (n at : ℕ) → length (in-a-row value step n at) ≡ n
+  row-length : (n at : ℕ) → length (in-a-row value step n at) ≡ n
   unfolding in-a-row
   row-length zero at = refl
   row-length (suc n) at = ap suc (row-length n (at + step))
@@ -27,11 +28,29 @@ module _ {A : Type 0} (value : ℕ → A) (step : ℕ) where
       place = rw mul-suc (omega arith)
 
   -- The first k of at least as many are k in a row.
-  pub first-in-a-row : (k n at : ℕ) → k ≤ n → take k (in-a-row value step n at) ≡ in-a-row value step k at
+  first-in-a-row : (k n at : ℕ) → k ≤ n → take k (in-a-row value step n at) ≡ in-a-row value step k at
   unfolding in-a-row
   first-in-a-row zero n at l = refl
   first-in-a-row (suc k) zero at l = absurd (omega arith)
   first-in-a-row (suc k) (suc n) at l = ap (λ xs. value at ∷ xs) (first-in-a-row k n (at + step) (omega arith))
+
+-- Of all things, those that are lent on: as many as there are, or as many as may be at the most.
+pub record LentOn (all most lent : ℕ) : Type 0 where
+  pub few : all ≤ most → lent ≡ all
+  pub many : most ≤ all → lent ≡ most
+
+pub few-lent : (all most lent : ℕ) → LentOn all most lent → lent ≤ most
+few-lent all most lent on = elim (decLe all most) [ yes l ↦ omega (arith, on .few l) | no n ↦ omega (arith, on .many (omega arith)) ]
+
+pub row-lent : {A : Type 0} (value : ℕ → A) (step all most lent : ℕ) → LentOn all most lent
+    → in-a-row value step lent 0 ≡ take most (in-a-row value step all 0)
+row-lent value step all most lent on = elim (decLe all most) [ yes l ↦ all-lent l | no n ↦ most-lent (omega arith) ]
+  where
+    all-lent : all ≤ most → in-a-row value step lent 0 ≡ take most (in-a-row value step all 0)
+    all-lent l = ap (λ n. in-a-row value step n 0) (on .few l) ∙ sym (take-all most (in-a-row value step all 0) (omega (arith, row-length value step all 0)))
+
+    most-lent : most ≤ all → in-a-row value step lent 0 ≡ take most (in-a-row value step all 0)
+    most-lent l = ap (λ n. in-a-row value step n 0) (on .many l) ∙ sym (first-in-a-row value step most all 0 l)
 
 -- The first i of an array of n are the values in a row from a place on.
 pub record Filled {A : Type 0} (value : ℕ → A) (step n at : ℕ) (array : List A) (i : ℕ) : Type 0 where

@@ -10,20 +10,21 @@ use Rattle.bl.specs.Calls.{verified, directly}
 use Rattle.text.specs.Calls.{reading, writing}
 use Rattle.door.specs.Door.{opening}
 use Rattle.from_c.specs.Records.{records-in}
+use Rattle.from_c.specs.Pairs.{pair-numbers}
 use Rattle.from_c.specs.Values.{value-in}
 
 -- Verify, and then the text of the procap into a buffer with so much room.
-unfoldable pub verifying : Request → List ℕ → List ℕ → List ℕ → ℕ → Outcome (List ℕ)
-verifying r records buffer proof room = go-on (verified r (records-in records) buffer proof) λ p. writing p room
+unfoldable pub verifying : Request → List ℕ → List ℕ → List ℕ → List ℕ → ℕ → Outcome (List ℕ)
+verifying r records buffer pairs proof room = go-on (verified r (records-in records) buffer (pair-numbers pairs) proof) λ p. writing p room
 
 -- The same for the request of three numbers, over what is lent; and the direct check.
-abbrev pub verifying-over : ℕ → ℕ → ℕ → Lent → Lent → Lent → Lent → Outcome (List ℕ)
-verifying-over who what right records buffer proof out =
-    verifying (request-of who what right) (records .entry .now) (buffer .entry .now) (proof .entry .now) (length (out .entry .now))
+abbrev pub verifying-over : ℕ → ℕ → ℕ → Lent → Lent → Lent → Lent → Lent → Outcome (List ℕ)
+verifying-over who what right records buffer pairs proof out =
+    verifying (request-of who what right) (records .entry .now) (buffer .entry .now) (pairs .entry .now) (proof .entry .now) (length (out .entry .now))
 
-abbrev pub checking-over : ℕ → ℕ → ℕ → Lent → Lent → Lent → ℕ → Lent → Outcome (Unit {0})
-checking-over who what right records buffer proof moment state =
-    directly (request-of who what right) (records-in (records .entry .now)) (buffer .entry .now) (proof .entry .now) moment (state .entry .now)
+abbrev pub checking-over : ℕ → ℕ → ℕ → Lent → Lent → Lent → Lent → ℕ → Lent → Outcome (Unit {0})
+checking-over who what right records buffer pairs proof moment state =
+    directly (request-of who what right) (records-in (records .entry .now)) (buffer .entry .now) (pair-numbers (pairs .entry .now)) (proof .entry .now) moment (state .entry .now)
 
 -- A text is read, and the procap that it says is written again.
 unfoldable pub rewriting : List ℕ → ℕ → Outcome (List ℕ)

@@ -2,6 +2,7 @@
 pub mod Numbers
 pub mod InARow
 pub mod Records
+pub mod Pairs
 pub mod Values
 pub mod Packing
 pub mod Calls

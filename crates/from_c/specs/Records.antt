@@ -1,8 +1,8 @@
 -- Certificate records in bytes, as a caller in C hands them over: principal (2 bytes), from, to (9 each), start, length (8 each).
-use Prim.Native.Nat.{ℕ, _+_, _/_, _%_}
+use Prim.Native.Nat.{ℕ, _+_}
 use mathlib.Core.List.{List}
 use lib.ListN.{length}
-use lib.Dec.{leb, eqb}
+use lib.Dec.{leb}
 use Rattle.procap.specs.Tells.{pick}
 use Rattle.procap.specs.declared.time.Time.{Time}
 use Rattle.procap.specs.declared.time.Time.the-variants.{Ctime}
@@ -10,7 +10,7 @@ use Rattle.procap.specs.declared.fact.Term.{Term}
 use Rattle.procap.specs.declared.fact.Term.the-variants.{Name, When}
 use Rattle.bl.specs.declared.Certificate.{Certificate}
 use Rattle.from_c.specs.Numbers.{two, eight, wide-term}
-use Rattle.from_c.specs.InARow.{in-a-row}
+use Rattle.from_c.specs.InARow.{in-a-row, how-many}
 
 -- How many bytes a record takes.
 abbrev pub record-bytes : ℕ
@@ -38,10 +38,6 @@ no-record = record { principal = 0; from = Ctime; to = Ctime; start = 0; length 
 unfoldable pub record-at : List ℕ → ℕ → Certificate
 record-at bytes at = pick (leb (at + record-bytes) (length bytes)) (whole-record bytes at) no-record
 
--- How many records stand in so many bytes; an incomplete one at the end is one too.
-abbrev pub how-many : ℕ → ℕ
-how-many n = pick (eqb (n % record-bytes) 0) (n / record-bytes) (n / record-bytes + 1)
-
 -- The records that the bytes say.
 unfoldable pub records-in : List ℕ → List Certificate
-records-in bytes = in-a-row (record-at bytes) record-bytes (how-many (length bytes)) 0
+records-in bytes = in-a-row (record-at bytes) record-bytes (how-many record-bytes (length bytes)) 0

@@ -19,12 +19,13 @@ pub(crate) fn verify_lent(
     records: [Certificate; LENT_AT_MOST],
     count: usize,
     buffer: &[u8],
+    pairs: &[u32],
     proof: &[u8],
 ) -> Verified
     requires { ⌜ count ≤ «lent-at-most» ⌝ }
-    ensures { λ r. ⌜ HandsOver («verified-over» request (take count records) buffer proof) r ⌝ }
+    ensures { λ r. ⌜ HandsOver («verified-over» request (take count records) buffer pairs proof) r ⌝ }
 {
-    verify(request, &records[..count], buffer, proof)
+    verify(request, &records[..count], buffer, pairs, proof)
 }
 
 // What the direct check answers to the first `count` of the records, which are lent to it.
@@ -33,12 +34,21 @@ pub(crate) fn direct_lent(
     records: [Certificate; LENT_AT_MOST],
     count: usize,
     buffer: &[u8],
+    pairs: &[u32],
     proof: &[u8],
     moment: u64,
     state: &[u8],
 ) -> Answer
     requires { ⌜ count ≤ «lent-at-most» ⌝ }
-    ensures { λ r. ⌜ r ≡ «answer-of» («directly-over» request (take count records) buffer proof moment state) ⌝ }
+    ensures { λ r. ⌜ r ≡ «answer-of» («directly-over» request (take count records) buffer pairs proof moment state) ⌝ }
 {
-    direct(request, &records[..count], buffer, proof, moment, state)
+    direct(
+        request,
+        &records[..count],
+        buffer,
+        pairs,
+        proof,
+        moment,
+        state,
+    )
 }

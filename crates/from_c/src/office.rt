@@ -2,6 +2,7 @@
 use crate::lending::direct_lent;
 use crate::lending::verify_lent;
 use crate::packing::as_number;
+use crate::pairs::pair_numbers;
 use crate::records::records_in;
 use crate::values::VALUE_BYTES;
 use crate::values::value_of;
@@ -26,17 +27,21 @@ pub extern "C" fn office_verify(
     right: u16,
     records: &[u8],
     buffer: &[u8],
+    pairs: &[u8],
     proof: &[u8],
     out: &mut [u8],
 ) -> u64
-    ensures answer { λ r. ⌜ r ≡ «packed-text» («verifying-over» who what right records buffer proof out) ⌝ }
-    ensures buffer { λ r. ⌜ now (out .exit) ≡ «buffer-left» («verifying-over» who what right records buffer proof out) (now (out .entry)) ⌝ }
+    ensures answer { λ r. ⌜ r ≡ «packed-text» («verifying-over» who what right records buffer pairs proof out) ⌝ }
+    ensures buffer { λ r. ⌜ now (out .exit) ≡ «buffer-left» («verifying-over» who what right records buffer pairs proof out) (now (out .entry)) ⌝ }
 {
     let request = Request::of(who, what, right);
     let table = records_in(records);
     let count = table.count;
     let lent = table.records;
-    let verified = verify_lent(request, lent, count, buffer, proof);
+    let given = pair_numbers(pairs);
+    let many = given.count;
+    let numbers = given.numbers;
+    let verified = verify_lent(request, lent, count, buffer, &numbers[..many], proof);
     let answer = verified.answer;
     if answer.number() != 0 {
         return as_number(answer, 0);
@@ -55,20 +60,31 @@ pub extern "C" fn office_direct(
     right: u16,
     records: &[u8],
     buffer: &[u8],
+    pairs: &[u8],
     proof: &[u8],
     moment: u64,
     state: &[u8],
 ) -> u64
-    ensures { λ r. ⌜ r ≡ packed («answer-of» («checking-over» who what right records buffer proof moment state)) 0 ⌝ }
+    ensures { λ r. ⌜ r ≡ packed («answer-of» («checking-over» who what right records buffer pairs proof moment state)) 0 ⌝ }
 {
     let request = Request::of(who, what, right);
     let table = records_in(records);
     let count = table.count;
     let lent = table.records;
-    as_number(
-        direct_lent(request, lent, count, buffer, proof, moment, state),
-        0,
-    )
+    let given = pair_numbers(pairs);
+    let many = given.count;
+    let numbers = given.numbers;
+    let answer = direct_lent(
+        request,
+        lent,
+        count,
+        buffer,
+        &numbers[..many],
+        proof,
+        moment,
+        state,
+    );
+    as_number(answer, 0)
 }
 
 // Puts what the program prints for a case at the front of the buffer: 13 where it is shorter.

@@ -1,4 +1,5 @@
 // Certificate records in bytes: 36 for each.
+use crate::counting::how_many_lent;
 use crate::numbers::eight_at;
 use crate::numbers::term_at;
 use crate::numbers::two_at;
@@ -8,7 +9,7 @@ use procap::time::Time;
 ghost use mathlib.Core.Path.{_≡_};
 ghost use Prim.Native.Nat.{_+_, _≤_};
 ghost use lib.ListN.{length, take};
-ghost use Rattle.from_c.specs.Records.{«record-bytes», «lent-at-most», «records-in», «record-at», «whole-record», «how-many», «no-record», «time-of»};
+ghost use Rattle.from_c.specs.Records.{«record-bytes», «lent-at-most», «records-in», «record-at», «whole-record», «no-record», «time-of»};
 
 // How many bytes a record takes.
 const RECORD_BYTES: usize = 36;
@@ -26,7 +27,7 @@ pub(crate) fn records_in(bytes: &[u8]) -> Records
     ensures few { λ r. ⌜ r .count ≤ «lent-at-most» ⌝ }
     ensures records { λ r. ⌜ take (r .count) (r .records) ≡ take «lent-at-most» («records-in» (now (bytes .entry))) ⌝ }
 {
-    let count = how_many_lent(bytes.len());
+    let count = how_many_lent(bytes.len(), RECORD_BYTES, LENT_AT_MOST);
     let none = no_record();
     let mut records = [none; LENT_AT_MOST];
     let mut at: usize = 0;
@@ -39,30 +40,6 @@ pub(crate) fn records_in(bytes: &[u8]) -> Records
     Records {
         count: count,
         records: records,
-    }
-}
-
-// How many of the records in so many bytes are lent on.
-fn how_many_lent(bytes: usize) -> usize
-    ensures few { λ r. ⌜ («how-many» bytes ≤ «lent-at-most» → r ≡ «how-many» bytes) ⌝ }
-    ensures many { λ r. ⌜ («lent-at-most» ≤ «how-many» bytes → r ≡ «lent-at-most») ⌝ }
-{
-    let all = how_many(bytes);
-    if all <= LENT_AT_MOST {
-        all
-    } else {
-        LENT_AT_MOST
-    }
-}
-
-// How many records stand in so many bytes; an incomplete one at the end is one too.
-fn how_many(bytes: usize) -> usize
-    ensures { λ r. ⌜ r ≡ «how-many» bytes ⌝ }
-{
-    if bytes % RECORD_BYTES == 0 {
-        bytes / RECORD_BYTES
-    } else {
-        bytes / RECORD_BYTES + 1
     }
 }
 

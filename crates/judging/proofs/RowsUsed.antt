@@ -9,6 +9,7 @@ use Rattle.procap.specs.Lists.{nth}
 use Rattle.procap.specs.Bytes.{byte}
 use Rattle.procap.proofs.ReadApart.{byte-at}
 use Rattle.bl.specs.Certificates.{Statement}
+use Rattle.bl.specs.Strength.{Pair}
 use Rattle.bl.specs.Rules as rules
 use Rattle.bl.specs.Rules.{Assumption, claim}
 use Rattle.bl.specs.Questions.{_>>=_, need}
@@ -73,45 +74,45 @@ assumed-at buffer rows below (suc n) (x ∷ Γ) (suc i) a l =
 
 -- ── The row ──
 
-module _ {state buffer list : List ℕ} {l : Ledger} {row : Row} {index below next : ℕ} (q : ℕ) (v : rules.View) (r : Inferred)
+module _ {state buffer list : List ℕ} {l : Ledger} {row : Row} {index below next : ℕ} (ps : List Pair) (q : ℕ) (v : rules.View) (r : Inferred)
     (s : Sound (book l list)) where
   -- A plain row that is shut out, one that is not, and a claim.
   pub shut-row : {x : Assumption} → RowIs buffer row index below x → row .whose ≡ Plain → index < below → r .ledger ≡ misfitted l q
-      → Yields state buffer (book l list) (assumed q v x) next r list
+      → Yields state buffer (book l list) (assumed ps q v x) next r list
   unfolding assumed
   shut-row (is-plain e n o) p h f = absurd (n h)
   shut-row (is-claim e o) p h f = let z : _≡_ {A = ℕ} 0 1 = cc in absurd (omega arith)
   shut-row (is-shut e i) p h f = yields-nothing r s refl f
 
   pub plain-row : {x : Assumption} → RowIs buffer row index below x → row .whose ≡ Plain → below ≤ index
-      → r .ledger ≡ l → r .judgement ≡ row .judgement → r .next ≡ next → Yields state buffer (book l list) (assumed q v x) next r list
+      → r .ledger ≡ l → r .judgement ≡ row .judgement → r .next ≡ next → Yields state buffer (book l list) (assumed ps q v x) next r list
   unfolding assumed
   plain-row (is-plain e n o) p h f j m = yields r s refl f (rw j o) m
   plain-row (is-claim e o) p h f j m = let z : _≡_ {A = ℕ} 0 1 = cc in absurd (omega arith)
   plain-row (is-shut e i) p h f j m = absurd (omega arith)
 
   pub claim-row : {x : Assumption} {k : ℕ} → RowIs buffer row index below x → row .whose ≡ Claim k
-      → Gives state (book l list) (need-view q v k (from-of (row .judgement)) (to-of (row .judgement))) (book (r .ledger) list) tt → r .judgement ≡ row .judgement → r .next ≡ next
-      → Yields state buffer (book l list) (assumed q v x) next r list
+      → Gives state (book l list) (need-view ps q v k (from-of (row .judgement)) (to-of (row .judgement))) (book (r .ledger) list) tt → r .judgement ≡ row .judgement → r .next ≡ next
+      → Yields state buffer (book l list) (assumed ps q v x) next r list
   unfolding assumed
   claim-row (is-plain e n o) p g j m = let z : _≡_ {A = ℕ} 0 1 = cc in absurd (omega arith)
   claim-row {k = k} (is-claim {k = i} {A} {a} {b} e o) p g j m =
       let same : i ≡ k = cc in
-      let viewed : Comes state (book l list) (need-view q v k a b) (book (r .ledger) list) (λ _. Unit {0}) =
+      let viewed : Comes state (book l list) (need-view ps q v k a b) (book (r .ledger) list) (λ _. Unit {0}) =
       record { value = tt; gives = rw (o .from, o .to) at g; so = λ _. tt } in
       comes-yields state buffer (book l list) _ next r list
-      (rw same (comes-with state (book l list) (book (r .ledger) list) (need-view q v k a b) viewed (A, a, b) (rw j o, m)))
+      (rw same (comes-with state (book l list) (book (r .ledger) list) (need-view ps q v k a b) viewed (A, a, b) (rw j o, m)))
   claim-row (is-shut e i) p g j m = let z : _≡_ {A = ℕ} 0 1 = cc in absurd (omega arith)
 
 -- ── The steps ──
 
-module _ {state buffer list : List ℕ} {b : Book} {r : Inferred} (proof rows : List ℕ) (q at : ℕ) (v : rules.View) {e next below : ℕ}
+module _ {state buffer list : List ℕ} {b : Book} {r : Inferred} (ps : List Pair) (proof rows : List ℕ) (q at : ℕ) (v : rules.View) {e next below : ℕ}
     (after : After proof q at) (next-after : After proof at next) where
   -- 20: the assumption that the index names is used as it stands.
   pub local-used : (count index back : ℕ) (Γ : List Assumption) {i : ℕ} → index ≡ count - back - 1 → back ≡ getD proof (q + 1) 0
-      → ((x : Assumption) → index < most-rows → RowIs buffer (row-in rows index) index below x → Yields state buffer b (assumed q v x) next r list)
+      → ((x : Assumption) → index < most-rows → RowIs buffer (row-in rows index) index below x → Yields state buffer b (assumed ps q v x) next r list)
       → Assumed buffer rows below count Γ → count ≤ most-rows → byte proof (q + 1) ≡ some (i, e) → i < count
-      → Yields state buffer b (use-local q v Γ i) e r list
+      → Yields state buffer b (use-local ps q v Γ i) e r list
   unfolding use-local need _>>=_
   local-used count index back Γ {i} k told used assumptions few read l =
       let named = assumed-at buffer rows below count Γ i assumptions l in
@@ -120,9 +121,9 @@ module _ {state buffer list : List ℕ} {b : Book} {r : Inferred} (proof rows : 
 
   -- 21: the certificate that the index names is used as a claim of its principal.
   pub certificate-used : (index : ℕ) {cs : List Statement} {i : ℕ} → index ≡ getD proof (q + 1) 0
-      → ((x : Assumption) → index < most-rows → RowIs buffer (row-in rows index) index below x → Yields state buffer b (assumed q v x) next r list)
+      → ((x : Assumption) → index < most-rows → RowIs buffer (row-in rows index) index below x → Yields state buffer b (assumed ps q v x) next r list)
       → Certified buffer rows cs → byte proof (q + 1) ≡ some (i, e) → i < length cs
-      → Yields state buffer b (use-certificate q v cs i) e r list
+      → Yields state buffer b (use-certificate ps q v cs i) e r list
   unfolding use-certificate assumed need _>>=_
   certificate-used index {cs} {i} told used certified read l =
       let (c, named) = nth-there cs i l in

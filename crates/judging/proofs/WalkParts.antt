@@ -11,25 +11,26 @@ use Rattle.procap.specs.declared.fact.Term.the-variants.{Name, When}
 use Rattle.bl.specs.Trees.{Place, fixed, Sort, Formula, top, and, implies, all, says, at, fact, order, or, falsity, put}
 use Rattle.bl.specs.Questions.{Walk, done, misfit, _>>=_, ask-order, ask-fact, need}
 use Rattle.bl.specs.Kinds.{as-name, as-time, as-terms, as-top, as-and, as-implies, as-all, as-says, as-at, as-fact, as-order, as-or, as-falsity}
-use Rattle.bl.specs.Rules.{InView}
-use Rattle.bl.specs.Walk.{need-cover, in-view?, need-in-view, need-view, need-sort}
+use Rattle.bl.specs.Strength.{Pair, AsStrong}
+use Rattle.bl.specs.Deciding.{as-strong?}
+use Rattle.bl.specs.Walk.{need-cover, need-strength, need-view, need-sort}
 use Rattle.judging.specs.Judging.{view-by, and-sides, implies-sides, or-sides, falsity-inferred, at-parts, says-parts, top-goal, fact-goal, order-goal, put-in}
 use Rattle.judging.specs.Pieces.{two-times}
 
 module _ (q : ℕ) where
   -- ── Views ──
 
-  -- The view of the principal, of another, of nobody.
-  module _ (kind j k : ℕ) (a b c d : Time) where
-    pub own-view : (kind ≡ 0 → ⊥) → j ≡ k → need-view q (view-by kind j c d) k a b ≡ need-cover q a b c d
-    unfolding need-view need-in-view InView view-by _>>=_
-    own-view somebodys own = rw (ne-eqb kind 0 somebodys, if-pos (in-view? j k) own (done (tt {0})) (misfit q))
+  -- The view of somebody whom the principal is as strong as, of another, of nobody.
+  module _ (ps : List Pair) (kind j k : ℕ) (a b c d : Time) where
+    pub own-view : (kind ≡ 0 → ⊥) → AsStrong ps k j → need-view ps q (view-by kind j c d) k a b ≡ need-cover q a b c d
+    unfolding need-view need-strength view-by _>>=_
+    own-view somebodys strong = rw (ne-eqb kind 0 somebodys, if-pos (as-strong? ps k j) strong (done (tt {0})) (misfit q))
 
-    pub other-view : (kind ≡ 0 → ⊥) → (j ≡ k → ⊥) → need-view q (view-by kind j c d) k a b ≡ misfit q
-    unfolding need-view need-in-view InView view-by _>>=_
-    other-view somebodys other = rw (ne-eqb kind 0 somebodys, if-neg (in-view? j k) other (done (tt {0})) (misfit q))
+    pub other-view : (kind ≡ 0 → ⊥) → (AsStrong ps k j → ⊥) → need-view ps q (view-by kind j c d) k a b ≡ misfit q
+    unfolding need-view need-strength view-by _>>=_
+    other-view somebodys weak = rw (ne-eqb kind 0 somebodys, if-neg (as-strong? ps k j) weak (done (tt {0})) (misfit q))
 
-    pub nobodys-view : kind ≡ 0 → need-view q (view-by kind j c d) k a b ≡ misfit q
+    pub nobodys-view : kind ≡ 0 → need-view ps q (view-by kind j c d) k a b ≡ misfit q
     unfolding need-view view-by
     nobodys-view nobodys = rw nobodys
 

@@ -14,6 +14,7 @@ use Rattle.bl.specs.declared.FormulaTag.the-variants.{TopTag, AndTag, ImpliesTa
 use Rattle.bl.specs.Trees.{Formula, put}
 use Rattle.bl.specs.Questions.{Walk, done, misfit, _>>=_, _>>_, Test, ask-order, ask-fact, need}
 use Rattle.bl.specs.Kinds.{as-name, as-time, as-terms, as-top, as-and, as-implies, as-all, as-says, as-at, as-fact, as-order, as-or, as-falsity}
+use Rattle.bl.specs.Strength.{Pair}
 use Rattle.bl.specs.Rules as rules
 use Rattle.procap.specs.Lists.{nth}
 use Rattle.bl.specs.Certificates.{Statement}
@@ -75,15 +76,15 @@ abbrev pub scope-inside : Scope → Row → Scope
 scope-inside scope row = scope-by scope (row .whose) (row .judgement)
 
 -- 20 and 21: an assumption, a certificate.
-unfoldable pub use-local : ℕ → rules.View → List Assumption → ℕ → Walk walk.Judgement
-use-local q v Γ i = do
+unfoldable pub use-local : List Pair → ℕ → rules.View → List Assumption → ℕ → Walk walk.Judgement
+use-local ps q v Γ i = do
   x ← need q (nth Γ i)
-  walk.assumed q v x
+  walk.assumed ps q v x
 
-unfoldable pub use-certificate : ℕ → rules.View → List Statement → ℕ → Walk walk.Judgement
-use-certificate q v cs i = do
+unfoldable pub use-certificate : List Pair → ℕ → rules.View → List Statement → ℕ → Walk walk.Judgement
+use-certificate ps q v cs i = do
   c ← need q (nth cs i)
-  walk.need-view q v (c .by) (c .from) (c .to)
+  walk.need-view ps q v (c .by) (c .from) (c .to)
   done (c .says, c .from, c .to)
 
 -- The part of a judgement that begins at another place, on the same interval.

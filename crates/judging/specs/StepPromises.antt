@@ -11,17 +11,20 @@ use Rattle.bl.specs.declared.FormulaTag.{FormulaTag}
 use Rattle.bl.specs.Trees.{Place, Sort, Formula}
 use Rattle.bl.specs.Formulas.{argument}
 use Rattle.bl.specs.Certificates.{Statement}
+use Rattle.bl.specs.Strength.{Pair}
 use Rattle.bl.specs.Rules.{Assumption}
 use Rattle.bl.specs.Questions.{Walk, Test}
 use Rattle.bl.specs.Steps as steps
 use Rattle.bl.specs.Walk as walk
+use Rattle.strength.specs.Strengths.{StrengthsOf}
 use Rattle.ledger.specs.declared.Ledger.{Ledger}
 use Rattle.ledger.specs.declared.Stop.the-variants.{Going}
-use Rattle.ledger.specs.Books.{stop-of, Book, book, Sound, Gives}
+use Rattle.ledger.specs.Books.{stop-of, Book, book, Sound, Gives, Leads}
 use Rattle.formula.specs.declared.parts.Judgement.{Judgement}
 use Rattle.formula.specs.declared.terms.Terms.{Terms}
 use Rattle.formula.specs.PutIn.{terms-of, FewTerms, fill-place}
 use Rattle.formula.specs.Meaning.{Means, On, from-of, to-of}
+use Rattle.judging.specs.declared.judge.View.{View}
 use Rattle.judging.specs.declared.judge.Scope.{Scope}
 use Rattle.judging.specs.declared.judge.Inferred.{Inferred}
 use Rattle.judging.specs.declared.judge.Checked.{Checked}
@@ -35,25 +38,30 @@ use Rattle.judging.specs.RowsOf.{RowIs, Assumed, Certified, most-rows, r
 use Rattle.judging.specs.Judging.{view-in, use-local, use-certificate, part-of, sides, TwoSided, at-parts, says-parts, inside, falsity-inferred, fact-goal, fits-goal, and-then, Takes, Yields, Passes, Used}
 use Rattle.judging.specs.Pieces.{two-times}
 
+-- What a principal claims or certifies is usable in the view, by the pairs that gave the strengths.
+abbrev pub NeedsView : List ℕ → Ledger → ℕ → View → ℕ → Judgement → Ledger → Type 0
+NeedsView strengths l q v k j r = (ps : List Pair) → StrengthsOf strengths ps → Leads l (walk.need-view ps q (view-in v) k (from-of j) (to-of j)) r
+
 -- A row that is an assumption is used as it stands.
-abbrev pub UsesRow : List ℕ → ℕ → Scope → ℕ → Ledger → ℕ → Inferred → Type 0
-UsesRow rows index scope q l next r =
-    (state buffer list : List ℕ) (x : Assumption) → Sound (book l list) → index < most-rows → RowIs buffer (row-in rows index) index (scope .shut) x
-    → Yields state buffer (book l list) (walk.assumed q (view-in (scope .view)) x) next r list
+abbrev pub UsesRow : List ℕ → List ℕ → ℕ → Scope → ℕ → Ledger → ℕ → Inferred → Type 0
+UsesRow rows strengths index scope q l next r =
+    (state buffer list : List ℕ) (ps : List Pair) (x : Assumption) → Sound (book l list) → index < most-rows
+    → StrengthsOf strengths ps → RowIs buffer (row-in rows index) index (scope .shut) x
+    → Yields state buffer (book l list) (walk.assumed ps q (view-in (scope .view)) x) next r list
 
 -- 20: where the rows are the assumptions Γ, and the byte after the tag names one of them, that one is used.
-abbrev pub UsesLocal : List ℕ → List ℕ → Scope → ℕ → Ledger → Inferred → Type 0
-UsesLocal proof rows scope q l r =
-    (state buffer list : List ℕ) (Γ : List Assumption) (i e : ℕ) → Sound (book l list) → Assumed buffer rows (scope .shut) (scope .count) Γ
+abbrev pub UsesLocal : List ℕ → List ℕ → List ℕ → Scope → ℕ → Ledger → Inferred → Type 0
+UsesLocal proof rows strengths scope q l r =
+    (state buffer list : List ℕ) (ps : List Pair) (Γ : List Assumption) (i e : ℕ) → Sound (book l list) → StrengthsOf strengths ps → Assumed buffer rows (scope .shut) (scope .count) Γ
     → scope .count ≤ most-rows → byte proof (q + 1) ≡ some (i, e) → i < scope .count
-    → Yields state buffer (book l list) (use-local q (view-in (scope .view)) Γ i) e r list
+    → Yields state buffer (book l list) (use-local ps q (view-in (scope .view)) Γ i) e r list
 
 -- 21: where the rows are the certificates cs, and the byte after the tag names one of them, that one is used.
-abbrev pub UsesCertificate : List ℕ → List ℕ → Scope → ℕ → Ledger → Inferred → Type 0
-UsesCertificate proof rows scope q l r =
-    (state buffer list : List ℕ) (cs : List Statement) (i e : ℕ) → Sound (book l list) → Certified buffer rows cs
+abbrev pub UsesCertificate : List ℕ → List ℕ → List ℕ → Scope → ℕ → Ledger → Inferred → Type 0
+UsesCertificate proof rows strengths scope q l r =
+    (state buffer list : List ℕ) (ps : List Pair) (cs : List Statement) (i e : ℕ) → Sound (book l list) → StrengthsOf strengths ps → Certified buffer rows cs
     → byte proof (q + 1) ≡ some (i, e) → i < length cs
-    → Yields state buffer (book l list) (use-certificate q (view-in (scope .view)) cs i) e r list
+    → Yields state buffer (book l list) (use-certificate ps q (view-in (scope .view)) cs i) e r list
 
 -- A formula with two sides, of the tag wanted, is taken apart; both sides keep the interval.
 abbrev pub TakesSides : List ℕ → ℕ → FormulaTag → Judgement → Ledger → Sides → Type 0

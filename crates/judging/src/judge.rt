@@ -25,13 +25,14 @@ use procap::time::Time;
 use procap::time::TimeNumbers;
 use steps::reader::index_at;
 use steps::time_at;
+use strength::asking::as_strong;
 ghost use mathlib.Core.Path.{_≡_};
 ghost use Rattle.procap.specs.Writable.{TermInForm};
 ghost use Rattle.bl.specs.Walk as walk;
 ghost use Rattle.ledger.specs.Books.{misfitted, Leads};
 ghost use Rattle.formula.specs.Meaning.{«from-of», «to-of»};
 ghost use Rattle.judging.specs.Judging.{«view-in», outermost, «scope-inside», «scope-with», «part-of», «nothing-inferred», «top-goal», «order-goal», «first-side», «second-side», «put-in»};
-ghost use Rattle.judging.specs.StepPromises.{UsesRow, UsesLocal, UsesCertificate, TakesSides, TakesSidesInferred, StaysStopped, TakesTimes, TakesAt, TakesSays, TakesInside, TakesInsideInferred, Continues, PutsToUse, MeetsGoal, MeetsFact, FitsGoal, ChecksInferred};
+ghost use Rattle.judging.specs.StepPromises.{NeedsView, UsesRow, UsesLocal, UsesCertificate, TakesSides, TakesSidesInferred, StaysStopped, TakesTimes, TakesAt, TakesSays, TakesInside, TakesInsideInferred, Continues, PutsToUse, MeetsGoal, MeetsFact, FitsGoal, ChecksInferred};
 ghost use Rattle.judging.specs.Pieces.{«binder-of»};
 ghost use Rattle.judging.specs.RowNumbers.{«rows-with»};
 
@@ -208,15 +209,16 @@ fn covers(ledger: Ledger, offset: usize, judgement: Judgement, from: Time, to: T
     ask_order(asked, offset, to, end.time())
 }
 
-// What a principal claims or certifies must be usable in the view: the view must be the principal's, and then the judgement's interval must cover the view's.
+// What a principal claims or certifies must be usable in the view: the principal must be at least as strong as the view's, and then the judgement's interval must cover the view's.
 fn in_view(
+    strengths: &[u64],
     ledger: Ledger,
     offset: usize,
     view: View,
     principal: u64,
     judgement: Judgement,
 ) -> Ledger
-    ensures { λ r. ⌜ Leads ledger (walk.«need-view» offset («view-in» view) principal («from-of» judgement) («to-of» judgement)) r ⌝ }
+    ensures { λ r. ⌜ NeedsView (now (strengths .entry)) ledger offset view principal judgement r ⌝ }
 {
     let from = view.from;
     let to = view.to;
@@ -225,22 +227,23 @@ fn in_view(
     if view.kind == 0 {
         return unfit;
     }
-    if view.principal != principal {
+    if !as_strong(strengths, principal, view.principal) {
         return unfit;
     }
     covered
 }
 
-// A row, used as it stands: a plain assumption unless it is shut out, a claim in a view of its principal that it covers.
+// A row, used as it stands: a plain assumption unless it is shut out, a claim in a view that it covers, of somebody whom its principal is as strong as.
 fn row_used(
     rows: &[u64],
+    strengths: &[u64],
     index: usize,
     scope: Scope,
     offset: usize,
     ledger: Ledger,
     next: usize,
 ) -> Inferred
-    ensures { λ r. ⌜ UsesRow (now (rows .entry)) index scope offset ledger next r ⌝ }
+    ensures { λ r. ⌜ UsesRow (now (rows .entry)) (now (strengths .entry)) index scope offset ledger next r ⌝ }
 {
     if MOST_ROWS <= index {
         return nothing(ledger.misfit(offset));
@@ -261,7 +264,7 @@ fn row_used(
             }
         }
         Whose::Claim(principal) => Inferred {
-            ledger: in_view(ledger, offset, view, principal, judgement),
+            ledger: in_view(strengths, ledger, offset, view, principal, judgement),
             judgement: judgement,
             next: next,
         },
@@ -272,11 +275,12 @@ fn row_used(
 pub fn local(
     proof: &[u8],
     assumptions: &[u64],
+    strengths: &[u64],
     scope: Scope,
     offset: usize,
     ledger: Ledger,
 ) -> Inferred
-    ensures { λ r. ⌜ UsesLocal (now (proof .entry)) (now (assumptions .entry)) scope offset ledger r ⌝ }
+    ensures { λ r. ⌜ UsesLocal (now (proof .entry)) (now (assumptions .entry)) (now (strengths .entry)) scope offset ledger r ⌝ }
 {
     let back = index_at(proof, offset) as usize;
     let count = scope.count;
@@ -284,22 +288,31 @@ pub fn local(
         return nothing(ledger.misfit(offset));
     }
     let next = past(proof, past(proof, offset));
-    row_used(assumptions, count - back - 1, scope, offset, ledger, next)
+    row_used(
+        assumptions,
+        strengths,
+        count - back - 1,
+        scope,
+        offset,
+        ledger,
+        next,
+    )
 }
 
 // 21: a certificate; its row is a claim of its principal, and needs the view that a claim needs.
 pub fn certificate(
     proof: &[u8],
     certificates: &[u64],
+    strengths: &[u64],
     scope: Scope,
     offset: usize,
     ledger: Ledger,
 ) -> Inferred
-    ensures { λ r. ⌜ UsesCertificate (now (proof .entry)) (now (certificates .entry)) scope offset ledger r ⌝ }
+    ensures { λ r. ⌜ UsesCertificate (now (proof .entry)) (now (certificates .entry)) (now (strengths .entry)) scope offset ledger r ⌝ }
 {
     let index = index_at(proof, offset) as usize;
     let next = past(proof, past(proof, offset));
-    row_used(certificates, index, scope, offset, ledger, next)
+    row_used(certificates, strengths, index, scope, offset, ledger, next)
 }
 
 // Where the two sides of a conjunction, of an implication or of an "or" begin, by the tag wanted.

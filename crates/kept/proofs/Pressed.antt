@@ -28,28 +28,28 @@ pub are-names : (who what right : ℕ) → Fits w16 who → Fits w16 what → Fi
 are-names who what right a b c = record { who-in-range = omega arith; what-in-range = omega arith; right-in-range = omega arith }
 
 -- What verify and the direct check handed back for a request, with the number of the direct check's answer.
-pub record Called (who what right : ℕ) (records buffer proof : List ℕ) (moment : ℕ) (state : List ℕ) (issued : ℕ) (after : List ℕ) (checked found : ℕ) : Type 0 where
+pub record Called (who what right : ℕ) (records buffer pairs proof : List ℕ) (moment : ℕ) (state : List ℕ) (issued : ℕ) (after : List ℕ) (checked found : ℕ) : Type 0 where
   pub names : RequestInForm (request-of who what right)
   pub buffer-is-bytes : AreBytes buffer
   pub proof-is-bytes : AreBytes proof
   pub state-is-bytes : AreBytes state
-  pub verifies : OfficeVerifyGives (request-of who what right) records buffer proof blank issued after
-  pub checks : OfficeDirectGives (request-of who what right) records buffer proof moment state checked
+  pub verifies : OfficeVerifyGives (request-of who what right) records buffer pairs proof blank issued after
+  pub checks : OfficeDirectGives (request-of who what right) records buffer pairs proof moment state checked
   pub is-found : found ≡ number-in checked
 
-module _ {who what right : ℕ} {records buffer proof : List ℕ} {moment : ℕ} {state : List ℕ} {issued : ℕ} {after : List ℕ} {checked found : ℕ}
-    (c : Called who what right records buffer proof moment state issued after checked found) where
+module _ {who what right : ℕ} {records buffer pairs proof : List ℕ} {moment : ℕ} {state : List ℕ} {issued : ℕ} {after : List ℕ} {checked found : ℕ}
+    (c : Called who what right records buffer pairs proof moment state issued after checked found) where
   -- Nothing is issued, and nothing is accepted.
   pub nothing-accepted : (number-in issued ≡ 0 → ⊥) → not (eqb found 0) ≡ true
   nothing-accepted other =
-      let nowhere = refused-has-0-nowhere _ _ _ _ (c .names) (c .buffer-is-bytes) (c .proof-is-bytes) blank room _ _ (c .verifies) other in
+      let nowhere = refused-has-0-nowhere _ _ _ _ _ (c .names) (c .buffer-is-bytes) (c .proof-is-bytes) blank room _ _ (c .verifies) other in
       ap not (ne-eqb found 0 (λ zero. nowhere moment state (c .state-is-bytes) checked (c .checks) (sym (c .is-found) ∙ zero)))
 
   -- What is issued opens, and is accepted; or it does not open, and is not accepted.
   module _ (zero : number-in issued ≡ 0) {pressed : ℕ} (opens : DoorGives (take (length-in issued) after) (request-of who what right) moment state pressed) where
     alike : (pressed ≡ 0) ↔ (number-in checked ≡ 0)
     alike =
-        opens-with-0-exactly-where-direct-has-0 _ _ _ _ (c .names) (c .buffer-is-bytes) (c .proof-is-bytes) blank room _ _ (c .verifies) zero moment state
+        opens-with-0-exactly-where-direct-has-0 _ _ _ _ _ (c .names) (c .buffer-is-bytes) (c .proof-is-bytes) blank room _ _ (c .verifies) zero moment state
         pressed opens checked (c .checks)
 
     pub opened-is-accepted : pressed ≡ 0 → eqb found 0 ≡ true

@@ -16,6 +16,7 @@ pub extern "C" fn kept_demand_3(
     right: u16,
     records: &[u8],
     buffer: &[u8],
+    pairs: &[u8],
     proof: &[u8],
     moment: u64,
     state: &[u8],
@@ -23,8 +24,18 @@ pub extern "C" fn kept_demand_3(
     ensures { λ r. ⌜ r ≡ Bool.true ⌝ }
 {
     let mut text = [0u8; MOST_TEXT];
-    let issued = office_verify(who, what, right, records, buffer, proof, &mut text);
-    let checked = office_direct(who, what, right, records, buffer, proof, moment, state);
+    let issued = office_verify(who, what, right, records, buffer, pairs, proof, &mut text);
+    let checked = office_direct(
+        who,
+        what,
+        right,
+        records,
+        buffer,
+        pairs,
+        proof,
+        moment,
+        state,
+    );
     let accepted = number_in(checked) == 0;
     if number_in(issued) != 0 {
         return !accepted;

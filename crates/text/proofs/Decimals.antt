@@ -98,7 +98,7 @@ digits-within (suc k) n =
     ]
 
 -- The lengths of the numbers of a refusal.
-pub answer-few : (n : ℕ) → n ≤ 14 → length (decimal n) ≤ 2
+pub answer-few : (n : ℕ) → n ≤ 21 → length (decimal n) ≤ 2
 answer-few n l = decimal-few 1 n (omega arith)
 
 pub place-few : (n : ℕ) → length (decimal n) ≤ most-digits

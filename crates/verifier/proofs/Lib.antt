@@ -8,4 +8,5 @@ pub mod LendingRecords
 pub mod RecordsLent
 pub mod VerifyLent
 pub mod WalkBegins
+pub mod ByStrengths
 pub mod Answers

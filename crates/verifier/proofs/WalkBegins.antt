@@ -16,7 +16,7 @@ use Rattle.procap.specs.declared.time.Time.the-variants.{Ctime}
 use Rattle.procap.specs.declared.answer.Answer.the-variants.{MomentAboveLatest}
 use Rattle.procap.specs.declared.procap.Request.{Request}
 use Rattle.bl.specs.Trees.{Check}
-use Rattle.bl.specs.Certificates.{Statement}
+use Rattle.bl.specs.Policy.{Policy}
 use Rattle.bl.specs.Rules.{goal}
 use Rattle.bl.specs.Steps.{most-proof-levels, proof-in}
 use Rattle.bl.specs.Walk.{walk}
@@ -35,7 +35,7 @@ use Rattle.formula.specs.PutIn.{no-terms}
 use Rattle.formula.specs.Meaning.{Means}
 use Rattle.judging.specs.RowsOf.{Assumed, all-numbers}
 use Rattle.judging.specs.Judging.{view-by, outermost}
-use Rattle.walk.specs.Walking.{Sources, Around, ChecksAt}
+use Rattle.walk.specs.Walking.{PolicyLent, Sources, Around, ChecksAt}
 use Rattle.verifier.specs.Verifying.{Walked}
 
 -- No fact is listed at the start,
@@ -55,9 +55,9 @@ begun-sound reading list room =
     record { room = room; few = omega arith; in-form = λ i h. absurd (omega arith) }
 
 -- and has room for what the walk of a proof that reads asks for, at most 16.
-begun-room : (reading : Reading) (list proof : List ℕ) (r : Request) (cs : List Statement) (N : Check) → proof-in (length cs) proof ≡ some N
-    → HasRoom (book (begun reading) list) (walk r cs N)
-begun-room reading list proof r cs N reads _ = omega (arith, begun-count reading, at-most-16-asked r cs (length cs) proof N reads)
+begun-room : (reading : Reading) (list proof : List ℕ) (r : Request) (π : Policy) (N : Check) → proof-in (length (π .statements)) proof ≡ some N
+    → HasRoom (book (begun reading) list) (walk r π N)
+begun-room reading list proof r π N reads _ = omega (arith, begun-count reading, at-most-16-asked r π (length (π .statements)) proof N reads)
 
 -- A walk read on from there, at the office or at a moment of the clock, is the walk read from what verify starts with.
 module _ {A : Type 0} (state list : List ℕ) (w : Walk A) where
@@ -79,12 +79,12 @@ walk-of-goal : (r : Request) (S : Sources) (assumptions goal-bytes : List ℕ) (
     → length assumptions ≡ all-numbers
     → Means goal-bytes 0 (record { at = 0; terms = no-terms }) (goal r)
     → ChecksAt S assumptions outermost (begun reading) list most-proof-levels goal-bytes goal-on-ctime 0 c list′
-    → Walked (record { request = r; reading = reading }) (S .buffer) (S .proof) (S .state) (S .certificates) (S .ends) list (c .ledger) list′
+    → Walked (record { request = r; reading = reading }) (PolicyLent (S .buffer) (S .certificates) (S .strengths)) (S .proof) (S .state) (S .ends) list (c .ledger) list′
 unfolding Assumed walk view-by time-of
-walk-of-goal r S assumptions goal-bytes reading list c list′ all-there means checks cs N room reads =
-    let around : Around S assumptions outermost most-proof-levels cs [] = record { certified = reads .certified; assumed = tt; shut-inside = omega arith; room = omega arith; all-there = all-there } in
-    let passes = checks cs [] N (length (S .proof)) (begun-sound reading list room) around (proof-step (length cs) (S .proof) N (reads .proof-reads)) (reads .told) (goal r) means in
-    (passes .gives .sound, passes .gives .resumed (begun-room reading list (S .proof) r cs N (reads .proof-reads)))
+walk-of-goal r S assumptions goal-bytes reading list c list′ all-there means checks π N room reads =
+    let around : Around S assumptions outermost most-proof-levels π [] = record { policy = reads .policy; assumed = tt; shut-inside = omega arith; room = omega arith; all-there = all-there } in
+    let passes = checks π [] N (length (S .proof)) (begun-sound reading list room) around (proof-step (length (π .statements)) (S .proof) N (reads .proof-reads)) (reads .told) (goal r) means in
+    (passes .gives .sound, passes .gives .resumed (begun-room reading list (S .proof) r π N (reads .proof-reads)))
 
 -- So the walk from the goal of a request, with the ledger at its start, is the walk of the proof.
 pub walk-of-request : (r : Request) (S : Sources) (assumptions goal-bytes : List ℕ) (reading : Reading) (list : List ℕ) (c : Checked) (list′ : List ℕ) (l : Ledger) (j : Judgement)
@@ -92,6 +92,6 @@ pub walk-of-request : (r : Request) (S : Sources) (assumptions goal-bytes : List
     → length assumptions ≡ all-numbers
     → Means goal-bytes 0 (record { at = 0; terms = no-terms }) (goal r)
     → ChecksAt S assumptions outermost l list most-proof-levels goal-bytes j 0 c list′
-    → Walked (record { request = r; reading = reading }) (S .buffer) (S .proof) (S .state) (S .certificates) (S .ends) list (c .ledger) list′
+    → Walked (record { request = r; reading = reading }) (PolicyLent (S .buffer) (S .certificates) (S .strengths)) (S .proof) (S .state) (S .ends) list (c .ledger) list′
 walk-of-request r S assumptions goal-bytes reading list c list′ l j is-begun is-goal all-there means checks =
     walk-of-goal r S assumptions goal-bytes reading list c list′ all-there means (rw (is-begun, is-goal) at checks)

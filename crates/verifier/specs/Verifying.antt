@@ -16,6 +16,8 @@ use Rattle.procap.specs.declared.procap.Procap.{Procap}
 use Rattle.bl.specs.declared.Certificate.{Certificate}
 use Rattle.bl.specs.Trees.{Check}
 use Rattle.bl.specs.Certificates.{Statement, statements, statement-of, most-certificates}
+use Rattle.bl.specs.Strength.{pairs-in}
+use Rattle.bl.specs.Policy.{Policy}
 use Rattle.bl.specs.Questions.{done}
 use Rattle.bl.specs.Steps.{proof-in}
 use Rattle.bl.specs.Readings.{start, office, press, run}
@@ -32,6 +34,7 @@ use Rattle.judging.specs.declared.rows.Row.{Row}
 use Rattle.judging.specs.declared.rows.Whose.the-variants.{Claim}
 use Rattle.formula.specs.PutIn.{no-terms}
 use Rattle.judging.specs.RowsOf.{row-in, all-numbers, Certified}
+use Rattle.walk.specs.Walking.{PolicyLent}
 
 -- Lent records, as a contract names them: on entry and at the exit.
 abbrev pub Records : Type 0
@@ -52,41 +55,56 @@ row-of c = record {
 abbrev pub WellFormedRecord : List ℕ → Certificate → Type 0
 WellFormedRecord buffer c = (s : Statement) × (statement-of buffer c ≡ some s)
 
--- The rows are the certificates cs, the proof reads over them, and the table has where the second part of each 26 ends.
-pub record CaseReads (rows ends buffer proof : List ℕ) (cs : List Statement) (N : Check) : Type 0 where
-  pub certified : Certified buffer rows cs
-  pub proof-reads : proof-in (length cs) proof ≡ some N
+-- The policy is what was read: rows that are its certificates, and numbers that are its pairs.
+pub record PolicyRead (buffer rows pairs : List ℕ) (π : Policy) : Type 0 where
+  pub certified : Certified buffer rows (π .statements)
+  pub paired : pairs-in pairs ≡ granted (π .pairs)
+
+-- The policy is such a one, the proof reads over it, and the table has where the second part of each 26 ends.
+pub record CaseReads (IsPolicy : Policy → Type 0) (ends proof : List ℕ) (π : Policy) (N : Check) : Type 0 where
+  pub policy : IsPolicy π
+  pub proof-reads : proof-in (length (π .statements)) proof ≡ some N
   pub told : ToldChecking ends N
 
 -- The ledger and the list at the end are what the walk of the proof comes to, from the ledger at its start.
-abbrev pub Walked : Asked → List ℕ → List ℕ → List ℕ → List ℕ → List ℕ → List ℕ → Ledger → List ℕ → Type 0
-Walked asked buffer proof state rows ends list l list′ =
-    (cs : List Statement) (N : Check) → length list ≡ list-numbers → CaseReads rows ends buffer proof cs N
-    → Sound (book l list′) × (resume state (book l list′) (done (tt {0})) ≡ resume state (book (begun (asked .reading)) list) (walk (asked .request) cs N))
+abbrev pub Walked : Asked → (Policy → Type 0) → List ℕ → List ℕ → List ℕ → List ℕ → Ledger → List ℕ → Type 0
+Walked asked IsPolicy proof state ends list l list′ =
+    (π : Policy) (N : Check) → length list ≡ list-numbers → CaseReads IsPolicy ends proof π N
+    → Sound (book l list′) × (resume state (book l list′) (done (tt {0})) ≡ resume state (book (begun (asked .reading)) list) (walk (asked .request) π N))
 
--- The same of what is lent, where r is the ledger at the end.
-abbrev pub WalkedOver : Asked → Lent → Lent → Lent → Lent → Lent → Lent → Ledger → Type 0
-WalkedOver asked buffer proof state rows ends facts r =
-    Walked asked (buffer .entry .now) (proof .entry .now) (state .entry .now) (rows .entry .now) (ends .entry .now) (facts .entry .now) r (facts .exit .now)
+-- The same of what is lent, where r is the ledger at the end: over pairs, and over the strengths that were found.
+abbrev pub WalkedOver : Asked → Lent → Lent → Lent → Lent → Lent → Lent → Lent → Ledger → Type 0
+WalkedOver asked buffer pairs proof state rows ends facts r =
+    Walked asked (PolicyRead (buffer .entry .now) (rows .entry .now) (pairs .entry .now)) (proof .entry .now) (state .entry .now) (ends .entry .now) (facts .entry .now) r (facts .exit .now)
+
+abbrev pub WalkedBy : Asked → Lent → Lent → Lent → Lent → Lent → Lent → Lent → Ledger → Type 0
+WalkedBy asked buffer proof state rows strengths ends facts r =
+    Walked asked (PolicyLent (buffer .entry .now) (rows .entry .now) (strengths .entry .now)) (proof .entry .now) (state .entry .now) (ends .entry .now) (facts .entry .now) r (facts .exit .now)
 
 -- An outcome goes on with a value, or is stopped by its answer.
 abbrev pub Stops : {A : Type 0} → Outcome A → Stop → Type 0
 Stops {A} o Going = (a : A) × (o ≡ granted a)
 Stops o (Stopped answer) = o ≡ refused answer
 
--- What is so of whatever certificates the rows are, with the proof that reads over them.
-abbrev pub OnceRead : Lent → Lent → Lent → Lent → (List Statement → Check → Type 0) → Type 0
-OnceRead rows ends buffer proof P =
-    (cs : List Statement) (N : Check) → CaseReads (rows .entry .now) (ends .entry .now) (buffer .entry .now) (proof .entry .now) cs N → P cs N
+-- The first of two stops.
+abbrev pub first-of : Stop → Stop → Stop
+first-of Going other = other
+first-of (Stopped answer) other = Stopped answer
+
+-- What is so of whatever policy was read, with the proof that reads over it.
+abbrev pub OnceRead : Lent → Lent → Lent → Lent → Lent → (Policy → Check → Type 0) → Type 0
+OnceRead rows ends buffer pairs proof P =
+    (π : Policy) (N : Check) → CaseReads (PolicyRead (buffer .entry .now) (rows .entry .now) (pairs .entry .now)) (ends .entry .now) (proof .entry .now) π N → P π N
 
 -- Where nothing stopped, the table has where the second part of each 26 ends.
 abbrev pub ToldUnlessStopped : Lent → ℕ → Lent → Stop → Type 0
 ToldUnlessStopped proof n ends r = r ≡ Going → EndsTold proof n ends
 
--- Where `stop` is what so many records come to, r is what they and the proof come to.
-abbrev pub CaseStops : Stop → Lent → ℕ → Stop → Type 0
-CaseStops stop proof n r =
-    (records : List Certificate) (buffer : List ℕ) → length records ≡ n → Stops (statements buffer records) stop → Stops (read-case records buffer (proof .entry .now)) r
+-- Where `stop` is what so many records come to, r is what they, the pairs and the proof come to.
+abbrev pub CaseStops : Stop → Lent → Lent → ℕ → Stop → Type 0
+CaseStops stop pairs proof n r =
+    (records : List Certificate) (buffer : List ℕ) → length records ≡ n → Stops (statements buffer records) stop
+    → Stops (read-case records buffer (pairs .entry .now) (proof .entry .now)) r
 
 -- The records before the i-th are taken: there are not too many in all, each is well formed, and its row is put.
 pub record TakenTo (records : List Certificate) (buffer : List ℕ) (i : ℕ) (rows : List ℕ) : Type 0 where
@@ -119,19 +137,20 @@ abbrev pub OnceTaken : Stop → ℕ → Lent → Lent → (List Certificate → 
 OnceTaken stop n rows buffer P = (records : List Certificate) → length records ≡ n → Taken records (buffer .entry .now) stop (rows .entry .now) → P records
 
 -- What verify and the direct check come to for some records, over what is lent.
-abbrev pub verified-over : Request → List Certificate → Lent → Lent → Outcome Procap
-verified-over request records buffer proof = verified request records (buffer .entry .now) (proof .entry .now)
+abbrev pub verified-over : Request → List Certificate → Lent → Lent → Lent → Outcome Procap
+verified-over request records buffer pairs proof = verified request records (buffer .entry .now) (pairs .entry .now) (proof .entry .now)
 
-abbrev pub directly-over : Request → List Certificate → Lent → Lent → ℕ → Lent → Outcome (Unit {0})
-directly-over request records buffer proof moment state = directly request records (buffer .entry .now) (proof .entry .now) moment (state .entry .now)
+abbrev pub directly-over : Request → List Certificate → Lent → Lent → Lent → ℕ → Lent → Outcome (Unit {0})
+directly-over request records buffer pairs proof moment state =
+    directly request records (buffer .entry .now) (pairs .entry .now) (proof .entry .now) moment (state .entry .now)
 
 -- What verify comes to from there on.
-unfoldable pub verified-case : Request → List Statement → Check → Outcome Procap
-verified-case r cs N = go-on (run office (walk r cs N) start) λ w. issue r (w .1)
+unfoldable pub verified-case : Request → Policy → Check → Outcome Procap
+verified-case r π N = go-on (run office (walk r π N) start) λ w. issue r (w .1)
 
 -- What the direct check comes to from there on.
-unfoldable pub checked-case : Request → List Statement → Check → ℕ → List ℕ → Outcome (Unit {0})
-checked-case r cs N m state = go-on (read-press m state) λ σ. go-on (run (press m σ) (walk r cs N) start) λ w. granted (w .0)
+unfoldable pub checked-case : Request → Policy → Check → ℕ → List ℕ → Outcome (Unit {0})
+checked-case r π N m state = go-on (read-press m state) λ σ. go-on (run (press m σ) (walk r π N) start) λ w. granted (w .0)
 
 -- What is handed over is the outcome's answer and procap.
 pub record HandsOver (o : Outcome Procap) (r : Verified) : Type 0 where

@@ -16,19 +16,23 @@ use procap::time::LATEST_SECOND;
 use steps::MOST_PROOF_LEVELS;
 use steps::ends::MOST_ENDS;
 use steps::well_formed;
+use strength::MOST_PAIRS;
+use strength::STRENGTH_NUMBERS;
+use strength::finding::find_strengths;
 use walk::Here;
 use walk::check;
 ghost use mathlib.Core.Path.{_≡_};
 ghost use Rattle.procap.specs.Procaps.{«empty-procap»};
 ghost use Rattle.procap.specs.Outcome.{«answer-of», «procap-handed», «or-else»};
 ghost use Rattle.bl.specs.Steps.{«proof-in»};
+ghost use Rattle.bl.specs.Strength.{«pairs-in»};
 ghost use Rattle.bl.specs.Rules.{goal};
 ghost use Rattle.bl.specs.Calls.{issue};
 ghost use Rattle.ledger.specs.Books.{book, Sound, «kept-of»};
 ghost use Rattle.formula.specs.PutIn.{«no-terms»};
 ghost use Rattle.formula.specs.Meaning.{Means};
 ghost use Rattle.steps.specs.Ends.{EndsTold};
-ghost use Rattle.verifier.specs.Verifying.{WalkedOver, Stops, CaseStops, OnceRead, OnceTaken, HandsOver, «verified-over», «directly-over», «verified-case», «checked-case», ToldUnlessStopped};
+ghost use Rattle.verifier.specs.Verifying.{WalkedOver, WalkedBy, Stops, «first-of», CaseStops, OnceRead, OnceTaken, HandsOver, «verified-over», «directly-over», «verified-case», «checked-case», ToldUnlessStopped};
 
 // How many bytes the goal of a request takes.
 pub const GOAL_BYTES: usize = 17;
@@ -45,19 +49,28 @@ struct Asked {
     pub reading: Reading,
 }
 
-// Whether the proof shows the request from the certificates, and the procap for it.
+// Whether the proof shows the request from the certificates and the pairs, and the procap for it. Each number of the pairs is one: the stronger principal times 65,536, and the weaker.
 pub fn verify(
     request: Request,
     certificates: &[Certificate],
     buffer: &[u8],
+    pairs: &[u32],
     proof: &[u8],
 ) -> Verified
-    ensures answer { λ r. ⌜ r .answer ≡ «answer-of» («verified-over» request (now (certificates .entry)) buffer proof) ⌝ }
-    ensures procap { λ r. ⌜ r .procap ≡ «procap-handed» («verified-over» request (now (certificates .entry)) buffer proof) ⌝ }
+    ensures answer { λ r. ⌜ r .answer ≡ «answer-of» («verified-over» request (now (certificates .entry)) buffer pairs proof) ⌝ }
+    ensures procap { λ r. ⌜ r .procap ≡ «procap-handed» («verified-over» request (now (certificates .entry)) buffer pairs proof) ⌝ }
 {
     let mut rows = [0u64; ALL_NUMBERS];
     let stop = take_records(certificates, buffer, &mut rows);
-    verify_taken(request, stop, certificates.len(), &rows, buffer, proof)
+    verify_taken(
+        request,
+        stop,
+        certificates.len(),
+        &rows,
+        buffer,
+        pairs,
+        proof,
+    )
 }
 
 // What verify answers once so many records are taken.
@@ -67,33 +80,35 @@ fn verify_taken(
     certificates: usize,
     rows: &[u64],
     buffer: &[u8],
+    pairs: &[u32],
     proof: &[u8],
 ) -> Verified
-    ensures { λ r. ⌜ OnceTaken stop certificates rows buffer (λ records. HandsOver («verified-over» request records buffer proof) r) ⌝ }
+    ensures { λ r. ⌜ OnceTaken stop certificates rows buffer (λ records. HandsOver («verified-over» request records buffer pairs proof) r) ⌝ }
 {
     let mut ends = [0u16; MOST_ENDS];
-    match malformed(stop, proof, certificates, &mut ends) {
+    match malformed(stop, pairs, proof, certificates, &mut ends) {
         Stop::Stopped(answer) => refused(answer),
-        Stop::Going => verify_case(request, rows, &ends, buffer, proof),
+        Stop::Going => verify_case(request, rows, &ends, buffer, pairs, proof),
     }
 }
 
-// What verify answers to certificates and a proof that are well formed.
+// What verify answers to a policy and a proof that are well formed.
 fn verify_case(
     request: Request,
     rows: &[u64],
     ends: &[u16],
     buffer: &[u8],
+    pairs: &[u32],
     proof: &[u8],
 ) -> Verified
-    ensures { λ r. ⌜ OnceRead rows ends buffer proof (λ cs N. HandsOver («verified-case» request cs N) r) ⌝ }
+    ensures { λ r. ⌜ OnceRead rows ends buffer pairs proof (λ π N. HandsOver («verified-case» request π N) r) ⌝ }
 {
     let mut facts = [0u64; LIST_NUMBERS];
     let asked = Asked {
         request: request,
         reading: Reading::Office,
     };
-    let ledger = walked(asked, buffer, proof, b"", rows, ends, &mut facts);
+    let ledger = walked(asked, buffer, pairs, proof, b"", rows, ends, &mut facts);
     let stop = ledger.stop();
     match stop {
         Stop::Stopped(answer) => refused(answer),
@@ -129,11 +144,12 @@ pub fn direct(
     request: Request,
     certificates: &[Certificate],
     buffer: &[u8],
+    pairs: &[u32],
     proof: &[u8],
     moment: u64,
     state: &[u8],
 ) -> Answer
-    ensures { λ r. ⌜ r ≡ «answer-of» («directly-over» request (now (certificates .entry)) buffer proof moment state) ⌝ }
+    ensures { λ r. ⌜ r ≡ «answer-of» («directly-over» request (now (certificates .entry)) buffer pairs proof moment state) ⌝ }
 {
     let mut rows = [0u64; ALL_NUMBERS];
     let stop = take_records(certificates, buffer, &mut rows);
@@ -143,6 +159,7 @@ pub fn direct(
         certificates.len(),
         &rows,
         buffer,
+        pairs,
         proof,
         moment,
         state,
@@ -156,30 +173,32 @@ fn direct_taken(
     certificates: usize,
     rows: &[u64],
     buffer: &[u8],
+    pairs: &[u32],
     proof: &[u8],
     moment: u64,
     state: &[u8],
 ) -> Answer
-    ensures { λ r. ⌜ OnceTaken stop certificates rows buffer (λ rs. r ≡ «answer-of» («directly-over» request rs buffer proof moment state)) ⌝ }
+    ensures { λ r. ⌜ OnceTaken stop certificates rows buffer (λ rs. r ≡ «answer-of» («directly-over» request rs buffer pairs proof moment state)) ⌝ }
 {
     let mut ends = [0u16; MOST_ENDS];
-    match malformed(stop, proof, certificates, &mut ends) {
+    match malformed(stop, pairs, proof, certificates, &mut ends) {
         Stop::Stopped(answer) => answer,
-        Stop::Going => check_case(request, rows, &ends, buffer, proof, moment, state),
+        Stop::Going => check_case(request, rows, &ends, buffer, pairs, proof, moment, state),
     }
 }
 
-// What the direct check answers to certificates and a proof that are well formed.
+// What the direct check answers to a policy and a proof that are well formed.
 fn check_case(
     request: Request,
     rows: &[u64],
     ends: &[u16],
     buffer: &[u8],
+    pairs: &[u32],
     proof: &[u8],
     moment: u64,
     state: &[u8],
 ) -> Answer
-    ensures { λ r. ⌜ OnceRead rows ends buffer proof (λ cs N. r ≡ «answer-of» («checked-case» request cs N moment (now (state .entry)))) ⌝ }
+    ensures { λ r. ⌜ OnceRead rows ends buffer pairs proof (λ π N. r ≡ «answer-of» («checked-case» request π N moment (now (state .entry)))) ⌝ }
 {
     if LATEST_SECOND < moment {
         return Answer::MomentAboveLatest;
@@ -192,7 +211,7 @@ fn check_case(
         request: request,
         reading: Reading::Press(moment),
     };
-    let ledger = walked(asked, buffer, proof, state, rows, ends, &mut facts);
+    let ledger = walked(asked, buffer, pairs, proof, state, rows, ends, &mut facts);
     let stop = ledger.stop();
     match stop {
         Stop::Stopped(answer) => answer,
@@ -200,14 +219,36 @@ fn check_case(
     }
 }
 
-// Whether to go on: what is malformed stops, the records, of which there are so many, before the proof. Where nothing does, the table has where the second part of each 26 ends.
-fn malformed(stop: Stop, proof: &[u8], certificates: usize, ends: &mut [u16]) -> Stop
-    ensures stops { λ r. ⌜ CaseStops stop proof certificates r ⌝ }
+// Whether to go on: what is malformed stops, the records, of which there are so many, before the pairs, and these before the proof. Where nothing does, the table has where the second part of each 26 ends.
+fn malformed(stop: Stop, pairs: &[u32], proof: &[u8], certificates: usize, ends: &mut [u16]) -> Stop
+    ensures stops { λ r. ⌜ CaseStops stop pairs proof certificates r ⌝ }
     ensures told { λ r. ⌜ ToldUnlessStopped proof certificates ends r ⌝ }
 {
-    match stop {
+    let policy = first_of(stop, pairs_taken(pairs));
+    match policy {
         Stop::Stopped(answer) => Stop::Stopped(answer),
         Stop::Going => proof_malformed(proof, certificates, ends),
+    }
+}
+
+// The first of two stops, in their order.
+fn first_of(one: Stop, other: Stop) -> Stop
+    ensures { λ r. ⌜ r ≡ «first-of» one other ⌝ }
+{
+    match one {
+        Stop::Stopped(answer) => Stop::Stopped(answer),
+        Stop::Going => other,
+    }
+}
+
+// Whether to go on: too many pairs stop.
+fn pairs_taken(pairs: &[u32]) -> Stop
+    ensures { λ r. ⌜ Stops («pairs-in» (now (pairs .entry))) r ⌝ }
+{
+    if pairs.len() <= MOST_PAIRS {
+        Stop::Going
+    } else {
+        Stop::Stopped(Answer::TooManyPairs)
     }
 }
 
@@ -223,18 +264,41 @@ fn proof_malformed(proof: &[u8], certificates: usize, ends: &mut [u16]) -> Stop
     }
 }
 
-// The ledger at the end of the walk for what is asked.
+// The ledger at the end of the walk for what is asked. The strengths that the pairs give are found once; with no pair there is nothing to find.
 #[rattlefmt::skip]
 fn walked(
     asked: Asked,
     buffer: &[u8],
+    pairs: &[u32],
     proof: &[u8],
     state: &[u8],
     certificates: &[u64],
     ends: &[u16],
     facts: &mut [u64],
 ) -> Ledger
-    ensures { λ r. ⌜ WalkedOver asked buffer proof state certificates ends facts r ⌝ }
+    ensures { λ r. ⌜ WalkedOver asked buffer pairs proof state certificates ends facts r ⌝ }
+{
+    if pairs.len() == 0 {
+        return walked_by(asked, buffer, proof, state, certificates, &certificates[..0], ends, facts);
+    }
+    let mut strengths = [0u64; STRENGTH_NUMBERS];
+    find_strengths(pairs, &mut strengths);
+    walked_by(asked, buffer, proof, state, certificates, &strengths, ends, facts)
+}
+
+// The same, once the strengths are found.
+#[rattlefmt::skip]
+fn walked_by(
+    asked: Asked,
+    buffer: &[u8],
+    proof: &[u8],
+    state: &[u8],
+    certificates: &[u64],
+    strengths: &[u64],
+    ends: &[u16],
+    facts: &mut [u64],
+) -> Ledger
+    ensures { λ r. ⌜ WalkedBy asked buffer proof state certificates strengths ends facts r ⌝ }
 {
     let request = asked.request;
     let reading = asked.reading;
@@ -247,7 +311,7 @@ fn walked(
         left: MOST_PROOF_LEVELS,
     };
     let mut assumptions = [0u64; ALL_NUMBERS];
-    let checked = check(buffer, proof, state, certificates, ends, facts, &mut assumptions, &bytes, goal, here);
+    let checked = check(buffer, proof, state, certificates, strengths, ends, facts, &mut assumptions, &bytes, goal, here);
     checked.ledger
 }
 

@@ -7,7 +7,7 @@ use native.Mathlib.Omega.{arith}
 use native.Mathlib.Numerals.{add-one}
 use lib.ListN.{length}
 use Rattle.bl.specs.Trees.{Formula, Check}
-use Rattle.bl.specs.Certificates.{Statement}
+use Rattle.bl.specs.Policy.{Policy}
 use Rattle.bl.specs.Rules.{Assumption}
 use Rattle.bl.specs.Steps.{check-step}
 use Rattle.bl.specs.Walk.{check}
@@ -29,12 +29,12 @@ module _ (S : Sources) (rows : List ℕ) (scope : Scope) (left : ℕ) (goal-byte
     {between more : List ℕ} (row : Row) (kept : Keeps (scope .count) rows between) (put : more ≡ rows-with between (scope .count) row) (all : length more ≡ length between)
     (ledger : Ledger) (list : List ℕ) (at : ℕ) {r : Checked} {list′ : List ℕ}
     (checks : ChecksAt S more (scope-with scope) ledger list left goal-bytes goal at r list′) where
-  pub part-assuming : (cs : List Statement) (Γ : List Assumption) (N : Check) (e : ℕ) → Sound (book ledger list) → Around S rows scope (suc left) cs Γ
-      → check-step (S .proof) (length cs) left (suc (scope .count)) at ≡ some (N, e) → ToldChecking (S .ends) N
+  pub part-assuming : (π : Policy) (Γ : List Assumption) (N : Check) (e : ℕ) → Sound (book ledger list) → Around S rows scope (suc left) π Γ
+      → check-step (S .proof) (length (π .statements)) left (suc (scope .count)) at ≡ some (N, e) → ToldChecking (S .ends) N
       → (x : Assumption) → RowIs (S .buffer) row 0 0 x → (G : Formula) → Means goal-bytes 0 (goal .formula) G
-      → Passes (S .state) (book ledger list) (check cs (x ∷ Γ) (view-in (scope .view)) N G (from-of goal) (to-of goal)) e r list′
-  part-assuming cs Γ N e sound around reads told x is G means =
+      → Passes (S .state) (book ledger list) (check π (x ∷ Γ) (view-in (scope .view)) N G (from-of goal) (to-of goal)) e r list′
+  part-assuming π Γ N e sound around reads told x is G means =
       let room = around .room in
-      let around′ = around-kept S rows between scope (suc left) cs Γ kept around in
-      let more-around = around-more S between scope left cs Γ around′ more row x is put (keeps-others (scope .count) between row put all) in
-      (rw (scope-more scope (omega arith)) at checks) cs (x ∷ Γ) N e sound more-around (rw (add-one (scope .count)) reads) told G means
+      let around′ = around-kept S rows between scope (suc left) π Γ kept around in
+      let more-around = around-more S between scope left π Γ around′ more row x is put (keeps-others (scope .count) between row put all) in
+      (rw (scope-more scope (omega arith)) at checks) π (x ∷ Γ) N e sound more-around (rw (add-one (scope .count)) reads) told G means

@@ -13,7 +13,7 @@ use Rattle.bl.specs.declared.CheckTag.the-variants.{PairTag, TopStepTag, AtInTa
 use Rattle.bl.specs.declared.FormulaTag.the-variants.{AndTag}
 use Rattle.bl.specs.Trees.{Formula, Infer, Check}
 use Rattle.bl.specs.Tags.{infer-tag, check-tag}
-use Rattle.bl.specs.Certificates.{Statement}
+use Rattle.bl.specs.Policy.{Policy}
 use Rattle.bl.specs.Rules.{Assumption, shut, shut-out, View, view-of}
 use Rattle.bl.specs.Questions.{Test}
 use Rattle.bl.specs.Steps.{infer-step, check-step, check-by}
@@ -104,21 +104,21 @@ record PutRead (proof ends : List ℕ) (c n h q : ℕ) (shell : Shell) (N : Chec
   part : Check
   reads : check-step proof c n h (q + 1) ≡ some (part, e)
   told : ToldChecking ends part
-  walks : (cs : List Statement) (Γ : List Assumption) (v : View) (j : walk.Judgement)
-      → check cs Γ v N (j .0) (j .1) (j .2) ≡ and-then (inside shell q j) (check-inside cs Γ v part)
+  walks : (π : Policy) (Γ : List Assumption) (v : View) (j : walk.Judgement)
+      → check π Γ v N (j .0) (j .1) (j .2) ≡ and-then (inside shell q j) (check-inside π Γ v part)
 
 -- One that was read, by what is told of its part and by the walk of the step that it is.
 put-found : (proof ends : List ℕ) (c n h q : ℕ) (shell : Shell) {make : Check → Check} {N : Check} {e : ℕ} → PartRead proof c n h q make N e
     → ((M : Check) → ToldChecking ends (make M) → ToldChecking ends M)
-    → ((cs : List Statement) (Γ : List Assumption) (v : View) (j : walk.Judgement) (M : Check)
-    → check cs Γ v (make M) (j .0) (j .1) (j .2) ≡ and-then (inside shell q j) (check-inside cs Γ v M))
+    → ((π : Policy) (Γ : List Assumption) (v : View) (j : walk.Judgement) (M : Check)
+    → check π Γ v (make M) (j .0) (j .1) (j .2) ≡ and-then (inside shell q j) (check-inside π Γ v M))
     → ToldChecking ends N → PutRead proof ends c n h q shell N e
 put-found proof ends c n h q shell found tells walks told =
     record {
       part = found .part;
       reads = found .reads;
       told = tells (found .part) (told-is ends (found .is) told);
-      walks = λ cs Γ v j. ap (λ N. check cs Γ v N (j .0) (j .1) (j .2)) (found .is) ∙ walks cs Γ v j (found .part);
+      walks = λ π Γ v j. ap (λ N. check π Γ v N (j .0) (j .1) (j .2)) (found .is) ∙ walks π Γ v j (found .part);
     }
 
 put-read : (proof ends : List ℕ) (c n h q : ℕ) (tag : CheckTag) (shell : Shell) (N : Check) (e : ℕ) → Puts tag shell
@@ -126,13 +126,13 @@ put-read : (proof ends : List ℕ) (c n h q : ℕ) (tag : CheckTag) (shell : She
     → PutRead proof ends c n h q shell N e
 unfolding ToldChecking
 put-read proof ends c n h q AtInTag AtShell N e puts-at reads =
-    put-found proof ends c n h q AtShell (at-in-read proof c n h q NoInferTag N e reads) (λ M t. t) (λ cs Γ v j. at-in-walk cs Γ v q (j .0) (j .1) (j .2))
+    put-found proof ends c n h q AtShell (at-in-read proof c n h q NoInferTag N e reads) (λ M t. t) (λ π Γ v j. at-in-walk π Γ v q (j .0) (j .1) (j .2))
 put-read proof ends c n h q SaysInTag SaysShell N e puts-says reads =
-    put-found proof ends c n h q SaysShell (says-in-read proof c n h q NoInferTag N e reads) (λ M t. t) (λ cs Γ v j. says-in-walk cs Γ v q (j .0) (j .1) (j .2))
+    put-found proof ends c n h q SaysShell (says-in-read proof c n h q NoInferTag N e reads) (λ M t. t) (λ π Γ v j. says-in-walk π Γ v q (j .0) (j .1) (j .2))
 put-read proof ends c n h q OrLeftTag LeftShell N e puts-left reads =
-    put-found proof ends c n h q LeftShell (or-left-read proof c n h q NoInferTag N e reads) (λ M t. t) (λ cs Γ v j. or-left-walk cs Γ v q (j .0) (j .1) (j .2))
+    put-found proof ends c n h q LeftShell (or-left-read proof c n h q NoInferTag N e reads) (λ M t. t) (λ π Γ v j. or-left-walk π Γ v q (j .0) (j .1) (j .2))
 put-read proof ends c n h q OrRightTag RightShell N e puts-right reads =
-    put-found proof ends c n h q RightShell (or-right-read proof c n h q NoInferTag N e reads) (λ M t. t) (λ cs Γ v j. or-right-walk cs Γ v q (j .0) (j .1) (j .2))
+    put-found proof ends c n h q RightShell (or-right-read proof c n h q NoInferTag N e reads) (λ M t. t) (λ π Γ v j. or-right-walk π Γ v q (j .0) (j .1) (j .2))
 
 -- A step that takes a formula out of a shell: the part that infers it, the part that assumes what is inside, and its walk.
 record TakeRead (proof ends : List ℕ) (c n h q : ℕ) (shell : Shell) (N : Check) (e : ℕ) : Type 0 where
@@ -143,8 +143,8 @@ record TakeRead (proof ends : List ℕ) (c n h q : ℕ) (shell : Shell) (N : Che
   other-reads : check-step proof c n (suc h) middle ≡ some (other, e)
   part-told : Told ends part
   other-told : ToldChecking ends other
-  walks : (cs : List Statement) (Γ : List Assumption) (v : View) (j : walk.Judgement)
-      → check cs Γ v N (j .0) (j .1) (j .2) ≡ and-then (and-then (infer cs Γ v part) (inside shell q)) (λ x. check cs (x ∷ Γ) v other (j .0) (j .1) (j .2))
+  walks : (π : Policy) (Γ : List Assumption) (v : View) (j : walk.Judgement)
+      → check π Γ v N (j .0) (j .1) (j .2) ≡ and-then (and-then (infer π Γ v part) (inside shell q)) (λ x. check π (x ∷ Γ) v other (j .0) (j .1) (j .2))
 
 take-read : (proof ends : List ℕ) (c n h q : ℕ) (tag : CheckTag) (shell : Shell) (N : Check) (e : ℕ) → TakesOut tag shell
     → check-by proof c (infer-step proof c n) (check-step proof c n) h q NoInferTag tag (q + 1) ≡ some (N, e) → ToldChecking ends N
@@ -161,7 +161,7 @@ take-read proof ends c n h q AtOutTag AtShell N e takes-at reads told =
       other-reads = found .other-reads;
       part-told = both .0;
       other-told = both .1;
-      walks = λ cs Γ v j. ap (λ N. check cs Γ v N (j .0) (j .1) (j .2)) (found .is) ∙ at-out-walk cs Γ v q (j .0) (j .1) (j .2) (found .part) (found .other);
+      walks = λ π Γ v j. ap (λ N. check π Γ v N (j .0) (j .1) (j .2)) (found .is) ∙ at-out-walk π Γ v q (j .0) (j .1) (j .2) (found .part) (found .other);
     }
 take-read proof ends c n h q SaysOutTag SaysShell N e takes-says reads told =
     let found = says-out-read proof c n h q NoInferTag N e reads in
@@ -174,7 +174,7 @@ take-read proof ends c n h q SaysOutTag SaysShell N e takes-says reads told =
       other-reads = found .other-reads;
       part-told = both .0;
       other-told = both .1;
-      walks = λ cs Γ v j. ap (λ N. check cs Γ v N (j .0) (j .1) (j .2)) (found .is) ∙ says-out-walk cs Γ v q (j .0) (j .1) (j .2) (found .part) (found .other);
+      walks = λ π Γ v j. ap (λ N. check π Γ v N (j .0) (j .1) (j .2)) (found .is) ∙ says-out-walk π Γ v q (j .0) (j .1) (j .2) (found .part) (found .other);
     }
 
 -- ── The steps ──
@@ -186,17 +186,17 @@ module _ (S : Sources) (rows : List ℕ) (scope : Scope) (ledger : Ledger) (list
 
   -- The first test: is a level left?
   pub check-none : (left at : ℕ) {r : Checked} {list′ : List ℕ} → left ≡ 0 → ChecksAt S rows scope ledger list left goal-bytes goal at r list′
-  check-none left at z cs Γ N e sound around reads told = absurd (no-check-step (S .proof) (length cs) left (scope .count) at N e z reads)
+  check-none left at z π Γ N e sound around reads told = absurd (no-check-step (S .proof) (length (π .statements)) left (scope .count) at N e z reads)
 
   -- Then the step is read by its tag.
   pub check-tagged : (left n at : ℕ) (tag : CheckTag) {r : Checked} {list′ : List ℕ} → left ≡ suc n → check-tag (getD (S .proof) at 0) ≡ tag → ChecksItself tag
       → (at < length (S .proof) → ChecksBy S rows scope ledger list n tag goal-bytes goal at r list′)
       → ChecksAt S rows scope ledger list left goal-bytes goal at r list′
-  check-tagged left n at tag more t own h cs Γ N e sound around reads =
-      let found = check-read (S .proof) (length cs) n (scope .count) at N e (rw more at reads) in
+  check-tagged left n at tag more t own h π Γ N e sound around reads =
+      let found = check-read (S .proof) (length (π .statements)) n (scope .count) at N e (rw more at reads) in
       let reads′ = rw t at (found .1) in
-      let same = same-reader (S .proof) (length cs) (infer-step (S .proof) (length cs) n) (check-step (S .proof) (length cs) n) (scope .count) at (infer-tag (getD (S .proof) at 0)) tag own in
-      h (found .0) cs Γ N e sound (rw more at around) (rw same at reads′)
+      let same = same-reader (S .proof) (length (π .statements)) (infer-step (S .proof) (length (π .statements)) n) (check-step (S .proof) (length (π .statements)) n) (scope .count) at (infer-tag (getD (S .proof) at 0)) tag own in
+      h (found .0) π Γ N e sound (rw more at around) (rw same at reads′)
 
   -- An inferring step where one is checked.
   pub check-inferred : (left n at : ℕ) → left ≡ suc n → check-tag (getD (S .proof) at 0) ≡ InferredTag
@@ -204,11 +204,11 @@ module _ (S : Sources) (rows : List ℕ) (scope : Scope) (ledger : Ledger) (list
       → {r : Checked} → ChecksInferred (S .buffer) goal-bytes at inferred goal r
       → ChecksAt S rows scope ledger list left goal-bytes goal at r list′
   unfolding ToldChecking
-  check-inferred left n at more t {inferred} {list′} infers h cs Γ N e sound around reads told G means =
-      let found = inferred-read (S .proof) (length cs) n (scope .count) at N e (rw more at reads) t in
-      let there = begins-there (S .proof) (length cs) (suc n) (scope .count) at (found .part) e (found .reads) in
-      rw (found .is, inferred-walk cs Γ view at G (from-of goal) (to-of goal) (found .part) there)
-      (h (S .state) (book ledger list) _ e list′ G (infers cs Γ (found .part) e sound around (rw more (found .reads)) (told-is (S .ends) (found .is) told)) means)
+  check-inferred left n at more t {inferred} {list′} infers h π Γ N e sound around reads told G means =
+      let found = inferred-read (S .proof) (length (π .statements)) n (scope .count) at N e (rw more at reads) t in
+      let there = begins-there (S .proof) (length (π .statements)) (suc n) (scope .count) at (found .part) e (found .reads) in
+      rw (found .is, inferred-walk π Γ view at G (from-of goal) (to-of goal) (found .part) there)
+      (h (S .state) (book ledger list) _ e list′ G (infers π Γ (found .part) e sound around (rw more (found .reads)) (told-is (S .ends) (found .is) told)) means)
 
   module _ (left at : ℕ) where
     -- The step here, by its tag.
@@ -217,7 +217,7 @@ module _ (S : Sources) (rows : List ℕ) (scope : Scope) (ledger : Ledger) (list
 
     -- No other tag checks.
     pub check-no-tag : {r : Checked} {list′ : List ℕ} → By NoCheckTag r list′
-    check-no-tag cs Γ N e sound around reads told = absurd (no-check-read (S .proof) (length cs) left (scope .count) at NoInferTag N e reads)
+    check-no-tag π Γ N e sound around reads told = absurd (no-check-read (S .proof) (length (π .statements)) left (scope .count) at NoInferTag N e reads)
 
     -- What a step without parts makes of its goal.
     abbrev Goes : Ledger → List ℕ → (ℕ → Formula → Test) → Type 0
@@ -226,19 +226,19 @@ module _ (S : Sources) (rows : List ℕ) (scope : Scope) (ledger : Ledger) (list
     -- 25, 2C and 2D, which end after their tag.
     module _ (inside : at < length (S .proof)) {next : ℕ} (ends : at < length (S .proof) → next ≡ at + 1) {l : Ledger} {list′ : List ℕ} where
       pub check-trivial : Goes l list′ top-goal → By TopStepTag (record { ledger = l; next = next }) list′
-      check-trivial h cs Γ N e sound around reads told G means =
-          let found = trivial-read (S .proof) (length cs) left (scope .count) at NoInferTag N e reads in
-          rw (found .0, trivial-walk cs Γ view at G (from-of goal) (to-of goal)) (record { gives = h G sound means; ends = λ _. ends inside ∙ found .1 })
+      check-trivial h π Γ N e sound around reads told G means =
+          let found = trivial-read (S .proof) (length (π .statements)) left (scope .count) at NoInferTag N e reads in
+          rw (found .0, trivial-walk π Γ view at G (from-of goal) (to-of goal)) (record { gives = h G sound means; ends = λ _. ends inside ∙ found .1 })
 
       pub check-state : Goes l list′ fact-goal → By StateTag (record { ledger = l; next = next }) list′
-      check-state h cs Γ N e sound around reads told G means =
-          let found = state-read (S .proof) (length cs) left (scope .count) at NoInferTag N e reads in
-          rw (found .0, state-walk cs Γ view at G (from-of goal) (to-of goal)) (record { gives = h G sound means; ends = λ _. ends inside ∙ found .1 })
+      check-state h π Γ N e sound around reads told G means =
+          let found = state-read (S .proof) (length (π .statements)) left (scope .count) at NoInferTag N e reads in
+          rw (found .0, state-walk π Γ view at G (from-of goal) (to-of goal)) (record { gives = h G sound means; ends = λ _. ends inside ∙ found .1 })
 
       pub check-order : Goes l list′ order-goal → By OrderStepTag (record { ledger = l; next = next }) list′
-      check-order h cs Γ N e sound around reads told G means =
-          let found = compare-read (S .proof) (length cs) left (scope .count) at NoInferTag N e reads in
-          rw (found .0, compare-walk cs Γ view at G (from-of goal) (to-of goal)) (record { gives = h G sound means; ends = λ _. ends inside ∙ found .1 })
+      check-order h π Γ N e sound around reads told G means =
+          let found = compare-read (S .proof) (length (π .statements)) left (scope .count) at NoInferTag N e reads in
+          rw (found .0, compare-walk π Γ view at G (from-of goal) (to-of goal)) (record { gives = h G sound means; ends = λ _. ends inside ∙ found .1 })
 
     -- 22: the sides of the goal, and then one after the other.
     module _ {parts : Sides} (splits : TakesSides goal-bytes at AndTag goal ledger parts) where
@@ -249,46 +249,46 @@ module _ (S : Sources) (rows : List ℕ) (scope : Scope) (ledger : Ledger) (list
       sides-come sound G means = comes-taken (S .state) list (and-sides at G) at ledger (parts .ledger) _ (G, G) sound (splits G tt means)
 
       pub check-pair-unfit : (stop-of (parts .ledger) ≡ Going → ⊥) → {next : ℕ} → By PairTag (record { ledger = parts .ledger; next = next }) list
-      check-pair-unfit n {next} cs Γ N e sound around reads told G means =
-          let found = pair-read (S .proof) (length cs) left (scope .count) at NoInferTag N e reads in
-          rw (found .is, pair-walk cs Γ view at G (from-of goal) (to-of goal) (found .one) (found .other))
+      check-pair-unfit n {next} π Γ N e sound around reads told G means =
+          let found = pair-read (S .proof) (length (π .statements)) left (scope .count) at NoInferTag N e reads in
+          rw (found .is, pair-walk π Γ view at G (from-of goal) (to-of goal) (found .one) (found .other))
           (passes-halted (S .state) (book ledger list) (and-sides at G) (parts .ledger) list (sides-come sound G means) _ e n next)
 
       module _ (going : stop-of (parts .ledger) ≡ Going) {begin : ℕ} (begins : at < length (S .proof) → begin ≡ at + 1) {one : Checked} {list₁ : List ℕ}
           (checks : ChecksAt S rows scope (parts .ledger) list left goal-bytes (part-of goal (parts .first)) begin one list₁) where
-        one-comes : (cs : List Statement) (Γ : List Assumption) (N : Check) (e : ℕ) → Sound (book (parts .ledger) list) → Around S rows scope (suc left) cs Γ
-            → check-step (S .proof) (length cs) left (scope .count) (at + 1) ≡ some (N, e) → ToldChecking (S .ends) N
+        one-comes : (π : Policy) (Γ : List Assumption) (N : Check) (e : ℕ) → Sound (book (parts .ledger) list) → Around S rows scope (suc left) π Γ
+            → check-step (S .proof) (length (π .statements)) left (scope .count) (at + 1) ≡ some (N, e) → ToldChecking (S .ends) N
             → (A : Formula) → On goal-bytes (part-of goal (parts .first)) A (from-of goal) (to-of goal)
-            → Comes (S .state) (book (parts .ledger) list) (check cs Γ view N A (from-of goal) (to-of goal)) (book (one .ledger) list₁) (λ _. one .next ≡ e)
-        one-comes cs Γ N e sound around reads told A on =
-            let inside = check-begins (S .proof) (length cs) left (scope .count) (at + 1) N e reads in
+            → Comes (S .state) (book (parts .ledger) list) (check π Γ view N A (from-of goal) (to-of goal)) (book (one .ledger) list₁) (λ _. one .next ≡ e)
+        one-comes π Γ N e sound around reads told A on =
+            let inside = check-begins (S .proof) (length (π .statements)) left (scope .count) (at + 1) N e reads in
             comes-checked (S .state) (book (parts .ledger) list) _ e one list₁
-            (passes-on (S .state) goal-bytes (part-of goal (parts .first)) A (from-of goal) (to-of goal) on (check cs Γ view N A) (book (parts .ledger) list) e one list₁
-            (checks cs Γ N e sound (around-part S rows scope left cs Γ around) (rw (begins (omega arith)) reads) told A (on .means)))
+            (passes-on (S .state) goal-bytes (part-of goal (parts .first)) A (from-of goal) (to-of goal) on (check π Γ view N A) (book (parts .ledger) list) e one list₁
+            (checks π Γ N e sound (around-part S rows scope left π Γ around) (rw (begins (omega arith)) reads) told A (on .means)))
 
         pub check-pair-stopped : (stop-of (one .ledger) ≡ Going → ⊥) → By PairTag one list₁
         unfolding ToldChecking
-        check-pair-stopped n cs Γ N e sound around reads told G means =
-            let found = pair-read (S .proof) (length cs) left (scope .count) at NoInferTag N e reads in
+        check-pair-stopped n π Γ N e sound around reads told G means =
+            let found = pair-read (S .proof) (length (π .statements)) left (scope .count) at NoInferTag N e reads in
             let both = told-is (S .ends) (found .is) told in
-            rw (found .is, pair-walk cs Γ view at G (from-of goal) (to-of goal) (found .one) (found .other))
+            rw (found .is, pair-walk π Γ view at G (from-of goal) (to-of goal) (found .one) (found .other))
             (passes-then (S .state) (book ledger list) (and-sides at G) (parts .ledger) list (sides-come sound G means) _ e going one list₁
             (λ sound x on. passes-halted (S .state) (book (parts .ledger) list) _ (one .ledger) list₁
-            (one-comes cs Γ (found .one) (found .middle) sound around (found .one-reads) (both .0) (x .0) (on .0)) _ e n (one .next)))
+            (one-comes π Γ (found .one) (found .middle) sound around (found .one-reads) (both .0) (x .0) (on .0)) _ e n (one .next)))
 
         pub check-pair : stop-of (one .ledger) ≡ Going → {other : Checked} {list₂ : List ℕ}
             → ChecksAt S rows scope (one .ledger) list₁ left goal-bytes (part-of goal (parts .second)) (one .next) other list₂
             → By PairTag other list₂
         unfolding ToldChecking
-        check-pair goes {other} {list₂} checks-other cs Γ N e sound around reads told G means =
-            let found = pair-read (S .proof) (length cs) left (scope .count) at NoInferTag N e reads in
+        check-pair goes {other} {list₂} checks-other π Γ N e sound around reads told G means =
+            let found = pair-read (S .proof) (length (π .statements)) left (scope .count) at NoInferTag N e reads in
             let both = told-is (S .ends) (found .is) told in
-            rw (found .is, pair-walk cs Γ view at G (from-of goal) (to-of goal) (found .one) (found .other))
+            rw (found .is, pair-walk π Γ view at G (from-of goal) (to-of goal) (found .one) (found .other))
             (passes-then (S .state) (book ledger list) (and-sides at G) (parts .ledger) list (sides-come sound G means) _ e going other list₂
             (λ sound x on. passes-then (S .state) (book (parts .ledger) list) _ (one .ledger) list₁
-            (one-comes cs Γ (found .one) (found .middle) sound around (found .one-reads) (both .0) (x .0) (on .0)) _ e goes other list₂
-            (λ sound y ends. passes-on (S .state) goal-bytes (part-of goal (parts .second)) (x .1) (from-of goal) (to-of goal) (on .1) (check cs Γ view (found .other) (x .1)) (book (one .ledger) list₁) e other list₂
-            (checks-other cs Γ (found .other) e sound (around-part S rows scope left cs Γ around) (rw ends (found .other-reads)) (both .1) (x .1) (on .1 .means)))))
+            (one-comes π Γ (found .one) (found .middle) sound around (found .one-reads) (both .0) (x .0) (on .0)) _ e goes other list₂
+            (λ sound y ends. passes-on (S .state) goal-bytes (part-of goal (parts .second)) (x .1) (from-of goal) (to-of goal) (on .1) (check π Γ view (found .other) (x .1)) (book (one .ledger) list₁) e other list₂
+            (checks-other π Γ (found .other) e sound (around-part S rows scope left π Γ around) (rw ends (found .other-reads)) (both .1) (x .1) (on .1 .means)))))
 
     module _ (shell : Shell) where
       -- 28 and 2A: what stands inside of the goal is checked in the scope inside.
@@ -298,59 +298,59 @@ module _ (S : Sources) (rows : List ℕ) (scope : Scope) (ledger : Ledger) (list
         held-comes sound G means = comes-taken (S .state) list _ at ledger (held .ledger) _ shut sound (has G means)
 
         pub check-put-unfit : (stop-of (held .ledger) ≡ Going → ⊥) → {next : ℕ} → (tag : CheckTag) → Puts tag shell → By tag (record { ledger = held .ledger; next = next }) list
-        check-put-unfit n {next} tag is cs Γ N e sound around reads told G means =
-            let found = put-read (S .proof) (S .ends) (length cs) left (scope .count) at tag shell N e is reads told in
-            rw (found .walks cs Γ view (G, from-of goal, to-of goal))
+        check-put-unfit n {next} tag is π Γ N e sound around reads told G means =
+            let found = put-read (S .proof) (S .ends) (length (π .statements)) left (scope .count) at tag shell N e is reads told in
+            rw (found .walks π Γ view (G, from-of goal, to-of goal))
             (passes-halted (S .state) (book ledger list) _ (held .ledger) list (held-comes sound G means) _ e n next)
 
         -- The part, for what it is that stands inside.
-        part-passes : (cs : List Statement) (Γ : List Assumption) (N : Check) (e : ℕ) → Sound (book (held .ledger) list) → Around S rows scope (suc left) cs Γ
-            → (begin : ℕ) → check-step (S .proof) (length cs) left (scope .count) begin ≡ some (N, e) → ToldChecking (S .ends) N
+        part-passes : (π : Policy) (Γ : List Assumption) (N : Check) (e : ℕ) → Sound (book (held .ledger) list) → Around S rows scope (suc left) π Γ
+            → (begin : ℕ) → check-step (S .proof) (length (π .statements)) left (scope .count) begin ≡ some (N, e) → ToldChecking (S .ends) N
             → {r : Checked} {list′ : List ℕ}
             → ChecksAt S rows (scope-inside scope (held .row)) (held .ledger) list left goal-bytes (held .row .judgement) begin r list′
             → (x : Assumption) → RowIs goal-bytes (held .row) 0 0 x
-            → Passes (S .state) (book (held .ledger) list) (check-inside cs Γ view N x) e r list′
+            → Passes (S .state) (book (held .ledger) list) (check-inside π Γ view N x) e r list′
         unfolding check-inside view-by
-        part-passes cs Γ N e sound around begin reads told {r} {list′} checks x (is-plain {A} {a} {b} plain-row usable on) =
-            passes-on (S .state) goal-bytes (held .row .judgement) A a b on (check cs Γ view N A) (book (held .ledger) list) e r list′
-            ((rw plain-row at checks) cs Γ N e sound (around-part S rows scope left cs Γ around) reads told A (on .means))
-        part-passes cs Γ N e sound around begin reads told {r} {list′} checks x (is-claim {k} {A} {a} {b} claimed on) =
-            passes-on (S .state) goal-bytes (held .row .judgement) A a b on (λ a b. check cs (map shut-out Γ) (view-of k a b) N A a b) (book (held .ledger) list) e r list′
-            ((rw claimed at checks) cs (map shut-out Γ) N e sound (around-said S rows scope left cs Γ around (view-on k (held .row .judgement))) reads told A (on .means))
-        part-passes cs Γ N e sound around begin reads told checks x (is-shut plain-row lower) = absurd (omega arith)
+        part-passes π Γ N e sound around begin reads told {r} {list′} checks x (is-plain {A} {a} {b} plain-row usable on) =
+            passes-on (S .state) goal-bytes (held .row .judgement) A a b on (check π Γ view N A) (book (held .ledger) list) e r list′
+            ((rw plain-row at checks) π Γ N e sound (around-part S rows scope left π Γ around) reads told A (on .means))
+        part-passes π Γ N e sound around begin reads told {r} {list′} checks x (is-claim {k} {A} {a} {b} claimed on) =
+            passes-on (S .state) goal-bytes (held .row .judgement) A a b on (λ a b. check π (map shut-out Γ) (view-of k a b) N A a b) (book (held .ledger) list) e r list′
+            ((rw claimed at checks) π (map shut-out Γ) N e sound (around-said S rows scope left π Γ around (view-on k (held .row .judgement))) reads told A (on .means))
+        part-passes π Γ N e sound around begin reads told checks x (is-shut plain-row lower) = absurd (omega arith)
 
         pub check-put : stop-of (held .ledger) ≡ Going → {begin : ℕ} → (at < length (S .proof) → begin ≡ at + 1) → {r : Checked} {list′ : List ℕ}
             → ChecksAt S rows (scope-inside scope (held .row)) (held .ledger) list left goal-bytes (held .row .judgement) begin r list′
             → (tag : CheckTag) → Puts tag shell → By tag r list′
-        check-put going begins {r} {list′} checks tag is cs Γ N e sound around reads told G means =
-            let found = put-read (S .proof) (S .ends) (length cs) left (scope .count) at tag shell N e is reads told in
-            let inside = check-begins (S .proof) (length cs) left (scope .count) (at + 1) (found .part) e (found .reads) in
-            rw (found .walks cs Γ view (G, from-of goal, to-of goal))
+        check-put going begins {r} {list′} checks tag is π Γ N e sound around reads told G means =
+            let found = put-read (S .proof) (S .ends) (length (π .statements)) left (scope .count) at tag shell N e is reads told in
+            let inside = check-begins (S .proof) (length (π .statements)) left (scope .count) (at + 1) (found .part) e (found .reads) in
+            rw (found .walks π Γ view (G, from-of goal, to-of goal))
             (passes-then (S .state) (book ledger list) _ (held .ledger) list (held-comes sound G means) _ e going r list′
-            (λ sound x row. part-passes cs Γ (found .part) e sound around _ (rw (begins (omega arith)) (found .reads)) (found .told) checks x row))
+            (λ sound x row. part-passes π Γ (found .part) e sound around _ (rw (begins (omega arith)) (found .reads)) (found .told) checks x row))
 
       -- 29 and 2B: the step that infers, what stands inside of what it infers, and then the second step with that assumed.
       module _ {begin : ℕ} (begins : at < length (S .proof) → begin ≡ at + 1) {inferred : Inferred} {list₁ : List ℕ}
           (infers : InfersAt S rows scope ledger list left begin inferred list₁)
           {held : Inside} (has : TakesInsideInferred (S .buffer) at shell inferred held) (stays : StaysStopped inferred (held .ledger)) where
-        taken-comes : (cs : List Statement) (Γ : List Assumption) (N : Check) (e : ℕ) → Sound (book ledger list) → Around S rows scope (suc left) cs Γ
-            → (found : TakeRead (S .proof) (S .ends) (length cs) left (scope .count) at shell N e)
-            → Comes (S .state) (book ledger list) (and-then (infer cs Γ view (found .part)) (inside shell at)) (book (held .ledger) list₁)
+        taken-comes : (π : Policy) (Γ : List Assumption) (N : Check) (e : ℕ) → Sound (book ledger list) → Around S rows scope (suc left) π Γ
+            → (found : TakeRead (S .proof) (S .ends) (length (π .statements)) left (scope .count) at shell N e)
+            → Comes (S .state) (book ledger list) (and-then (infer π Γ view (found .part)) (inside shell at)) (book (held .ledger) list₁)
             (λ x. RowIs (S .buffer) (held .row) 0 0 x × (inferred .next ≡ found .middle))
-        taken-comes cs Γ N e sound around found =
+        taken-comes π Γ N e sound around found =
             let part =
             comes-inferred (S .state) (S .buffer) (book ledger list) _ (found .middle) inferred list₁
-            (first-part S rows scope ledger list left at begins infers cs Γ (found .part) (found .middle) sound around (found .part-reads) (found .part-told)) in
+            (first-part S rows scope ledger list left at begins infers π Γ (found .part) (found .middle) sound around (found .part-reads) (found .part-told)) in
             comes-or-stays (S .state) (book ledger list) (book (inferred .ledger) list₁) _ _ part (book (held .ledger) list₁) shut
             (λ going j so. comes-taken (S .state) list₁ (inside shell at j) at (inferred .ledger) (held .ledger) _ shut (part .gives .sound)
             (takes-so (λ x row. (row, so .1)) (rw (so .0 .from, so .0 .to) at (has going (j .0) (so .0 .means)))))
             (λ n. ap (λ l. book l list₁) (stays n))
 
         pub check-take-stopped : (stop-of (held .ledger) ≡ Going → ⊥) → {next : ℕ} → (tag : CheckTag) → TakesOut tag shell → By tag (record { ledger = held .ledger; next = next }) list₁
-        check-take-stopped n {next} tag is cs Γ N e sound around reads told G means =
-            let found = take-read (S .proof) (S .ends) (length cs) left (scope .count) at tag shell N e is reads told in
-            rw (found .walks cs Γ view (G, from-of goal, to-of goal))
-            (passes-halted (S .state) (book ledger list) _ (held .ledger) list₁ (taken-comes cs Γ N e sound around found) _ e n next)
+        check-take-stopped n {next} tag is π Γ N e sound around reads told G means =
+            let found = take-read (S .proof) (S .ends) (length (π .statements)) left (scope .count) at tag shell N e is reads told in
+            rw (found .walks π Γ view (G, from-of goal, to-of goal))
+            (passes-halted (S .state) (book ledger list) _ (held .ledger) list₁ (taken-comes π Γ N e sound around found) _ e n next)
 
         -- The row is the assumption more.
         pub check-take : stop-of (held .ledger) ≡ Going → {between more : List ℕ} → Keeps (scope .count) rows between
@@ -358,9 +358,9 @@ module _ (S : Sources) (rows : List ℕ) (scope : Scope) (ledger : Ledger) (list
             → {r : Checked} {list₂ : List ℕ}
             → ChecksAt S more (scope-with scope) (held .ledger) list₁ left goal-bytes goal (inferred .next) r list₂
             → (tag : CheckTag) → TakesOut tag shell → By tag r list₂
-        check-take going {between} {more} kept put all {r} {list₂} checks tag is cs Γ N e sound around reads told G means =
-            let found = take-read (S .proof) (S .ends) (length cs) left (scope .count) at tag shell N e is reads told in
-            rw (found .walks cs Γ view (G, from-of goal, to-of goal))
-            (passes-then (S .state) (book ledger list) _ (held .ledger) list₁ (taken-comes cs Γ N e sound around found) _ e going r list₂
+        check-take going {between} {more} kept put all {r} {list₂} checks tag is π Γ N e sound around reads told G means =
+            let found = take-read (S .proof) (S .ends) (length (π .statements)) left (scope .count) at tag shell N e is reads told in
+            rw (found .walks π Γ view (G, from-of goal, to-of goal))
+            (passes-then (S .state) (book ledger list) _ (held .ledger) list₁ (taken-comes π Γ N e sound around found) _ e going r list₂
             (λ sound x so. part-assuming S rows scope left goal-bytes goal (held .row) kept put all (held .ledger) list₁ (inferred .next) checks
-            cs Γ (found .other) e sound around (rw (so .1) (found .other-reads)) (found .other-told) x (so .0) G means))
+            π Γ (found .other) e sound around (rw (so .1) (found .other-reads)) (found .other-told) x (so .0) G means))

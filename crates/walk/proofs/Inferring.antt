@@ -11,7 +11,7 @@ use Rattle.bl.specs.declared.InferTag.{InferTag}
 use Rattle.bl.specs.declared.InferTag.the-variants.{LocalTag, CertificateTag, FirstTag, SecondTag, ApplyTag, InstanceTag, NoInferTag}
 use Rattle.bl.specs.Trees.{top, Infer}
 use Rattle.bl.specs.Tags.{infer-tag}
-use Rattle.bl.specs.Certificates.{Statement}
+use Rattle.bl.specs.Policy.{Policy}
 use Rattle.bl.specs.Rules.{Assumption, View}
 use Rattle.bl.specs.Steps.{infer-step}
 use Rattle.bl.specs.Walk as walk
@@ -63,14 +63,14 @@ module _ (S : Sources) (rows : List ℕ) (scope : Scope) (ledger : Ledger) (list
 
   -- The first test: is a level left?
   pub infer-none : (left at : ℕ) {r : Inferred} {list′ : List ℕ} → left ≡ 0 → InfersAt S rows scope ledger list left at r list′
-  infer-none left at z cs Γ M e sound around reads told = absurd (no-infer-step (S .proof) (length cs) left (scope .count) at M e z reads)
+  infer-none left at z π Γ M e sound around reads told = absurd (no-infer-step (S .proof) (length (π .statements)) left (scope .count) at M e z reads)
 
   -- Then the step is read by its tag.
   pub infer-tagged : (left n at : ℕ) (tag : InferTag) {r : Inferred} {list′ : List ℕ} → left ≡ suc n → infer-tag (getD (S .proof) at 0) ≡ tag
       → InfersBy S rows scope ledger list n tag at r list′ → InfersAt S rows scope ledger list left at r list′
-  infer-tagged left n at tag more t h cs Γ M e sound around reads =
-      let found = infer-read (S .proof) (length cs) n (scope .count) at M e (rw more at reads) in
-      h cs Γ M e sound (rw more at around) (rw t at (found .1))
+  infer-tagged left n at tag more t h π Γ M e sound around reads =
+      let found = infer-read (S .proof) (length (π .statements)) n (scope .count) at M e (rw more at reads) in
+      h π Γ M e sound (rw more at around) (rw t at (found .1))
 
   module _ (left at : ℕ) where
     -- The step here, by its tag.
@@ -78,22 +78,22 @@ module _ (S : Sources) (rows : List ℕ) (scope : Scope) (ledger : Ledger) (list
     By tag r list′ = InfersBy S rows scope ledger list left tag at r list′
 
     -- 20 and 21.
-    pub infer-local : {r : Inferred} → UsesLocal (S .proof) rows scope at ledger r → By LocalTag r list
-    infer-local h cs Γ M e sound around reads told =
-        let found = local-read (S .proof) (length cs) left (scope .count) at M e reads in
+    pub infer-local : {r : Inferred} → UsesLocal (S .proof) rows (S .strengths) scope at ledger r → By LocalTag r list
+    infer-local h π Γ M e sound around reads told =
+        let found = local-read (S .proof) (length (π .statements)) left (scope .count) at M e reads in
         let room = around .room in
-        rw (found .is, local-walk cs Γ view at (found .index))
-        (h (S .state) (S .buffer) list Γ (found .index) e sound (around .assumed) (omega arith) (found .reads) (found .around))
+        rw (found .is, local-walk π Γ view at (found .index))
+        (h (S .state) (S .buffer) list (π .pairs) Γ (found .index) e sound (around .policy .strong) (around .assumed) (omega arith) (found .reads) (found .around))
 
-    pub infer-certificate : {r : Inferred} → UsesCertificate (S .proof) (S .certificates) scope at ledger r → By CertificateTag r list
-    infer-certificate h cs Γ M e sound around reads told =
-        let found = certificate-read (S .proof) (length cs) left (scope .count) at M e reads in
-        rw (found .is, certificate-walk cs Γ view at (found .index))
-        (h (S .state) (S .buffer) list cs (found .index) e sound (around .certified) (found .reads) (found .listed))
+    pub infer-certificate : {r : Inferred} → UsesCertificate (S .proof) (S .certificates) (S .strengths) scope at ledger r → By CertificateTag r list
+    infer-certificate h π Γ M e sound around reads told =
+        let found = certificate-read (S .proof) (length (π .statements)) left (scope .count) at M e reads in
+        rw (found .is, certificate-walk π Γ view at (found .index))
+        (h (S .state) (S .buffer) list (π .pairs) (π .statements) (found .index) e sound (around .policy .strong) (around .policy .certified) (found .reads) (found .listed))
 
     -- No other tag infers.
     pub infer-no-tag : {r : Inferred} {list′ : List ℕ} → By NoInferTag r list′
-    infer-no-tag cs Γ M e sound around reads told = absurd (no-infer-read (S .proof) (length cs) left (scope .count) at M e reads)
+    infer-no-tag π Γ M e sound around reads told = absurd (no-infer-read (S .proof) (length (π .statements)) left (scope .count) at M e reads)
 
     -- The other steps have a part that infers after their tag.
     module _ {begin : ℕ} (begins : at < length (S .proof) → begin ≡ at + 1) where
@@ -102,72 +102,72 @@ module _ (S : Sources) (rows : List ℕ) (scope : Scope) (ledger : Ledger) (list
           → {inferred : Inferred} {list₁ : List ℕ} → InfersAt S rows scope ledger list left middle inferred list₁
           → {r : Inferred} → Continues (S .buffer) inferred (put-in at put) r → By InstanceTag r list₁
       unfolding Told
-      infer-instance terms {inferred} {list₁} infers h cs Γ M e sound around reads told =
-          let found = instance-read (S .proof) (length cs) left (scope .count) at M e reads in
+      infer-instance terms {inferred} {list₁} infers h π Γ M e sound around reads told =
+          let found = instance-read (S .proof) (length (π .statements)) left (scope .count) at M e reads in
           let inside = term-inside (S .proof) (at + 1) (found .put) (found .middle) (found .put-reads) in
           let read = terms (found .put) (found .middle) (rw (begins (omega arith)) (found .put-reads)) in
-          rw (found .is, instance-walk cs Γ view at (found .put) (found .part), ← (read .0))
+          rw (found .is, instance-walk π Γ view at (found .put) (found .part), ← (read .0))
           (h (S .state) (book ledger list) _ e list₁
-          (infers cs Γ (found .part) e sound (around-part S rows scope left cs Γ around) (rw (read .1) (found .part-reads)) (told-is (S .ends) (found .is) told)))
+          (infers π Γ (found .part) e sound (around-part S rows scope left π Γ around) (rw (read .1) (found .part-reads)) (told-is (S .ends) (found .is) told)))
 
       module _ {inferred : Inferred} {list₁ : List ℕ} (infers : InfersAt S rows scope ledger list left begin inferred list₁) where
-        pub first-part : (cs : List Statement) (Γ : List Assumption) (M : Infer) (e : ℕ) → Sound (book ledger list) → Around S rows scope (suc left) cs Γ
-            → infer-step (S .proof) (length cs) left (scope .count) (at + 1) ≡ some (M, e) → Told (S .ends) M
-            → Yields (S .state) (S .buffer) (book ledger list) (infer cs Γ view M) e inferred list₁
-        first-part cs Γ M e sound around reads told =
-            let inside = infer-inside (S .proof) (length cs) left (scope .count) (at + 1) M e reads in
-            infers cs Γ M e sound (around-part S rows scope left cs Γ around) (rw (begins (omega arith)) reads) told
+        pub first-part : (π : Policy) (Γ : List Assumption) (M : Infer) (e : ℕ) → Sound (book ledger list) → Around S rows scope (suc left) π Γ
+            → infer-step (S .proof) (length (π .statements)) left (scope .count) (at + 1) ≡ some (M, e) → Told (S .ends) M
+            → Yields (S .state) (S .buffer) (book ledger list) (infer π Γ view M) e inferred list₁
+        first-part π Γ M e sound around reads told =
+            let inside = infer-inside (S .proof) (length (π .statements)) left (scope .count) (at + 1) M e reads in
+            infers π Γ M e sound (around-part S rows scope left π Γ around) (rw (begins (omega arith)) reads) told
 
         -- 23 and 24.
         pub infer-first : {r : Inferred} → Continues (S .buffer) inferred (first-side at) r → By FirstTag r list₁
         unfolding Told
-        infer-first h cs Γ M e sound around reads told =
-            let found = first-read (S .proof) (length cs) left (scope .count) at M e reads in
-            rw (found .is, first-walk cs Γ view at (found .part))
-            (h (S .state) (book ledger list) _ e list₁ (first-part cs Γ (found .part) e sound around (found .reads) (told-is (S .ends) (found .is) told)))
+        infer-first h π Γ M e sound around reads told =
+            let found = first-read (S .proof) (length (π .statements)) left (scope .count) at M e reads in
+            rw (found .is, first-walk π Γ view at (found .part))
+            (h (S .state) (book ledger list) _ e list₁ (first-part π Γ (found .part) e sound around (found .reads) (told-is (S .ends) (found .is) told)))
 
         pub infer-second : {r : Inferred} → Continues (S .buffer) inferred (second-side at) r → By SecondTag r list₁
         unfolding Told
-        infer-second h cs Γ M e sound around reads told =
-            let found = second-read (S .proof) (length cs) left (scope .count) at M e reads in
-            rw (found .is, second-walk cs Γ view at (found .part))
-            (h (S .state) (book ledger list) _ e list₁ (first-part cs Γ (found .part) e sound around (found .reads) (told-is (S .ends) (found .is) told)))
+        infer-second h π Γ M e sound around reads told =
+            let found = second-read (S .proof) (length (π .statements)) left (scope .count) at M e reads in
+            rw (found .is, second-walk π Γ view at (found .part))
+            (h (S .state) (book ledger list) _ e list₁ (first-part π Γ (found .part) e sound around (found .reads) (told-is (S .ends) (found .is) told)))
 
         -- 26: its first step, and then the implication that it infers is put to use, where the walk goes on.
         module _ {application : Application} {second-end : ℕ} (looked-up : second-end ≡ getD (S .ends) (slot (inferred .next)) 0)
             (puts : PutsToUse (S .buffer) (S .proof) at inferred second-end application) (stays : StaysStopped inferred (application .ledger)) where
           -- The table has where the second step ends.
-          ends-after : (cs : List Statement) (M : Infer) (e : ℕ) (found : ApplyRead (S .proof) (length cs) left (scope .count) at M e) → Told (S .ends) M
+          ends-after : (π : Policy) (M : Infer) (e : ℕ) (found : ApplyRead (S .proof) (length (π .statements)) left (scope .count) at M e) → Told (S .ends) M
               → inferred .next ≡ found .middle → second-end ≡ found .after
           unfolding Told
-          ends-after cs M e found told there =
+          ends-after π M e found told there =
               looked-up ∙ rw there
-              (end-told (S .ends) (S .proof) (length cs) left (scope .count) (found .middle) (found .other) (found .after) (found .other-reads) ((told-is (S .ends) (found .is) told) .2))
+              (end-told (S .ends) (S .proof) (length (π .statements)) left (scope .count) (found .middle) (found .other) (found .after) (found .other-reads) ((told-is (S .ends) (found .is) told) .2))
 
-          applied-comes : (cs : List Statement) (Γ : List Assumption) (M : Infer) (e : ℕ) → Sound (book ledger list) → Around S rows scope (suc left) cs Γ
-              → (found : ApplyRead (S .proof) (length cs) left (scope .count) at M e) → Told (S .ends) M
-              → Comes (S .state) (book ledger list) (and-then (infer cs Γ view (found .part)) (use-implication at (found .from) (found .to))) (book (application .ledger) list₁)
+          applied-comes : (π : Policy) (Γ : List Assumption) (M : Infer) (e : ℕ) → Sound (book ledger list) → Around S rows scope (suc left) π Γ
+              → (found : ApplyRead (S .proof) (length (π .statements)) left (scope .count) at M e) → Told (S .ends) M
+              → Comes (S .state) (book ledger list) (and-then (infer π Γ view (found .part)) (use-implication at (found .from) (found .to))) (book (application .ledger) list₁)
               (λ x. On (S .buffer) (application .premise) (x .0) (found .from) (found .to) × On (S .buffer) (part-of (application .premise) (application .conclusion)) (x .1) (found .from) (found .to)
               × (application .middle ≡ found .middle) × (application .next ≡ e))
           unfolding Told
-          applied-comes cs Γ M e sound around found told =
+          applied-comes π Γ M e sound around found told =
               let part =
               comes-inferred (S .state) (S .buffer) (book ledger list) _ (found .middle) inferred list₁
-              (first-part cs Γ (found .part) (found .middle) sound around (found .part-reads) ((told-is (S .ends) (found .is) told) .0)) in
+              (first-part π Γ (found .part) (found .middle) sound around (found .part-reads) ((told-is (S .ends) (found .is) told) .0)) in
               comes-or-stays (S .state) (book ledger list) (book (inferred .ledger) list₁) _ _ part (book (application .ledger) list₁) (top, top)
               (λ going j so. comes-used (S .state) (S .buffer) at list₁ (inferred .ledger) (j .0) (j .1) (j .2) (found .from) (found .to) (found .middle) e application (part .gives .sound)
-              (rw (so .1) at puts (S .state) list₁ (j .0) (j .1) (j .2) (found .from) (found .to) (length cs) (found .between) e going (part .gives .sound) (so .0)
-              (rw (ends-after cs M e found told (so .1)) (found .from-reads)) (found .to-reads)))
+              (rw (so .1) at puts (S .state) list₁ (j .0) (j .1) (j .2) (found .from) (found .to) (length (π .statements)) (found .between) e going (part .gives .sound) (so .0)
+              (rw (ends-after π M e found told (so .1)) (found .from-reads)) (found .to-reads)))
               (λ n. ap (λ l. book l list₁) (stays n))
 
           -- Where the walk has stopped.
           pub infer-apply-stopped : {r : Inferred} → r .ledger ≡ application .ledger → (stop-of (application .ledger) ≡ Going → ⊥) → By ApplyTag r list₁
-          infer-apply-stopped {r} same n cs Γ M e sound around reads told =
-              let found = apply-read (S .proof) (length cs) left (scope .count) at M e reads in
-              rw (found .is, apply-walk cs Γ view at (found .part) (found .other) (found .from) (found .to))
+          infer-apply-stopped {r} same n π Γ M e sound around reads told =
+              let found = apply-read (S .proof) (length (π .statements)) left (scope .count) at M e reads in
+              rw (found .is, apply-walk π Γ view at (found .part) (found .other) (found .from) (found .to))
               (comes-yields (S .state) (S .buffer) (book ledger list) _ e r list₁
               (rw same
-              (comes-halted (S .state) (book ledger list) (book (application .ledger) list₁) _ _ (applied-comes cs Γ M e sound around found told) (top, found .from, found .to) n)))
+              (comes-halted (S .state) (book ledger list) (book (application .ledger) list₁) _ _ (applied-comes π Γ M e sound around found told) (top, found .from, found .to) n)))
 
           -- And with its second step checked.
           pub infer-apply : stop-of (application .ledger) ≡ Going → {conclusion : Judgement} → conclusion ≡ part-of (application .premise) (application .conclusion)
@@ -175,17 +175,17 @@ module _ (S : Sources) (rows : List ℕ) (scope : Scope) (ledger : Ledger) (list
               → ChecksAt S rows scope (application .ledger) list₁ left (S .buffer) (application .premise) (application .middle) checked list₂
               → By ApplyTag (record { ledger = checked .ledger; judgement = conclusion; next = application .next }) list₂
           unfolding Told
-          infer-apply going {conclusion} concludes {checked} {list₂} checks cs Γ M e sound around reads told =
-              let found = apply-read (S .proof) (length cs) left (scope .count) at M e reads in
-              let applied = applied-comes cs Γ M e sound around found told in
-              let part = around-part S rows scope left cs Γ around in
+          infer-apply going {conclusion} concludes {checked} {list₂} checks π Γ M e sound around reads told =
+              let found = apply-read (S .proof) (length (π .statements)) left (scope .count) at M e reads in
+              let applied = applied-comes π Γ M e sound around found told in
+              let part = around-part S rows scope left π Γ around in
               let used = book (application .ledger) list₁ in
               let r = book (checked .ledger) list₂ in
-              rw (found .is, apply-walk cs Γ view at (found .part) (found .other) (found .from) (found .to))
+              rw (found .is, apply-walk π Γ view at (found .part) (found .other) (found .from) (found .to))
               (comes-yields (S .state) (S .buffer) (book ledger list) _ e (record { ledger = checked .ledger; judgement = conclusion; next = application .next }) list₂
               (comes-then (S .state) (book ledger list) used _ _ applied r going
               (λ x on. comes-with (S .state) used r _
               (comes-checked (S .state) used _ (found .after) checked list₂
-              (passes-on (S .state) (S .buffer) (application .premise) (x .0) (found .from) (found .to) (on .0) (check cs Γ view (found .other) (x .0)) used (found .after) checked list₂
-              (checks cs Γ (found .other) (found .after) (applied .gives .sound) part (rw (on .2) (found .other-reads)) ((told-is (S .ends) (found .is) told) .1) (x .0) (on .0 .means))))
+              (passes-on (S .state) (S .buffer) (application .premise) (x .0) (found .from) (found .to) (on .0) (check π Γ view (found .other) (x .0)) used (found .after) checked list₂
+              (checks π Γ (found .other) (found .after) (applied .gives .sound) part (rw (on .2) (found .other-reads)) ((told-is (S .ends) (found .is) told) .1) (x .0) (on .0 .means))))
               (x .1, found .from, found .to) (rw concludes (on .1), on .3))))

@@ -10,7 +10,7 @@ use borrow.Author.Tests.{lt-ltb}
 use lib.Dec.{ltb}
 use Rattle.procap.specs.Tells.{pick}
 use lib.ListN.{length}
-use Rattle.bl.specs.Certificates.{Statement}
+use Rattle.bl.specs.Policy.{Policy}
 use Rattle.bl.specs.Rules.{Assumption, shut, shut-out}
 use Rattle.ledger.specs.declared.Ledger.{Ledger}
 use Rattle.formula.specs.declared.parts.Judgement.{Judgement}
@@ -106,19 +106,19 @@ row-usable buffer row index below x h (is-plain plain-row usable on) = is-plain 
 row-usable buffer row index below x h (is-claim claimed on) = is-claim claimed on
 row-usable buffer row index below x h (is-shut plain-row lower) = absurd (omega arith)
 
-module _ (S : Sources) (rows : List ℕ) (scope : Scope) (left : ℕ) (cs : List Statement) (Γ : List Assumption) (around : Around S rows scope (suc left) cs Γ) where
+module _ (S : Sources) (rows : List ℕ) (scope : Scope) (left : ℕ) (π : Policy) (Γ : List Assumption) (around : Around S rows scope (suc left) π Γ) where
   -- A level less.
-  pub around-part : Around S rows scope left cs Γ
+  pub around-part : Around S rows scope left π Γ
   around-part =
       let room = around .room in
-      record { certified = around .certified; assumed = around .assumed; shut-inside = around .shut-inside; room = omega arith; all-there = around .all-there }
+      record { policy = around .policy; assumed = around .assumed; shut-inside = around .shut-inside; room = omega arith; all-there = around .all-there }
 
   -- The part of a says-in.
-  pub around-said : (view : View) → Around S rows (record { count = scope .count; shut = scope .count; view = view }) left cs (map shut-out Γ)
+  pub around-said : (view : View) → Around S rows (record { count = scope .count; shut = scope .count; view = view }) left π (map shut-out Γ)
   around-said view =
       let room = around .room in
       record {
-        certified = around .certified;
+        policy = around .policy;
         assumed = assumed-shut (S .buffer) rows (scope .shut) (scope .count) (scope .count) Γ (omega arith) (around .assumed);
         shut-inside = omega arith;
         room = omega arith;
@@ -127,14 +127,14 @@ module _ (S : Sources) (rows : List ℕ) (scope : Scope) (left : ℕ) (cs : List
 
   -- A part with one assumption more: the row is put past those that are there.
   pub around-more : (more : List ℕ) (row : Row) (x : Assumption) → RowIs (S .buffer) row 0 0 x → more ≡ rows-with rows (scope .count) row → Keeps (scope .count) rows more
-      → Around S more (one-more scope) left cs (x ∷ Γ)
+      → Around S more (one-more scope) left π (x ∷ Γ)
   unfolding Assumed
   around-more more row x usable put keeps =
       let room = around .room in
       let inside = around .shut-inside in
       let is = row-usable (S .buffer) row (scope .count) (scope .shut) x inside usable in
       record {
-        certified = around .certified;
+        policy = around .policy;
         assumed =
             rw (add-one (scope .count)) (
               rw (row-there rows (scope .count) row put (around .all-there) (omega arith) (row-whole (S .buffer) row (scope .count) (scope .shut) x inside is)) is,
@@ -146,11 +146,11 @@ module _ (S : Sources) (rows : List ℕ) (scope : Scope) (left : ℕ) (cs : List
       }
 
 -- What stands around, in rows that are kept.
-pub around-kept : (S : Sources) (before after : List ℕ) (scope : Scope) (left : ℕ) (cs : List Statement) (Γ : List Assumption) → Keeps (scope .count) before after
-    → Around S before scope left cs Γ → Around S after scope left cs Γ
-around-kept S before after scope left cs Γ keeps around =
+pub around-kept : (S : Sources) (before after : List ℕ) (scope : Scope) (left : ℕ) (π : Policy) (Γ : List Assumption) → Keeps (scope .count) before after
+    → Around S before scope left π Γ → Around S after scope left π Γ
+around-kept S before after scope left π Γ keeps around =
     record {
-      certified = around .certified;
+      policy = around .policy;
       assumed = assumed-in (S .buffer) before after (scope .shut) (scope .count) Γ (keeps .rows) (around .assumed);
       shut-inside = around .shut-inside;
       room = around .room;
@@ -162,5 +162,5 @@ pub checks-kept : (S : Sources) (before after : List ℕ) (scope : Scope) (ledge
     (at : ℕ) {r : Checked} {list′ : List ℕ} → Keeps (scope .count) before after
     → ChecksAt S after scope ledger list left goal-bytes goal at r list′
     → ChecksAt S before scope ledger list left goal-bytes goal at r list′
-checks-kept S before after scope ledger list left goal-bytes goal at keeps checks cs Γ N e sound around =
-    checks cs Γ N e sound (around-kept S before after scope left cs Γ keeps around)
+checks-kept S before after scope ledger list left goal-bytes goal at keeps checks π Γ N e sound around =
+    checks π Γ N e sound (around-kept S before after scope left π Γ keeps around)

@@ -18,9 +18,15 @@ use Rattle.walk.specs.declared.Cases.the-variants.{BothSides, NoCase}
 use Rattle.walk.specs.Walking.{Sources, Keeps, InfersAt, ChecksAt, ChecksBy}
 
 -- The slices that are lent all through.
-abbrev pub sources : Lent → Lent → Lent → Lent → Lent → Sources
-sources buffer proof state certificates ends =
-    record { buffer = buffer .entry .now; proof = proof .entry .now; state = state .entry .now; certificates = certificates .entry .now; ends = ends .entry .now }
+abbrev pub sources : Lent → Lent → Lent → Lent → Lent → Lent → Sources
+sources buffer proof state certificates strengths ends = record {
+  buffer = buffer .entry .now;
+  proof = proof .entry .now;
+  state = state .entry .now;
+  certificates = certificates .entry .now;
+  strengths = strengths .entry .now;
+  ends = ends .entry .now;
+}
 
 -- The steps that put a formula into a shell, and those that take one out of it.
 pub data Puts : CheckTag → Shell → Type 0 where

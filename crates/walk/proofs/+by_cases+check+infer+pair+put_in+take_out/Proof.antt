@@ -73,59 +73,59 @@ use Rattle.walk.proofs.Inferring.{infer-none, infer-tagged, infer-local
 use Rattle.walk.proofs.Checking.{ChecksItself, check-none, check-tagged, check-inferred, check-no-tag, check-trivial, check-state, check-order, check-pair-unfit, check-pair-stopped, check-pair, check-put-unfit, check-put, check-take-stopped, check-take}
 use Rattle.walk.proofs.CheckingCases.{both-left, none-left, check-falsity, check-cases-unfit, check-cases-stopped, check-cases}
 
-abbrev μ-by-cases : Measures 8 by-cases-kinds.ps ℕ
-μ-by-cases κs a = left-over (a .1 .1 .1 .1 .1 .1 .1 .1 .1 .1 .0 .left) (length (a .1 .0 .now)) (a .1 .1 .1 .1 .1 .1 .1 .1 .1 .1 .0 .at + 1)
+abbrev μ-by-cases : Measures 9 by-cases-kinds.ps ℕ
+μ-by-cases κs a = left-over (a .1 .1 .1 .1 .1 .1 .1 .1 .1 .1 .1 .0 .left) (length (a .1 .0 .now)) (a .1 .1 .1 .1 .1 .1 .1 .1 .1 .1 .1 .0 .at + 1)
 
-abbrev μ-check : Measures 8 check-kinds.ps ℕ
-μ-check κs a = left-over (a .1 .1 .1 .1 .1 .1 .1 .1 .1 .0 .left) (length (a .1 .0 .now)) (a .1 .1 .1 .1 .1 .1 .1 .1 .1 .0 .at)
+abbrev μ-check : Measures 9 check-kinds.ps ℕ
+μ-check κs a = left-over (a .1 .1 .1 .1 .1 .1 .1 .1 .1 .1 .0 .left) (length (a .1 .0 .now)) (a .1 .1 .1 .1 .1 .1 .1 .1 .1 .1 .0 .at)
 
-abbrev μ-infer : Measures 7 infer-kinds.ps ℕ
-μ-infer κs a = left-over (a .1 .1 .1 .1 .1 .1 .1 .1 .0 .left) (length (a .1 .0 .now)) (a .1 .1 .1 .1 .1 .1 .1 .1 .0 .at + 1)
+abbrev μ-infer : Measures 8 infer-kinds.ps ℕ
+μ-infer κs a = left-over (a .1 .1 .1 .1 .1 .1 .1 .1 .1 .0 .left) (length (a .1 .0 .now)) (a .1 .1 .1 .1 .1 .1 .1 .1 .1 .0 .at + 1)
 
-abbrev μ-pair : Measures 8 pair-kinds.ps ℕ
-μ-pair κs a = left-over (a .1 .1 .1 .1 .1 .1 .1 .1 .1 .0 .left) (length (a .1 .0 .now)) (a .1 .1 .1 .1 .1 .1 .1 .1 .1 .0 .at + 1)
+abbrev μ-pair : Measures 9 pair-kinds.ps ℕ
+μ-pair κs a = left-over (a .1 .1 .1 .1 .1 .1 .1 .1 .1 .1 .0 .left) (length (a .1 .0 .now)) (a .1 .1 .1 .1 .1 .1 .1 .1 .1 .1 .0 .at + 1)
 
-abbrev μ-put-in : Measures 8 put-in-kinds.ps ℕ
-μ-put-in κs a = left-over (a .1 .1 .1 .1 .1 .1 .1 .1 .1 .1 .0 .left) (length (a .1 .0 .now)) (a .1 .1 .1 .1 .1 .1 .1 .1 .1 .1 .0 .at + 1)
+abbrev μ-put-in : Measures 9 put-in-kinds.ps ℕ
+μ-put-in κs a = left-over (a .1 .1 .1 .1 .1 .1 .1 .1 .1 .1 .1 .0 .left) (length (a .1 .0 .now)) (a .1 .1 .1 .1 .1 .1 .1 .1 .1 .1 .1 .0 .at + 1)
 
-abbrev μ-take-out : Measures 8 take-out-kinds.ps ℕ
-μ-take-out κs a = left-over (a .1 .1 .1 .1 .1 .1 .1 .1 .1 .1 .0 .left) (length (a .1 .0 .now)) (a .1 .1 .1 .1 .1 .1 .1 .1 .1 .1 .0 .at + 1)
+abbrev μ-take-out : Measures 9 take-out-kinds.ps ℕ
+μ-take-out κs a = left-over (a .1 .1 .1 .1 .1 .1 .1 .1 .1 .1 .1 .0 .left) (length (a .1 .0 .now)) (a .1 .1 .1 .1 .1 .1 .1 .1 .1 .1 .1 .0 .at + 1)
 
-abbrev by-cases-at : ℕ → In 8 by-cases-kinds.ps
-by-cases-at t = and 8 by-cases-kinds.ps (is 8 by-cases-kinds.ps μ-by-cases t) by-cases.Pre
+abbrev by-cases-at : ℕ → In 9 by-cases-kinds.ps
+by-cases-at t = and 9 by-cases-kinds.ps (is 9 by-cases-kinds.ps μ-by-cases t) by-cases.Pre
 
-abbrev by-cases-below : ℕ → In 8 by-cases-kinds.ps
-by-cases-below t = and 8 by-cases-kinds.ps (falls 8 by-cases-kinds.ps _<_ μ-by-cases t) by-cases.Pre
+abbrev by-cases-below : ℕ → In 9 by-cases-kinds.ps
+by-cases-below t = and 9 by-cases-kinds.ps (falls 9 by-cases-kinds.ps _<_ μ-by-cases t) by-cases.Pre
 
-abbrev check-at : ℕ → In 8 check-kinds.ps
-check-at t = and 8 check-kinds.ps (is 8 check-kinds.ps μ-check t) check.Pre
+abbrev check-at : ℕ → In 9 check-kinds.ps
+check-at t = and 9 check-kinds.ps (is 9 check-kinds.ps μ-check t) check.Pre
 
-abbrev check-below : ℕ → In 8 check-kinds.ps
-check-below t = and 8 check-kinds.ps (falls 8 check-kinds.ps _<_ μ-check t) check.Pre
+abbrev check-below : ℕ → In 9 check-kinds.ps
+check-below t = and 9 check-kinds.ps (falls 9 check-kinds.ps _<_ μ-check t) check.Pre
 
-abbrev infer-at : ℕ → In 7 infer-kinds.ps
-infer-at t = and 7 infer-kinds.ps (is 7 infer-kinds.ps μ-infer t) infer.Pre
+abbrev infer-at : ℕ → In 8 infer-kinds.ps
+infer-at t = and 8 infer-kinds.ps (is 8 infer-kinds.ps μ-infer t) infer.Pre
 
-abbrev infer-below : ℕ → In 7 infer-kinds.ps
-infer-below t = and 7 infer-kinds.ps (falls 7 infer-kinds.ps _<_ μ-infer t) infer.Pre
+abbrev infer-below : ℕ → In 8 infer-kinds.ps
+infer-below t = and 8 infer-kinds.ps (falls 8 infer-kinds.ps _<_ μ-infer t) infer.Pre
 
-abbrev pair-at : ℕ → In 8 pair-kinds.ps
-pair-at t = and 8 pair-kinds.ps (is 8 pair-kinds.ps μ-pair t) pair.Pre
+abbrev pair-at : ℕ → In 9 pair-kinds.ps
+pair-at t = and 9 pair-kinds.ps (is 9 pair-kinds.ps μ-pair t) pair.Pre
 
-abbrev pair-below : ℕ → In 8 pair-kinds.ps
-pair-below t = and 8 pair-kinds.ps (falls 8 pair-kinds.ps _<_ μ-pair t) pair.Pre
+abbrev pair-below : ℕ → In 9 pair-kinds.ps
+pair-below t = and 9 pair-kinds.ps (falls 9 pair-kinds.ps _<_ μ-pair t) pair.Pre
 
-abbrev put-in-at : ℕ → In 8 put-in-kinds.ps
-put-in-at t = and 8 put-in-kinds.ps (is 8 put-in-kinds.ps μ-put-in t) put-in.Pre
+abbrev put-in-at : ℕ → In 9 put-in-kinds.ps
+put-in-at t = and 9 put-in-kinds.ps (is 9 put-in-kinds.ps μ-put-in t) put-in.Pre
 
-abbrev put-in-below : ℕ → In 8 put-in-kinds.ps
-put-in-below t = and 8 put-in-kinds.ps (falls 8 put-in-kinds.ps _<_ μ-put-in t) put-in.Pre
+abbrev put-in-below : ℕ → In 9 put-in-kinds.ps
+put-in-below t = and 9 put-in-kinds.ps (falls 9 put-in-kinds.ps _<_ μ-put-in t) put-in.Pre
 
-abbrev take-out-at : ℕ → In 8 take-out-kinds.ps
-take-out-at t = and 8 take-out-kinds.ps (is 8 take-out-kinds.ps μ-take-out t) take-out.Pre
+abbrev take-out-at : ℕ → In 9 take-out-kinds.ps
+take-out-at t = and 9 take-out-kinds.ps (is 9 take-out-kinds.ps μ-take-out t) take-out.Pre
 
-abbrev take-out-below : ℕ → In 8 take-out-kinds.ps
-take-out-below t = and 8 take-out-kinds.ps (falls 8 take-out-kinds.ps _<_ μ-take-out t) take-out.Pre
+abbrev take-out-below : ℕ → In 9 take-out-kinds.ps
+take-out-below t = and 9 take-out-kinds.ps (falls 9 take-out-kinds.ps _<_ μ-take-out t) take-out.Pre
 
 abbrev by-cases-calls : ℕ → by-cases-lts.Claims
 by-cases-calls t = (past-reads.Asked, past-reads.Learnt, infer-tag-at-reads.Asked, infer-tag-at-reads.Learnt, part-reads.Asked, part-reads.Learnt, infer-below t, infer.Post, from-falsity-reads.Asked, from-falsity-reads.Learnt, sides-inferred-reads.Asked, sides-inferred-reads.Learnt, goes-on-reads.Asked, goes-on-reads.Learnt, side-on-reads.Asked, side-on-reads.Learnt, assume-reads.Asked, assume-reads.Learnt, check-below t, check.Post)
@@ -149,12 +149,12 @@ take-out-calls t = (past-reads.Asked, past-reads.Learnt, infer-tag-at-reads.Aske
 
 by-cases-part-requires : (t : ℕ) → by-cases-lts.Need-part-requires (by-cases-calls t) (by-cases-at t) by-cases.Post
 by-cases-part-requires t c κs =
-    let start = c .before .before .before .before .before .before .before .before .before .before .before .before .before .before in
+    let start = c .before .before .before .before .before .before .before .before .before .before .before .before .before .before .before in
     start .pre .1
 
 by-cases-infer-requires : (t : ℕ) → by-cases-lts.Need-infer-requires (by-cases-calls t) (by-cases-at t) by-cases.Post
 by-cases-infer-requires t c κs =
-    let start = c .before .before .before .before .before .before .before .before .before .before .before .before .before .before .before in
+    let start = c .before .before .before .before .before .before .before .before .before .before .before .before .before .before .before .before in
     (here-falls _ (start .args .here) _ _ _ _ _ (c .part .ensures) (start .pre .1) (start .pre .0), tt)
 
 by-cases-returns : (t : ℕ) → by-cases-lts.Need-returns (by-cases-calls t) (by-cases-at t) by-cases.Post
@@ -186,26 +186,26 @@ by-cases-returns-2 t c =
 
 by-cases-sub-left : (t : ℕ) → by-cases-lts.Need-sub-left (by-cases-calls t) (by-cases-at t) by-cases.Post
 by-cases-sub-left t c =
-    let start = c .before .before .before .before .before .before .before .before .before .before .before .before .before .before .before .before .before .before .before .before .before .before .before .before .before .before .before .before .before .before in
+    let start = c .before .before .before .before .before .before .before .before .before .before .before .before .before .before .before .before .before .before .before .before .before .before .before .before .before .before .before .before .before .before .before in
     omega (arith, start .pre .1)
 
 by-cases-check-requires : (t : ℕ) → by-cases-lts.Need-check-requires (by-cases-calls t) (by-cases-at t) by-cases.Post
 by-cases-check-requires t c κs =
-    let start = c .before .before .before .before .before .before .before .before .before .before .before .before .before .before .before .before .before .before .before .before .before .before .before .before .before .before .before .before .before .before .before .before .before .before .before .before .before in
+    let start = c .before .before .before .before .before .before .before .before .before .before .before .before .before .before .before .before .before .before .before .before .before .before .before .before .before .before .before .before .before .before .before .before .before .before .before .before .before .before in
     (part-falls _ (start .args .here) _ _ (start .pre .1) (start .pre .0), tt)
 
 by-cases-same-length-5 : (t : ℕ) → by-cases-lts.Need-same-length-5 (by-cases-calls t) (by-cases-at t) by-cases.Post
 by-cases-same-length-5 t c =
     let after-check = c .before .before .before .before .before .before .before in
     let after-infer = after-check .before .before .before .before .before .before .before .before .before .before .before .before .before .before .before .before .before .before .before .before .before .before in
-    after-check .check .kept .1 .1 .1 .1 .1 .0 ∙ after-infer .infer .kept .1 .1 .1 .1 .1 .0
+    after-check .check .kept .1 .1 .1 .1 .1 .1 .0 ∙ after-infer .infer .kept .1 .1 .1 .1 .1 .1 .0
 
 by-cases-same-length-6 : (t : ℕ) → by-cases-lts.Need-same-length-6 (by-cases-calls t) (by-cases-at t) by-cases.Post
 by-cases-same-length-6 t c =
     let after-check = c .before .before .before .before .before .before .before in
     let after-assume = after-check .before .before .before .before .before in
     let after-infer = after-assume .before .before .before .before .before .before .before .before .before .before .before .before .before .before .before .before .before in
-    after-check .check .kept .1 .1 .1 .1 .1 .1 .0 ∙ after-assume .assume .kept .0 ∙ after-infer .infer .kept .1 .1 .1 .1 .1 .1 .0
+    after-check .check .kept .1 .1 .1 .1 .1 .1 .1 .0 ∙ after-assume .assume .kept .0 ∙ after-infer .infer .kept .1 .1 .1 .1 .1 .1 .1 .0
 
 by-cases-returns-3 : (t : ℕ) → by-cases-lts.Need-returns-3 (by-cases-calls t) (by-cases-at t) by-cases.Post
 by-cases-returns-3 t c =
@@ -220,7 +220,7 @@ by-cases-returns-3 t c =
     let after-part = after-infer .before in
     let after-infer-tag-at = after-part .before in
     let after-past = after-infer-tag-at .before .before .before in
-    let start = after-past .before .before .before .before .before .before .before .before .before .before .before in
+    let start = after-past .before .before .before .before .before .before .before .before .before .before .before .before in
     let both = after-sides .before .enum-told2 .given .1 in
     let infers = rw (after-part .part .ensures) at (after-infer .infer .ensures .0) in
     let kept = rw (after-part .part .ensures) at (after-infer .infer .ensures .1) in
@@ -233,7 +233,7 @@ by-cases-returns-3 t c =
 
 by-cases-check-requires-2 : (t : ℕ) → by-cases-lts.Need-check-requires-2 (by-cases-calls t) (by-cases-at t) by-cases.Post
 by-cases-check-requires-2 t c κs =
-    let start = c .before .before .before .before .before .before .before .before .before .before .before .before .before .before .before .before .before .before .before .before .before .before .before .before .before .before .before .before .before .before .before .before .before .before .before .before .before .before .before .before .before .before .before .before .before .before .before .before .before .before .before .before in
+    let start = c .before .before .before .before .before .before .before .before .before .before .before .before .before .before .before .before .before .before .before .before .before .before .before .before .before .before .before .before .before .before .before .before .before .before .before .before .before .before .before .before .before .before .before .before .before .before .before .before .before .before .before .before .before in
     (part-falls _ (start .args .here) _ _ (start .pre .1) (start .pre .0), tt)
 
 by-cases-same-length-7 : (t : ℕ) → by-cases-lts.Need-same-length-7 (by-cases-calls t) (by-cases-at t) by-cases.Post
@@ -241,7 +241,7 @@ by-cases-same-length-7 t c =
     let after-check2 = c .before .before .before .before in
     let after-check = after-check2 .before .before .before .before .before .before .before .before .before .before .before .before .before .before .before in
     let after-infer = after-check .before .before .before .before .before .before .before .before .before .before .before .before .before .before .before .before .before .before .before .before .before .before in
-    after-check2 .check2 .kept .1 .1 .1 .1 .1 .0 ∙ after-check .check .kept .1 .1 .1 .1 .1 .0 ∙ after-infer .infer .kept .1 .1 .1 .1 .1 .0
+    after-check2 .check2 .kept .1 .1 .1 .1 .1 .1 .0 ∙ after-check .check .kept .1 .1 .1 .1 .1 .1 .0 ∙ after-infer .infer .kept .1 .1 .1 .1 .1 .1 .0
 
 by-cases-same-length-8 : (t : ℕ) → by-cases-lts.Need-same-length-8 (by-cases-calls t) (by-cases-at t) by-cases.Post
 by-cases-same-length-8 t c =
@@ -250,7 +250,7 @@ by-cases-same-length-8 t c =
     let after-check = after-assume2 .before .before .before .before .before .before .before .before .before .before in
     let after-assume = after-check .before .before .before .before .before in
     let after-infer = after-assume .before .before .before .before .before .before .before .before .before .before .before .before .before .before .before .before .before in
-    after-check2 .check2 .kept .1 .1 .1 .1 .1 .1 .0 ∙ after-assume2 .assume2 .kept .0 ∙ after-check .check .kept .1 .1 .1 .1 .1 .1 .0 ∙ after-assume .assume .kept .0 ∙ after-infer .infer .kept .1 .1 .1 .1 .1 .1 .0
+    after-check2 .check2 .kept .1 .1 .1 .1 .1 .1 .1 .0 ∙ after-assume2 .assume2 .kept .0 ∙ after-check .check .kept .1 .1 .1 .1 .1 .1 .1 .0 ∙ after-assume .assume .kept .0 ∙ after-infer .infer .kept .1 .1 .1 .1 .1 .1 .1 .0
 
 by-cases-returns-4 : (t : ℕ) → by-cases-lts.Need-returns-4 (by-cases-calls t) (by-cases-at t) by-cases.Post
 by-cases-returns-4 t c =
@@ -269,7 +269,7 @@ by-cases-returns-4 t c =
     let after-part = after-infer .before in
     let after-infer-tag-at = after-part .before in
     let after-past = after-infer-tag-at .before .before .before in
-    let start = after-past .before .before .before .before .before .before .before .before .before .before .before in
+    let start = after-past .before .before .before .before .before .before .before .before .before .before .before .before in
     let both = after-sides .before .enum-told2 .given .1 in
     let infers = rw (after-part .part .ensures) at (after-infer .infer .ensures .0) in
     let kept = rw (after-part .part .ensures) at (after-infer .infer .ensures .1) in
@@ -287,24 +287,24 @@ by-cases-returns-4 t c =
 
 -- What is known of check where it has read the tag: a level is left, and which tag it is.
 module _ (t : ℕ) (b : check-lts.After-check-tag-at (check-calls t) (check-at t) check.Post) where
-  check-level : let here = b .before .before .before .before .before .before .before .before .before .before .before .before .args .here in here .left ≡ suc (here .left - 1)
+  check-level : let here = b .before .before .before .before .before .before .before .before .before .before .before .before .before .args .here in here .left ≡ suc (here .left - 1)
   check-level = omega (arith, b .before .if1 .left)
 
-  check-tag-is : {tag : CheckTag} → b .check-tag-at .result ≡ tag → let a = b .before .before .before .before .before .before .before .before .before .before .before .before .args in check-tag (getD (a .proof .now) (a .here .at) 0) ≡ tag
+  check-tag-is : {tag : CheckTag} → b .check-tag-at .result ≡ tag → let a = b .before .before .before .before .before .before .before .before .before .before .before .before .before .args in check-tag (getD (a .proof .now) (a .here .at) 0) ≡ tag
   check-tag-is is = sym (b .check-tag-at .ensures) ∙ is
 
   -- Where it is handed on, a byte less is left.
   check-falls : {tag : CheckTag} → b .check-tag-at .result ≡ tag → IsTag tag
-      → let a = b .before .before .before .before .before .before .before .before .before .before .before .before .args in
+      → let a = b .before .before .before .before .before .before .before .before .before .before .before .before .before .args in
       (left-over (a .here .left) (length (a .proof .now)) (a .here .at + 1) < t) × (0 < a .here .left)
   check-falls is tag =
-      let start = b .before .before .before .before .before .before .before .before .before .before .before .before in
+      let start = b .before .before .before .before .before .before .before .before .before .before .before .before .before in
       (tag-falls _ (start .args .here) _ (tag-inside (start .args .proof .now) _ _ (check-tag-is is) tag) (start .pre .0), omega (arith, b .before .if1 .left))
 
   -- The step is checked by its tag.
   check-by-tag : {tag : CheckTag} {r : Checked} {list′ : List ℕ} → b .check-tag-at .result ≡ tag → ChecksItself tag
-      → let a = b .before .before .before .before .before .before .before .before .before .before .before .before .args in
-      let S : Sources = record { buffer = a .buffer .now; proof = a .proof .now; state = a .state .now; certificates = a .certificates .now; ends = a .ends .now } in
+      → let a = b .before .before .before .before .before .before .before .before .before .before .before .before .before .args in
+      let S : Sources = record { buffer = a .buffer .now; proof = a .proof .now; state = a .state .now; certificates = a .certificates .now; strengths = a .strengths .now; ends = a .ends .now } in
       (a .here .at < length (a .proof .now) → ChecksBy S (a .assumptions .now) (a .here .scope) (a .here .ledger) (a .facts .now) (a .here .left - 1) tag (a .goal-bytes .now) (a .goal) (a .here .at) r list′)
       → ChecksAt S (a .assumptions .now) (a .here .scope) (a .here .ledger) (a .facts .now) (a .here .left) (a .goal-bytes .now) (a .goal) (a .here .at) r list′
   check-by-tag is own h = check-tagged _ _ _ _ _ _ _ _ _ _ _ check-level (check-tag-is is) own h
@@ -515,7 +515,7 @@ infer-part-requires t c κs =
 infer-infer-requires : (t : ℕ) → infer-lts.Need-infer-requires (infer-calls t) (infer-at t) infer.Post
 infer-infer-requires t c κs =
     let after-if1 = c .before .before .before .before .before .before .before in
-    let start = after-if1 .before .before .before .before .before .before .before .before .before .before .before in
+    let start = after-if1 .before .before .before .before .before .before .before .before .before .before .before .before in
     (here-falls _ (start .args .here) _ _ _ _ _ (c .part .ensures) (omega (arith, after-if1 .if1 .left)) (start .pre .0), tt)
 
 infer-part-requires-2 : (t : ℕ) → infer-lts.Need-part-requires-2 (infer-calls t) (infer-at t) infer.Post
@@ -526,7 +526,7 @@ infer-part-requires-2 t c κs =
 infer-infer-requires-2 : (t : ℕ) → infer-lts.Need-infer-requires-2 (infer-calls t) (infer-at t) infer.Post
 infer-infer-requires-2 t c κs =
     let after-if1 = c .before .before .before .before .before .before .before in
-    let start = after-if1 .before .before .before .before .before .before .before .before .before .before .before in
+    let start = after-if1 .before .before .before .before .before .before .before .before .before .before .before .before in
     (here-falls _ (start .args .here) _ _ _ _ _ (c .part2 .ensures) (omega (arith, after-if1 .if1 .left)) (start .pre .0), tt)
 
 infer-part-requires-3 : (t : ℕ) → infer-lts.Need-part-requires-3 (infer-calls t) (infer-at t) infer.Post
@@ -537,7 +537,7 @@ infer-part-requires-3 t c κs =
 infer-infer-requires-3 : (t : ℕ) → infer-lts.Need-infer-requires-3 (infer-calls t) (infer-at t) infer.Post
 infer-infer-requires-3 t c κs =
     let after-if1 = c .before .before .before .before .before .before .before in
-    let start = after-if1 .before .before .before .before .before .before .before .before .before .before .before in
+    let start = after-if1 .before .before .before .before .before .before .before .before .before .before .before .before in
     (here-falls _ (start .args .here) _ _ _ _ _ (c .part3 .ensures) (omega (arith, after-if1 .if1 .left)) (start .pre .0), tt)
 
 infer-returns-2 : (t : ℕ) → infer-lts.Need-returns-2 (infer-calls t) (infer-at t) infer.Post
@@ -552,7 +552,7 @@ infer-returns-2 t c =
     let after-enum-told5 = after-infer-tag-at3 .before .before .before in
     let after-past = after-enum-told5 .before .before in
     let after-if1 = after-past .before in
-    let start = after-if1 .before .before .before .before .before .before .before .before .before .before .before in (
+    let start = after-if1 .before .before .before .before .before .before .before .before .before .before .before .before in (
       λ is. infer-tagged _ _ _ _ _ _ (start .args .here .left - 1) _ _ (omega (arith, after-if1 .if1 .left)) (sym is ∙ after-enum-told5 .enum-told5 .given .1) (infer-apply-stopped _ _ _ _ _ _ _ (after-past .past .ensures .0) ((rw (after-part3 .part3 .ensures) at (after-infer3 .infer3 .ensures .0)) (after-infer-tag-at3 .infer-tag-at3 .ensures)) (after-end-in .end-in .ensures) (after-put-to-use .put-to-use .ensures .0) (after-put-to-use .put-to-use .ensures .1) (ap (λ r. r .ledger) (c .nothing2 .ensures)) (fails-where (after-goes-on .goes-on .result) (after-if2 .if2 .taken) (after-goes-on .goes-on .ensures))),
       (rw (after-part3 .part3 .ensures) at (after-infer3 .infer3 .ensures .1)),
     )
@@ -565,7 +565,7 @@ infer-part-requires-4 t c κs =
 infer-check-requires : (t : ℕ) → infer-lts.Need-check-requires (infer-calls t) (infer-at t) infer.Post
 infer-check-requires t c κs =
     let after-if1 = c .before .before .before .before .before .before .before .before .before .before .before .before .before .before .before .before .before .before .before .before .before in
-    let start = after-if1 .before .before .before .before .before .before .before .before .before .before .before in
+    let start = after-if1 .before .before .before .before .before .before .before .before .before .before .before .before in
     (here-falls _ (start .args .here) _ _ _ _ _ (c .part4 .ensures) (omega (arith, after-if1 .if1 .left)) (start .pre .0), tt)
 
 infer-part-requires-5 : (t : ℕ) → infer-lts.Need-part-requires-5 (infer-calls t) (infer-at t) infer.Post
@@ -576,14 +576,14 @@ infer-part-requires-5 t c κs =
 infer-infer-requires-4 : (t : ℕ) → infer-lts.Need-infer-requires-4 (infer-calls t) (infer-at t) infer.Post
 infer-infer-requires-4 t c κs =
     let after-if1 = c .before .before .before .before .before .before .before .before in
-    let start = after-if1 .before .before .before .before .before .before .before .before .before .before .before in
+    let start = after-if1 .before .before .before .before .before .before .before .before .before .before .before .before in
     (here-falls _ (start .args .here) _ _ _ _ _ (c .part5 .ensures) (omega (arith, after-if1 .if1 .left)) (start .pre .0), tt)
 
 infer-returns-3 : (t : ℕ) → infer-lts.Need-returns-3 (infer-calls t) (infer-at t) infer.Post
 infer-returns-3 t c =
     let after-enum-told = c .before .before in
     let after-if1 = after-enum-told .before .before .before in
-    let start = after-if1 .before .before .before .before .before .before .before .before .before .before .before in (
+    let start = after-if1 .before .before .before .before .before .before .before .before .before .before .before .before in (
       λ is. infer-tagged _ _ _ _ _ _ (start .args .here .left - 1) _ _ (omega (arith, after-if1 .if1 .left)) (sym is ∙ after-enum-told .enum-told .given .1) (infer-local _ _ _ _ _ _ _ (c .local .ensures)),
       keeps-same _ _,
     )
@@ -592,7 +592,7 @@ infer-returns-4 : (t : ℕ) → infer-lts.Need-returns-4 (infer-calls t) (infer-
 infer-returns-4 t c =
     let after-enum-told2 = c .before in
     let after-if1 = after-enum-told2 .before .before .before in
-    let start = after-if1 .before .before .before .before .before .before .before .before .before .before .before in (
+    let start = after-if1 .before .before .before .before .before .before .before .before .before .before .before .before in (
       λ is. infer-tagged _ _ _ _ _ _ (start .args .here .left - 1) _ _ (omega (arith, after-if1 .if1 .left)) (sym is ∙ after-enum-told2 .enum-told2 .given .1) (infer-certificate _ _ _ _ _ _ _ (c .certificate .ensures)),
       keeps-same _ _,
     )
@@ -605,7 +605,7 @@ infer-returns-5 t c =
     let after-enum-told3 = after-infer-tag-at .before .before .before in
     let after-past = after-enum-told3 .before .before in
     let after-if1 = after-past .before in
-    let start = after-if1 .before .before .before .before .before .before .before .before .before .before .before in (
+    let start = after-if1 .before .before .before .before .before .before .before .before .before .before .before .before in (
       λ is. infer-tagged _ _ _ _ _ _ (start .args .here .left - 1) _ _ (omega (arith, after-if1 .if1 .left)) (sym is ∙ after-enum-told3 .enum-told3 .given .1) (infer-first _ _ _ _ _ _ _ (after-past .past .ensures .0) ((rw (after-part .part .ensures) at (after-infer .infer .ensures .0)) (after-infer-tag-at .infer-tag-at .ensures)) (c .first .ensures)),
       (rw (after-part .part .ensures) at (after-infer .infer .ensures .1)),
     )
@@ -618,7 +618,7 @@ infer-returns-6 t c =
     let after-enum-told4 = after-infer-tag-at2 .before .before .before in
     let after-past = after-enum-told4 .before .before in
     let after-if1 = after-past .before in
-    let start = after-if1 .before .before .before .before .before .before .before .before .before .before .before in (
+    let start = after-if1 .before .before .before .before .before .before .before .before .before .before .before .before in (
       λ is. infer-tagged _ _ _ _ _ _ (start .args .here .left - 1) _ _ (omega (arith, after-if1 .if1 .left)) (sym is ∙ after-enum-told4 .enum-told4 .given .1) (infer-second _ _ _ _ _ _ _ (after-past .past .ensures .0) ((rw (after-part2 .part2 .ensures) at (after-infer2 .infer2 .ensures .0)) (after-infer-tag-at2 .infer-tag-at2 .ensures)) (c .second .ensures)),
       (rw (after-part2 .part2 .ensures) at (after-infer2 .infer2 .ensures .1)),
     )
@@ -627,13 +627,13 @@ infer-same-length-8 : (t : ℕ) → infer-lts.Need-same-length-8 (infer-calls t)
 infer-same-length-8 t c =
     let after-check = c .before .before .before .before .before .before in
     let after-infer3 = after-check .before .before .before .before .before .before .before .before .before .before .before .before .before .before in
-    after-check .check .kept .1 .1 .1 .1 .1 .0 ∙ after-infer3 .infer3 .kept .1 .1 .1 .1 .1 .0
+    after-check .check .kept .1 .1 .1 .1 .1 .1 .0 ∙ after-infer3 .infer3 .kept .1 .1 .1 .1 .1 .1 .0
 
 infer-same-length-9 : (t : ℕ) → infer-lts.Need-same-length-9 (infer-calls t) (infer-at t) infer.Post
 infer-same-length-9 t c =
     let after-check = c .before .before .before .before .before .before in
     let after-infer3 = after-check .before .before .before .before .before .before .before .before .before .before .before .before .before .before in
-    after-check .check .kept .1 .1 .1 .1 .1 .1 .0 ∙ after-infer3 .infer3 .kept .1 .1 .1 .1 .1 .1 .0
+    after-check .check .kept .1 .1 .1 .1 .1 .1 .1 .0 ∙ after-infer3 .infer3 .kept .1 .1 .1 .1 .1 .1 .1 .0
 
 infer-returns-7 : (t : ℕ) → infer-lts.Need-returns-7 (infer-calls t) (infer-at t) infer.Post
 infer-returns-7 t c =
@@ -649,7 +649,7 @@ infer-returns-7 t c =
     let after-enum-told5 = after-infer-tag-at3 .before .before .before in
     let after-past = after-enum-told5 .before .before in
     let after-if1 = after-past .before in
-    let start = after-if1 .before .before .before .before .before .before .before .before .before .before .before in (
+    let start = after-if1 .before .before .before .before .before .before .before .before .before .before .before .before in (
       λ is. infer-tagged _ _ _ _ _ _ (start .args .here .left - 1) _ _ (omega (arith, after-if1 .if1 .left)) (sym is ∙ after-enum-told5 .enum-told5 .given .1) (infer-apply _ _ _ _ _ _ _ (after-past .past .ensures .0) ((rw (after-part3 .part3 .ensures) at (after-infer3 .infer3 .ensures .0)) (after-infer-tag-at3 .infer-tag-at3 .ensures)) (after-end-in .end-in .ensures) (after-put-to-use .put-to-use .ensures .0) (after-put-to-use .put-to-use .ensures .1) (holds-else (after-goes-on .goes-on .result) (after-if2 .if2 .left) (after-goes-on .goes-on .ensures)) (c .part-at .ensures) (checks-kept _ _ _ _ _ _ _ _ _ _ (rw (after-part3 .part3 .ensures) at (after-infer3 .infer3 .ensures .1)) (rw (after-part4 .part4 .ensures) at (after-check .check .ensures .0)))),
       keeps-then (rw (after-part3 .part3 .ensures) at (after-infer3 .infer3 .ensures .1)) (rw (after-part4 .part4 .ensures) at (after-check .check .ensures .1)),
     )
@@ -663,7 +663,7 @@ infer-returns-8 t c =
     let after-enum-told6 = after-term-at .before in
     let after-past = after-enum-told6 .before .before in
     let after-if1 = after-past .before in
-    let start = after-if1 .before .before .before .before .before .before .before .before .before .before .before in (
+    let start = after-if1 .before .before .before .before .before .before .before .before .before .before .before .before in (
       λ is. infer-tagged _ _ _ _ _ _ (start .args .here .left - 1) _ _ (omega (arith, after-if1 .if1 .left)) (sym is ∙ after-enum-told6 .enum-told6 .given .1) (infer-instance _ _ _ _ _ _ _ (after-past .past .ensures .0) (term-found _ _ (after-term-at .term-at .ensures .0)) ((rw (after-part5 .part5 .ensures) at (after-infer4 .infer4 .ensures .0)) (after-infer-tag-at4 .infer-tag-at4 .ensures)) (c .instance .ensures (after-term-at .term-at .ensures .1))),
       (rw (after-part5 .part5 .ensures) at (after-infer4 .infer4 .ensures .1)),
     )
@@ -672,7 +672,7 @@ infer-returns-9 : (t : ℕ) → infer-lts.Need-returns-9 (infer-calls t) (infer-
 infer-returns-9 t c =
     let after-enum-told7 = c .before .before in
     let after-if1 = after-enum-told7 .before .before .before in
-    let start = after-if1 .before .before .before .before .before .before .before .before .before .before .before in (
+    let start = after-if1 .before .before .before .before .before .before .before .before .before .before .before .before in (
       λ is. infer-tagged _ _ _ _ _ _ (start .args .here .left - 1) _ _ (omega (arith, after-if1 .if1 .left)) (sym is ∙ after-enum-told7 .enum-told7 .given .1) (infer-no-tag _ _ _ _ _ _ _),
       keeps-same _ _,
     )
@@ -689,12 +689,12 @@ pair-returns t c =
 
 pair-part-requires : (t : ℕ) → pair-lts.Need-part-requires (pair-calls t) (pair-at t) pair.Post
 pair-part-requires t c κs =
-    let start = c .before .before .before .before .before .before .before .before .before .before .before .before .before .before .before .before .before in
+    let start = c .before .before .before .before .before .before .before .before .before .before .before .before .before .before .before .before .before .before in
     start .pre .1
 
 pair-check-requires : (t : ℕ) → pair-lts.Need-check-requires (pair-calls t) (pair-at t) pair.Post
 pair-check-requires t c κs =
-    let start = c .before .before .before .before .before .before .before .before .before .before .before .before .before .before .before .before .before .before in
+    let start = c .before .before .before .before .before .before .before .before .before .before .before .before .before .before .before .before .before .before .before in
     (here-falls _ (start .args .here) _ _ _ _ _ (c .part .ensures) (start .pre .1) (start .pre .0), tt)
 
 pair-returns-2 : (t : ℕ) → pair-lts.Need-returns-2 (pair-calls t) (pair-at t) pair.Post
@@ -713,25 +713,25 @@ pair-returns-2 t c =
 
 pair-part-requires-2 : (t : ℕ) → pair-lts.Need-part-requires-2 (pair-calls t) (pair-at t) pair.Post
 pair-part-requires-2 t c κs =
-    let start = c .before .before .before .before .before .before .before .before .before .before .before .before .before .before .before .before .before .before .before .before .before .before .before .before .before .before .before .before .before in
+    let start = c .before .before .before .before .before .before .before .before .before .before .before .before .before .before .before .before .before .before .before .before .before .before .before .before .before .before .before .before .before .before in
     start .pre .1
 
 pair-check-requires-2 : (t : ℕ) → pair-lts.Need-check-requires-2 (pair-calls t) (pair-at t) pair.Post
 pair-check-requires-2 t c κs =
-    let start = c .before .before .before .before .before .before .before .before .before .before .before .before .before .before .before .before .before .before .before .before .before .before .before .before .before .before .before .before .before .before in
+    let start = c .before .before .before .before .before .before .before .before .before .before .before .before .before .before .before .before .before .before .before .before .before .before .before .before .before .before .before .before .before .before .before in
     (here-falls _ (start .args .here) _ _ _ _ _ (c .part2 .ensures) (start .pre .1) (start .pre .0), tt)
 
 pair-same-length-3 : (t : ℕ) → pair-lts.Need-same-length-3 (pair-calls t) (pair-at t) pair.Post
 pair-same-length-3 t c =
     let after-check2 = c .before .before .before .before in
     let after-check = after-check2 .before .before .before .before .before .before .before .before .before .before .before .before in
-    after-check2 .check2 .kept .1 .1 .1 .1 .1 .0 ∙ after-check .check .kept .1 .1 .1 .1 .1 .0
+    after-check2 .check2 .kept .1 .1 .1 .1 .1 .1 .0 ∙ after-check .check .kept .1 .1 .1 .1 .1 .1 .0
 
 pair-same-length-4 : (t : ℕ) → pair-lts.Need-same-length-4 (pair-calls t) (pair-at t) pair.Post
 pair-same-length-4 t c =
     let after-check2 = c .before .before .before .before in
     let after-check = after-check2 .before .before .before .before .before .before .before .before .before .before .before .before in
-    after-check2 .check2 .kept .1 .1 .1 .1 .1 .1 .0 ∙ after-check .check .kept .1 .1 .1 .1 .1 .1 .0
+    after-check2 .check2 .kept .1 .1 .1 .1 .1 .1 .1 .0 ∙ after-check .check .kept .1 .1 .1 .1 .1 .1 .1 .0
 
 pair-returns-3 : (t : ℕ) → pair-lts.Need-returns-3 (pair-calls t) (pair-at t) pair.Post
 pair-returns-3 t c =
@@ -763,12 +763,12 @@ put-in-returns t c =
 
 put-in-sub-left : (t : ℕ) → put-in-lts.Need-sub-left (put-in-calls t) (put-in-at t) put-in.Post
 put-in-sub-left t c =
-    let start = c .before .before .before .before .before .before .before .before .before .before .before .before .before .before .before .before .before in
+    let start = c .before .before .before .before .before .before .before .before .before .before .before .before .before .before .before .before .before .before in
     omega (arith, start .pre .1)
 
 put-in-check-requires : (t : ℕ) → put-in-lts.Need-check-requires (put-in-calls t) (put-in-at t) put-in.Post
 put-in-check-requires t c κs =
-    let start = c .before .before .before .before .before .before .before .before .before .before .before .before .before .before .before .before .before .before .before .before .before in
+    let start = c .before .before .before .before .before .before .before .before .before .before .before .before .before .before .before .before .before .before .before .before .before .before in
     (part-falls _ (start .args .here) _ _ (start .pre .1) (start .pre .0), tt)
 
 put-in-returns-2 : (t : ℕ) → put-in-lts.Need-returns-2 (put-in-calls t) (put-in-at t) put-in.Post
@@ -779,7 +779,7 @@ put-in-returns-2 t c =
     let after-if1 = after-inside .before .before in
     let after-goes-on = after-if1 .before in
     let after-inside-of = after-goes-on .before .before .before .before in
-    let start = after-inside-of .before .before .before .before .before .before .before .before .before .before .before in (
+    let start = after-inside-of .before .before .before .before .before .before .before .before .before .before .before .before in (
       check-put _ _ _ _ _ _ _ _ _ _ (after-inside-of .inside-of .ensures) (holds-else (after-goes-on .goes-on .result) (after-if1 .if1 .left) (after-goes-on .goes-on .ensures)) (after-past .past .ensures .0) (rw (after-inside .inside .ensures) at (after-check .check .ensures .0)),
       keeps-inside (start .args .here .scope) (after-inside-of .inside-of .result .row .whose) (after-inside-of .inside-of .result .row .judgement) (rw (after-inside .inside .ensures) at (after-check .check .ensures .1)),
     )
@@ -788,12 +788,12 @@ put-in-returns-2 t c =
 
 take-out-part-requires : (t : ℕ) → take-out-lts.Need-part-requires (take-out-calls t) (take-out-at t) take-out.Post
 take-out-part-requires t c κs =
-    let start = c .before .before .before .before .before .before .before .before .before .before .before .before .before .before in
+    let start = c .before .before .before .before .before .before .before .before .before .before .before .before .before .before .before in
     start .pre .1
 
 take-out-infer-requires : (t : ℕ) → take-out-lts.Need-infer-requires (take-out-calls t) (take-out-at t) take-out.Post
 take-out-infer-requires t c κs =
-    let start = c .before .before .before .before .before .before .before .before .before .before .before .before .before .before .before in
+    let start = c .before .before .before .before .before .before .before .before .before .before .before .before .before .before .before .before in
     (here-falls _ (start .args .here) _ _ _ _ _ (c .part .ensures) (start .pre .1) (start .pre .0), tt)
 
 take-out-returns : (t : ℕ) → take-out-lts.Need-returns (take-out-calls t) (take-out-at t) take-out.Post
@@ -810,26 +810,26 @@ take-out-returns t c =
 
 take-out-sub-left : (t : ℕ) → take-out-lts.Need-sub-left (take-out-calls t) (take-out-at t) take-out.Post
 take-out-sub-left t c =
-    let start = c .before .before .before .before .before .before .before .before .before .before .before .before .before .before .before .before .before .before .before .before .before .before .before .before .before .before .before .before .before .before in
+    let start = c .before .before .before .before .before .before .before .before .before .before .before .before .before .before .before .before .before .before .before .before .before .before .before .before .before .before .before .before .before .before .before in
     omega (arith, start .pre .1)
 
 take-out-check-requires : (t : ℕ) → take-out-lts.Need-check-requires (take-out-calls t) (take-out-at t) take-out.Post
 take-out-check-requires t c κs =
-    let start = c .before .before .before .before .before .before .before .before .before .before .before .before .before .before .before .before .before .before .before .before .before .before .before .before .before .before .before .before .before .before .before .before in
+    let start = c .before .before .before .before .before .before .before .before .before .before .before .before .before .before .before .before .before .before .before .before .before .before .before .before .before .before .before .before .before .before .before .before .before in
     (part-falls _ (start .args .here) _ _ (start .pre .1) (start .pre .0), tt)
 
 take-out-same-length-3 : (t : ℕ) → take-out-lts.Need-same-length-3 (take-out-calls t) (take-out-at t) take-out.Post
 take-out-same-length-3 t c =
     let after-check = c .before .before .before .before in
     let after-infer = after-check .before .before .before .before .before .before .before .before .before .before .before .before .before .before .before .before .before in
-    after-check .check .kept .1 .1 .1 .1 .1 .0 ∙ after-infer .infer .kept .1 .1 .1 .1 .1 .0
+    after-check .check .kept .1 .1 .1 .1 .1 .1 .0 ∙ after-infer .infer .kept .1 .1 .1 .1 .1 .1 .0
 
 take-out-same-length-4 : (t : ℕ) → take-out-lts.Need-same-length-4 (take-out-calls t) (take-out-at t) take-out.Post
 take-out-same-length-4 t c =
     let after-check = c .before .before .before .before in
     let after-assume = after-check .before .before .before .before .before .before in
     let after-infer = after-assume .before .before .before .before .before .before .before .before .before .before .before in
-    after-check .check .kept .1 .1 .1 .1 .1 .1 .0 ∙ after-assume .assume .kept .0 ∙ after-infer .infer .kept .1 .1 .1 .1 .1 .1 .0
+    after-check .check .kept .1 .1 .1 .1 .1 .1 .1 .0 ∙ after-assume .assume .kept .0 ∙ after-infer .infer .kept .1 .1 .1 .1 .1 .1 .1 .0
 
 take-out-returns-2 : (t : ℕ) → take-out-lts.Need-returns-2 (take-out-calls t) (take-out-at t) take-out.Post
 take-out-returns-2 t c =
@@ -842,7 +842,7 @@ take-out-returns-2 t c =
     let after-part = after-infer .before in
     let after-infer-tag-at = after-part .before in
     let after-past = after-infer-tag-at .before .before .before in
-    let start = after-past .before .before .before .before .before .before .before .before .before .before .before in
+    let start = after-past .before .before .before .before .before .before .before .before .before .before .before .before in
     let infers = rw (after-part .part .ensures) at (after-infer .infer .ensures .0) in
     let kept = rw (after-part .part .ensures) at (after-infer .infer .ensures .1) in (
       check-take _ _ _ _ _ _ _ _ _ _ (after-past .past .ensures .0) (infers (after-infer-tag-at .infer-tag-at .ensures)) (after-inside-inferred .inside-inferred .ensures .0) (after-inside-inferred .inside-inferred .ensures .1)

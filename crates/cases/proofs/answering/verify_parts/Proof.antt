@@ -11,28 +11,10 @@ slice-aggregate-verify-lent c =
     let args = c .before .before .before .args in
     sym (length-take-le (args .split) (args .bytes .now) (omega arith))
 
-sub-verify-lent : tie.Need-sub-verify-lent
-sub-verify-lent c = search needs
-
-part-verify-lent-start : tie.Need-part-verify-lent-start
-part-verify-lent-start c = search needs
-
-part-verify-lent-end : tie.Need-part-verify-lent-end
-part-verify-lent-end c = search needs
-
-verify-lent-requires : tie.Need-verify-lent-requires
-verify-lent-requires c κs = search needs
-
 returns : tie.Need-returns
 returns c = search needs
 
 pub verify-parts-spec : {M : Type 1} → statement M
 verify-parts-spec =
     tie.close
-    (tie.spec
-    slice-aggregate-verify-lent
-    sub-verify-lent
-    part-verify-lent-start
-    part-verify-lent-end
-    verify-lent-requires
-    returns)
+    (tie.spec slice-aggregate-verify-lent (λ c. search needs) (λ c. search needs) (λ c. search needs) (λ c. search needs) (λ c κs. search needs) returns)

@@ -11,7 +11,7 @@ use contract.Fact.{factI}
 use contract.Running.{givenOf, tables, tablesOf}
 use types.Kit.{Given}
 use sound.WpLaws.{FmC, fmOf}
-use denote.Builtin.{u8, u64}
+use denote.Builtin.{u8, u32, u64}
 use denote.Signature.{Slot, plain, shrSlice}
 use denote.Enum.Laws as EL
 use denote.Triple.Spec.{tripleOf}
@@ -32,9 +32,9 @@ use Rattle.from_c.proofs.lending.direct_lent as lent
 use Rattle.from_c.proofs.lending.direct_lent.Statement as stated
 use Rattle.from_c.proofs.lending.direct_lent.Code as code
 
--- The buffer, the proof, the moment and the state.
-abbrev rest : List (Slot 3)
-rest = shrSlice 0 tt (λ _. u8) ∷ shrSlice 1 tt (λ _. u8) ∷ plain (λ _. u64) ∷ shrSlice 2 tt (λ _. u8) ∷ []
+-- The buffer, the pairs, the proof, the moment and the state.
+abbrev rest : List (Slot 4)
+rest = shrSlice 0 tt (λ _. u8) ∷ shrSlice 1 tt (λ _. u32) ∷ shrSlice 2 tt (λ _. u8) ∷ plain (λ _. u64) ∷ shrSlice 3 tt (λ _. u8) ∷ []
 
 pub direct-lent-spec : {M : Type 1} → stated.statement M
 unfolding code.routine tablesOf
@@ -44,10 +44,10 @@ direct-lent-spec 𝓤 H 𝓜 𝓖 𝓡 =
     let 𝓣 : Tables 𝓤 H = tablesOf 𝓤 H 𝓜 (tables 𝓤 H 𝓜 𝓡 code.env) in
     let fm : FmC 𝓤 H (W .laws) (𝓣 .C) = fmOf 𝓤 H (W .laws) 𝓣 in
     entered 𝓤 H (tripleOf 𝓤 H A lent.signature (lent.spec 𝓤 H A (𝓜 .mem) (𝓡 .run))) (𝓣 .C) (𝓣 .Λ) #lent code.function (code.unfolded 𝓤 H 𝓜 𝓡)
-    (records-lent lent-at-most 3 rest An.the-row An′.mir #callee 𝓤 H A W (𝓣 .C) (𝓣 .Λ) fm (lent.clauses 𝓤 H A (𝓜 .mem) (𝓡 .run)) (omega arith)
-    (λ κs. (slice 𝓤 H A W (named 0) (κs .0) u8, (slice 𝓤 H A W (named 1) (κs .1 .0) u8, (number 𝓤 H A W, (slice 𝓤 H A W (named 2) (κs .1 .1 .0) u8, tt))))) (λ κs. refl)
+    (records-lent lent-at-most 4 rest An.the-row An′.mir #callee 𝓤 H A W (𝓣 .C) (𝓣 .Λ) fm (lent.clauses 𝓤 H A (𝓜 .mem) (𝓡 .run)) (omega arith)
+    (λ κs. (slice 𝓤 H A W (named 0) (κs .0) u8, (slice 𝓤 H A W (named 1) (κs .1 .0) u32, (slice 𝓤 H A W (named 2) (κs .1 .1 .0) u8, (number 𝓤 H A W, (slice 𝓤 H A W (named 3) (κs .1 .1 .1 .0) u8, tt)))))) (λ κs. refl)
     (EL.makes An.the-type An′.the-plain 𝓤 H A) (λ r u is. EL.lawful An.the-type An′.the-laws 𝓤 H A W tt .typed r _ is .0) (λ κs a g. id⊢ 𝓤 _)
-    (λ κs a r. r ≡ answer-of (directly (a .0) (take (a .1 .1 .0) (a .1 .0)) (a .1 .1 .1 .0 .now) (a .1 .1 .1 .1 .0 .now) (a .1 .1 .1 .1 .1 .0) (a .1 .1 .1 .1 .1 .1 .0 .now)))
+    (λ κs a r. r ≡ answer-of (directly (a .0) (take (a .1 .1 .0) (a .1 .0)) (a .1 .1 .1 .0 .now) (a .1 .1 .1 .1 .0 .now) (a .1 .1 .1 .1 .1 .0 .now) (a .1 .1 .1 .1 .1 .1 .0) (a .1 .1 .1 .1 .1 .1 .1 .0 .now)))
     (λ κs a g r h e. factI 𝓤 _ (emp 𝓤) h)
     (λ κs qs a vss is l α γ.
     gives-back 𝓤 H A W callee.ended (callee.clauses 𝓤 H A (𝓜 .mem) (𝓡 .run)) (𝓣 .C) fm #callee

@@ -1,4 +1,4 @@
--- No answer has a number above 14, so number, length and place fit beside each other.
+-- No answer has a number above 21, so number, length and place fit beside each other.
 use Prim.Native.Nat.{ℕ, _≤_}
 use mathlib.Core.Path.{_≡_}
 use borrow.Author.Needs.{needs}
@@ -10,7 +10,7 @@ use Rattle.from_c.proofs.packing.as_number.Statement.{statement}
 use Rattle.from_c.proofs.packing.as_number.Tie as tie
 
 -- The number that was asked for is small.
-small : (n : ℕ) (answer : Answer) → n ≡ number-of answer → n ≤ 14
+small : (n : ℕ) (answer : Answer) → n ≡ number-of answer → n ≤ 21
 small n answer e = rw e (numbers-are-small answer)
 
 place-requires : tie.Need-place-requires

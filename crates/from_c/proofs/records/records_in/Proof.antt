@@ -4,9 +4,9 @@ use mathlib.Core.Path.{_≡_, refl, sym, ap, _∙_}
 use borrow.Author.Needs.{needs}
 use native.Mathlib.Omega.{arith}
 use lib.ListN.{take}
+use Rattle.from_c.specs.InARow.{in-a-row}
 use Rattle.from_c.specs.Records.{record-bytes, lent-at-most, record-at, records-in}
-use Rattle.from_c.proofs.RowLaws.{Filled, none-filled, one-filled}
-use Rattle.from_c.proofs.RecordLaws.{few-lent, first-records, records-lent}
+use Rattle.from_c.proofs.RowLaws.{few-lent, row-lent, Filled, none-filled, one-filled}
 use Rattle.from_c.proofs.records.records_in.Statement.{statement}
 use Rattle.from_c.proofs.records.records_in.Tie as tie
 
@@ -24,7 +24,7 @@ no-record-requires : tie.Need-no-record-requires Inv-loop μ-loop
 no-record-requires c κs = search needs
 
 loop-holds : tie.Need-loop-holds Inv-loop μ-loop
-loop-holds c = let lent = c .before .how-many-lent .ensures in (omega arith, few-lent _ _ (lent .0) (lent .1), refl, none-filled refl)
+loop-holds c = let lent = c .before .how-many-lent .ensures in (omega arith, few-lent _ _ _ (record { few = lent .0; many = lent .1 }), refl, none-filled refl)
 
 record-at-requires : tie.Need-record-at-requires Inv-loop μ-loop
 record-at-requires c κs = search needs
@@ -66,8 +66,8 @@ returns c =
       inv .1,
       ap (λ k. take k (here .records)) (sym all)
           ∙ inv .3 .front
-          ∙ ap (first-records bytes) all
-          ∙ records-lent bytes _ _ (lent .ensures .0) (lent .ensures .1),
+          ∙ ap (λ k. in-a-row (record-at bytes) record-bytes k 0) all
+          ∙ row-lent (record-at bytes) record-bytes _ _ _ (record { few = lent .ensures .0; many = lent .ensures .1 }),
     )
 
 pub records-in-spec : {M : Type 1} → statement M

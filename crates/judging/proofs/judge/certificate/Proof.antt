@@ -21,10 +21,10 @@ row-used-requires c κs = search needs
 
 returns : tie.Need-returns
 returns c =
-    λ state buffer list cs i e s.
+    λ state buffer list ps cs i e s strong.
     let next = c .before in
-    certificate-used _ _ _ _ _ (next .before .past .ensures .0) (next .past2 .ensures .0) _ (next .before .before .index-at .ensures)
-    (λ x. c .row-used .ensures state buffer list x s)
+    certificate-used ps _ _ _ _ _ (next .before .past .ensures .0) (next .past2 .ensures .0) _ (next .before .before .index-at .ensures)
+    (λ x few. c .row-used .ensures state buffer list ps x s few strong)
 
 pub certificate-spec : {M : Type 1} → statement M
 certificate-spec =

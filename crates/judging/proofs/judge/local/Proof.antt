@@ -21,7 +21,7 @@ nothing-requires c κs = search needs
 returns : tie.Need-returns
 returns c =
     let read = c .before .before .before in
-    λ state buffer list Γ i e s assumed few byte below.
+    λ state buffer list ps Γ i e s strong assumed few byte below.
     absurd (omega (arith, read .index-at .ensures ∙ index-is _ _ i e byte, c .before .before .if1 .taken))
 
 past-requires : tie.Need-past-requires
@@ -42,9 +42,9 @@ row-used-requires c κs = search needs
 returns-2 : tie.Need-returns-2
 returns-2 c =
     let next = c .before in
-    λ state buffer list Γ i e s.
-    local-used _ _ _ _ _ (next .before .past .ensures .0) (next .past2 .ensures .0) _ _ _ Γ refl (next .before .before .before .index-at .ensures)
-    (λ x. c .row-used .ensures state buffer list x s)
+    λ state buffer list ps Γ i e s strong.
+    local-used ps _ _ _ _ _ (next .before .past .ensures .0) (next .past2 .ensures .0) _ _ _ Γ refl (next .before .before .before .index-at .ensures)
+    (λ x few. c .row-used .ensures state buffer list ps x s few strong)
 
 pub local-spec : {M : Type 1} → statement M
 local-spec =

@@ -13,7 +13,7 @@ nothing-requires : tie.Need-nothing-requires
 nothing-requires c κs = search needs
 
 returns : tie.Need-returns
-returns c = λ state buffer list x s few row. absurd (omega (arith, c .before .before .if1 .taken))
+returns c = λ state buffer list ps x s few strong row. absurd (omega (arith, c .before .before .if1 .taken))
 
 row-at-requires : tie.Need-row-at-requires
 row-at-requires c κs = search needs
@@ -30,8 +30,8 @@ nothing-requires-2 c κs = search needs
 returns-2 : tie.Need-returns-2
 returns-2 c =
     let whose = c .before .before .before .before .enum-told .given .1 in
-    λ state buffer list x s few row.
-    shut-row _ _ _ s (rw (← c .before .before .before .before .before .before .before .before .row-at .ensures) at row) whose (c .before .before .if2 .taken)
+    λ state buffer list ps x s few strong row.
+    shut-row ps _ _ _ s (rw (← c .before .before .before .before .before .before .before .before .row-at .ensures) at row) whose (c .before .before .if2 .taken)
     (ap (λ r. r .ledger) (c .nothing2 .ensures) ∙ c .before .misfit2 .ensures)
 
 enum-known-whose : tie.Need-enum-known-whose
@@ -42,13 +42,13 @@ in-view-requires c κs = search needs
 
 returns-3 : tie.Need-returns-3
 returns-3 c =
-    λ state buffer list x s few row.
-    plain-row _ _ _ s (rw (← c .before .before .before .before .before .before .row-at .ensures) at row) (c .before .before .enum-told .given .1) (c .if2 .left) refl refl refl
+    λ state buffer list ps x s few strong row.
+    plain-row ps _ _ _ s (rw (← c .before .before .before .before .before .before .row-at .ensures) at row) (c .before .before .enum-told .given .1) (c .if2 .left) refl refl refl
 
 returns-4 : tie.Need-returns-4
 returns-4 c =
-    λ state buffer list x s few row.
-    claim-row _ _ _ s (rw (← c .before .before .before .before .before .before .row-at .ensures) at row) (c .before .before .whose .given .1) (c .in-view .ensures state list s) refl refl
+    λ state buffer list ps x s few strong row.
+    claim-row ps _ _ _ s (rw (← c .before .before .before .before .before .before .row-at .ensures) at row) (c .before .before .whose .given .1) (c .in-view .ensures ps strong state list s) refl refl
 
 pub row-used-spec : {M : Type 1} → statement M
 row-used-spec =

@@ -15,18 +15,18 @@ use Rattle.kept.proofs.opening.kept_demand_3.Tie as tie
 -- What the calls handed back, for names and bytes.
 called : (c : tie.After-number-in)
     → let verified = c .before .before .before in
-    let args = verified .before .before .before .before .before .before .args in
-    Called (args .who) (args .what) (args .right) (args .records .now) (args .buffer .now) (args .proof .now) (args .moment) (args .state .now)
-    (verified .office-verify .result) (verified .office-verify .last .1 .1 .1 .1 .1 .1 .0) (c .before .office-direct .result) (c .number-in .result)
+    let args = verified .before .before .before .before .before .before .before .args in
+    Called (args .who) (args .what) (args .right) (args .records .now) (args .buffer .now) (args .pairs .now) (args .proof .now) (args .moment) (args .state .now)
+    (verified .office-verify .result) (verified .office-verify .last .1 .1 .1 .1 .1 .1 .1 .0) (c .before .office-direct .result) (c .number-in .result)
 called c =
     let verified = c .before .before .before in
     let known = verified .before .before in
-    let fits = known .before .before .before .before .fits in
+    let fits = known .before .before .before .before .before .fits in
     record {
       names = are-names _ _ _ (fits .who) (fits .what) (fits .right);
-      buffer-is-bytes = are-bytes _ (known .before .before .shared-slice-known2 .given);
-      proof-is-bytes = are-bytes _ (known .before .shared-slice-known3 .given);
-      state-is-bytes = are-bytes _ (known .shared-slice-known4 .given);
+      buffer-is-bytes = are-bytes _ (known .before .before .before .shared-slice-known2 .given);
+      proof-is-bytes = are-bytes _ (known .before .shared-slice-known4 .given);
+      state-is-bytes = are-bytes _ (known .shared-slice-known5 .given);
       verifies = verified .office-verify .ensures;
       checks = c .before .office-direct .ensures;
       is-found = c .number-in .ensures;
@@ -37,7 +37,7 @@ returns c = nothing-accepted (called (c .before .before)) (λ zero. c .if1 .take
 
 -- No more is told than the longest text has, which is the room that was lent.
 short : (c : tie.After-office-verify) → length-in (c .office-verify .result) ≤ most-text
-short c = told-is-short _ _ _ _ (c .office-verify .ensures) (verifying-is-short _ _ _ _ _)
+short c = told-is-short _ _ _ _ (c .office-verify .ensures) (verifying-is-short _ _ _ _ _ _)
 
 array-share-prefix-text : tie.Need-array-share-prefix-text
 array-share-prefix-text c = omega (arith, c .length-in .ensures, short (c .before .before .before .before .before .before))

@@ -9,15 +9,15 @@ use Rattle.verifier.proofs.verify.check_case.Statement.{statement}
 use Rattle.verifier.proofs.verify.check_case.Tie as tie
 
 returns : tie.Need-returns
-returns c = λ cs N reads. moment-above _ cs N _ _ (c .if1 .taken)
+returns c = λ π N reads. moment-above _ π N _ _ (c .if1 .taken)
 
 returns-2 : tie.Need-returns-2
 returns-2 c =
     let told = c .before .well-formed in
     let moment = c .before .before in
-    let state = moment .before .before .before .before .before .before .args .state .now in
-    λ cs N reads.
-    state-says-nothing _ cs N _ _ (moment .if1 .left) (fails-where (told .result) {P = WellFormed state} (c .if2 .taken) (told .ensures))
+    let state = moment .before .before .before .before .before .before .before .args .state .now in
+    λ π N reads.
+    state-says-nothing _ π N _ _ (moment .if1 .left) (fails-where (told .result) {P = WellFormed state} (c .if2 .taken) (told .ensures))
 
 returns-3 : tie.Need-returns-3
 returns-3 c =
@@ -25,10 +25,10 @@ returns-3 c =
     let formed = walk .before .before in
     let told = formed .before .well-formed in
     let moment = formed .before .before in
-    let state = moment .before .before .before .before .before .before .args .state .now in
+    let state = moment .before .before .before .before .before .before .before .args .state .now in
     let says : WellFormed state = holds-else (told .result) (formed .if2 .left) (told .ensures) in
-    λ cs N reads.
-    check-stopped _ _ _ _ _ _ _ (replicate 160 0) _ _ refl (walk .walked .ensures) cs N reads _ refl (moment .if1 .left)
+    λ π N reads.
+    check-stopped _ _ _ _ _ (replicate 160 0) _ _ refl (walk .walked .ensures) π N reads _ refl (moment .if1 .left)
     (says .0) (says .1) _ (sym (c .before .before .before .stop .ensures) ∙ c .before .stop2 .given .1)
 
 returns-4 : tie.Need-returns-4
@@ -37,10 +37,10 @@ returns-4 c =
     let formed = walk .before .before in
     let told = formed .before .well-formed in
     let moment = formed .before .before in
-    let state = moment .before .before .before .before .before .before .args .state .now in
+    let state = moment .before .before .before .before .before .before .before .args .state .now in
     let says : WellFormed state = holds-else (told .result) (formed .if2 .left) (told .ensures) in
-    λ cs N reads.
-    check-accepted _ _ _ _ _ _ _ (replicate 160 0) _ _ refl (walk .walked .ensures) cs N reads _ refl (moment .if1 .left)
+    λ π N reads.
+    check-accepted _ _ _ _ _ (replicate 160 0) _ _ refl (walk .walked .ensures) π N reads _ refl (moment .if1 .left)
     (says .0) (says .1) (sym (c .before .before .stop .ensures) ∙ c .enum-told .given .1)
 
 pub check-case-spec : {M : Type 1} → statement M

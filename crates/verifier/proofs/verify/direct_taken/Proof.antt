@@ -9,7 +9,7 @@ returns : tie.Need-returns
 returns c =
     let tested = c .before .before .before .before .malformed .ensures in
     λ records many taken.
-    direct-stops _ records _ _ taken _ _ _ (stopped-with _ _ _ (c .before .answer .given .1) (tested .0 records _ many (taken .stops)))
+    direct-stops _ records _ _ _ taken _ _ _ (stopped-with _ _ _ (c .before .answer .given .1) (tested .0 records _ many (taken .stops)))
 
 returns-2 : tie.Need-returns-2
 returns-2 c =
@@ -17,7 +17,7 @@ returns-2 c =
     let tested = c .before .before .before .before .before .malformed .ensures in
     λ records many taken.
     let case = went-with _ _ going (tested .0 records _ many (taken .stops)) in
-    direct-goes-on _ records _ _ taken _ _ _ (λ N reads. tested .1 going N (omega arith) (rw many at reads)) (case .0) (case .1) (c .check-case .ensures)
+    direct-goes-on _ records _ _ _ taken _ _ _ (λ N reads. tested .1 going N (omega arith) (rw many at reads)) (case .0) (case .1) (c .check-case .ensures)
 
 pub direct-taken-spec : {M : Type 1} → statement M
 direct-taken-spec =

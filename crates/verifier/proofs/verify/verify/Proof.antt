@@ -1,4 +1,4 @@
--- The records are taken into the rows, and what verify answers from the rows is what it answers to the records: `verify` is a call over lent records, with the proof as its one further parameter.
+-- The records are taken into the rows, and what verify answers from the rows is what it answers to the records: `verify` is a call over lent records, with the pairs and the proof as its further parameters.
 use mathlib.Core.Path.{refl}
 use mathlib.Core.List.{List, [], _∷_}
 use mir.Syntax.{named}
@@ -8,7 +8,7 @@ use ghost.Atoms.{Atoms}
 use contract.Running.{givenOf, tables, tablesOf}
 use types.Kit.{Given}
 use sound.WpLaws.{FmC, fmOf}
-use denote.Builtin.{u8}
+use denote.Builtin.{u8, u32}
 use denote.Signature.{Slot, shrSlice}
 use denote.Struct.Laws as LL
 use denote.Triple.Spec.{tripleOf}
@@ -32,9 +32,9 @@ use Rattle.verifier.proofs.verify.verify as verify
 use Rattle.verifier.proofs.verify.verify.Statement as stated
 use Rattle.verifier.proofs.verify.verify.Code as code
 
--- The proof.
-abbrev rest : List (Slot 3)
-rest = shrSlice 2 tt (λ _. u8) ∷ []
+-- The pairs and the proof.
+abbrev rest : List (Slot 4)
+rest = shrSlice 2 tt (λ _. u32) ∷ shrSlice 3 tt (λ _. u8) ∷ []
 
 pub verify-spec : {M : Type 1} → stated.statement M
 unfolding code.routine tablesOf
@@ -44,11 +44,11 @@ verify-spec 𝓤 H 𝓜 𝓖 𝓡 =
     let 𝓣 : Tables 𝓤 H = tablesOf 𝓤 H 𝓜 (tables 𝓤 H 𝓜 𝓡 code.env) in
     let fm : FmC 𝓤 H (W .laws) (𝓣 .C) = fmOf 𝓤 H (W .laws) 𝓣 in
     entered 𝓤 H (tripleOf 𝓤 H A verify.signature (verify.spec 𝓤 H A (𝓜 .mem) (𝓡 .run))) (𝓣 .C) (𝓣 .Λ) #verify code.function (code.unfolded 𝓤 H 𝓜 𝓡)
-    (over-records 1 rest Vd.the-row Vd′.mir #onward 𝓤 H A W (𝓜 .mem) (𝓡 .run) (𝓣 .C) (𝓣 .Λ) fm
+    (over-records 2 rest Vd.the-row Vd′.mir #onward 𝓤 H A W (𝓜 .mem) (𝓡 .run) (𝓣 .C) (𝓣 .Λ) fm
     (cited 𝓤 H (Taking 𝓤 H A (𝓜 .mem) (𝓡 .run)) 𝓜 𝓡 code.env #taken taken-def.routine code.calls-verifier·certificates·take-records (taken-thm.met 𝓤 H 𝓜 𝓖 𝓡))
-    (verify.clauses 𝓤 H A (𝓜 .mem) (𝓡 .run)) (λ κs. (slice 𝓤 H A W (named 2) (κs .1 .1 .0) u8, tt)) (λ κs. refl)
+    (verify.clauses 𝓤 H A (𝓜 .mem) (𝓡 .run)) (λ κs. (slice 𝓤 H A W (named 2) (κs .1 .1 .0) u32, (slice 𝓤 H A W (named 3) (κs .1 .1 .1 .0) u8, tt))) (λ κs. refl)
     (LL.makes Vd.the-type Vd′.the-plain 𝓤 H A) (λ r u is. LL.lawful Vd.the-type Vd′.the-laws 𝓤 H A W .typed r _ is .0)
-    (λ κs a records. HandsOver (verified (a .0) records (a .1 .1 .0 .now) (a .1 .1 .1 .0 .now))) (λ κs a g r h e. both-hold 𝓤 (h .answer) (h .procap))
+    (λ κs a records. HandsOver (verified (a .0) records (a .1 .1 .0 .now) (a .1 .1 .1 .0 .now) (a .1 .1 .1 .1 .0 .now))) (λ κs a g r h e. both-hold 𝓤 (h .answer) (h .procap))
     (λ κs qs a vss l zs halt w β γ.
     gives-back 𝓤 H A W onward.ended (onward.clauses 𝓤 H A (𝓜 .mem) (𝓡 .run)) (𝓣 .C) fm #onward
     (cited 𝓤 H (tripleOf 𝓤 H A onward.signature (onward.spec 𝓤 H A (𝓜 .mem) (𝓡 .run))) 𝓜 𝓡 code.env #onward onward-def.routine code.calls-verifier·verify·verify-taken (onward-thm.met 𝓤 H 𝓜 𝓖 𝓡))

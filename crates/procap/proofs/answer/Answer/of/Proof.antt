@@ -1,4 +1,4 @@
--- A number that is an answer's picks it; a number that is none of the fourteen picks what stands for no answer's.
+-- A number that is an answer's picks it; a number that is none of the fifteen picks what stands for no answer's.
 use Prim.Native.Nat.{ℕ}
 use borrow.Author.Tests.{ne-eqb}
 use mathlib.Core.Path.{_≡_, ap, sym}
@@ -10,10 +10,11 @@ use Rattle.procap.proofs.answer.Answer.of.Tie as tie
 row : (place : ℕ) {n k : ℕ} → n ≡ k → answer-with k place ≡ answer-with n place
 row place e = sym (ap (λ n. answer-with n place) e)
 
-returns-15 : tie.Need-returns-15
+returns-16 : tie.Need-returns-16
 unfolding answer-with
-returns-15 c =
+returns-16 c =
     simp (
+      ne-eqb _ _ (c .match .rest .0 .0 .0 .0 .0 .0 .0 .0 .0 .0 .0 .0 .0 .0 .1),
       ne-eqb _ _ (c .match .rest .0 .0 .0 .0 .0 .0 .0 .0 .0 .0 .0 .0 .0 .1),
       ne-eqb _ _ (c .match .rest .0 .0 .0 .0 .0 .0 .0 .0 .0 .0 .0 .0 .1),
       ne-eqb _ _ (c .match .rest .0 .0 .0 .0 .0 .0 .0 .0 .0 .0 .0 .1),
@@ -49,4 +50,5 @@ of-spec =
     (λ c. row _ (c .match .keys12))
     (λ c. row _ (c .match .keys13))
     (λ c. row _ (c .match .keys14))
-    returns-15)
+    (λ c. row _ (c .match .keys15))
+    returns-16)

@@ -1,0 +1,2 @@
+-- Numbers that rise.
+pub mod Rising

@@ -1,0 +1,8 @@
+-- The length tells.
+use borrow.Author.Needs.{needs}
+use Rattle.verifier.proofs.Answers.{few-pairs, too-many-pairs}
+use Rattle.verifier.proofs.verify.pairs_taken.Statement.{statement}
+use Rattle.verifier.proofs.verify.pairs_taken.Tie as tie
+
+pub pairs-taken-spec : {M : Type 1} → statement M
+pairs-taken-spec = tie.close (tie.spec (λ c. (_, few-pairs _ (c .if1 .taken))) (λ c. too-many-pairs _ (c .if1 .left)))
