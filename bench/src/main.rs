@@ -14,6 +14,9 @@ mod states;
 #[allow(dead_code)]
 #[path = "../../tests/rust/src/bin/compare/wire.rs"]
 mod wire;
+#[allow(dead_code)]
+#[path = "../../tests/rust/src/bin/compare/wire_pairs.rs"]
+mod wire_pairs;
 
 use measure::{best_of_both, Calls};
 use rows::{rows, Row};

@@ -4,6 +4,7 @@ use crate::archive;
 use crate::measure::Calls;
 use crate::state::opening_state;
 use crate::wire::records_in_bytes;
+use crate::wire_pairs::pairs_in_bytes;
 use second_opinion::data::{Answer, Case, Procap};
 use second_opinion::generate::{at_a_limit, valid, Random};
 use second_opinion::second::{self, NoWatch};
@@ -51,6 +52,7 @@ pub struct Row {
     from: From,
     case: Case,
     records: Vec<u8>,
+    pairs: Vec<u8>,
     procap: Procap,
     text: Vec<u8>,
     state: Vec<u8>,
@@ -66,6 +68,7 @@ impl Row {
             what,
             from,
             records: records_in_bytes(&case.records),
+            pairs: pairs_in_bytes(&case.pairs),
             text: second::text_of(&procap).expect("what is issued can be written"),
             state: opening_state(&procap),
             case,
@@ -111,6 +114,7 @@ impl Row {
                         request,
                         records: black_box(&self.records),
                         buffer: &self.case.buffer,
+                        pairs: &self.pairs,
                         proof: &self.case.proof,
                     };
                     let returned = archive::verify(&case, &mut out);

@@ -37,12 +37,20 @@ pub struct Record {
     pub length: u64,
 }
 
+/// That one principal stands above another.
+#[derive(Clone, Copy, Debug, PartialEq, Eq)]
+pub struct Pair {
+    pub stronger: u16,
+    pub weaker: u16,
+}
+
 /// All that verify is asked about.
 #[derive(Clone, Debug, PartialEq, Eq)]
 pub struct Case {
     pub request: Request,
     pub records: Vec<Record>,
     pub buffer: Vec<u8>,
+    pub pairs: Vec<Pair>,
     pub proof: Vec<u8>,
 }
 

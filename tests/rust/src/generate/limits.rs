@@ -76,6 +76,7 @@ pub fn case(request: Request, policy: &[Certificate], inside: Step) -> Case {
         request,
         records,
         buffer,
+        pairs: Vec::new(),
         proof: Step::over(tags::SAYS_IN, vec![inside]).bytes(),
     }
 }

@@ -34,6 +34,7 @@ pub fn raw(random: &mut Random) -> Case {
         proof: raw_proof(random, records.len() as u64),
         records,
         buffer,
+        pairs: Vec::new(),
     }
 }
 

@@ -1,20 +1,20 @@
 //! The clauses of the rules, by name, the ways in which an order comes out, and who may watch them being tried.
 
-use crate::data::Time;
+use crate::data::{Pair, Time};
 
 /// One clause of one rule: a test that can hold or fail.
 #[derive(Clone, Copy, Debug, PartialEq, Eq, PartialOrd, Ord, Hash)]
 pub enum Clause {
-    /// 20: whoever claims the assumption is the principal of the view.
-    ClaimInItsView,
+    /// 20: whoever claims the assumption is at least as strong as the principal of the view.
+    ClaimStrongEnough,
     /// 20: the claim's interval begins no later than the view's.
     ClaimFromViewsStart,
     /// 20: the view's interval ends no later than the claim's.
     ClaimToViewsEnd,
     /// 20: a plain assumption was made inside of the innermost says-in.
     PlainFromInside,
-    /// 21: the certificate's principal is the principal of the view.
-    CertificateInItsView,
+    /// 21: the certificate's principal is at least as strong as the principal of the view.
+    CertificateStrongEnough,
     /// 21: the certificate's interval begins no later than the view's.
     CertificateFromViewsStart,
     /// 21: the view's interval ends no later than the certificate's.
@@ -90,11 +90,11 @@ pub enum Clause {
 impl Clause {
     /// Every clause there is.
     pub const ALL: &'static [Clause] = &[
-        Clause::ClaimInItsView,
+        Clause::ClaimStrongEnough,
         Clause::ClaimFromViewsStart,
         Clause::ClaimToViewsEnd,
         Clause::PlainFromInside,
-        Clause::CertificateInItsView,
+        Clause::CertificateStrongEnough,
         Clause::CertificateFromViewsStart,
         Clause::CertificateToViewsEnd,
         Clause::FirstOfConjunction,
@@ -165,12 +165,15 @@ impl Verdict {
     }
 }
 
-/// Watches a walk: which clauses were tried, which orders asked, how they came out, which steps and formulas were met.
+/// Watches a walk: which clauses were tried, which orders and which strengths asked, how they came out, which steps and
+/// formulas were met.
 pub trait Watch {
     /// A clause was tried, and held or not.
     fn clause(&mut self, _clause: Clause, _held: bool) {}
     /// A clause asked whether left is not after right, and this came out.
     fn order(&mut self, _clause: Clause, _left: Time, _right: Time, _verdict: Verdict) {}
+    /// A clause asked whether the first of two principals is at least as strong as the second by these pairs.
+    fn strength(&mut self, _clause: Clause, _pairs: &[Pair], _asked: (u16, u16), _held: bool) {}
     /// A step with this tag was walked.
     fn step(&mut self, _tag: u8) {}
     /// A formula with this tag was read from a certificate.

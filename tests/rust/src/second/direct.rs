@@ -17,5 +17,5 @@ pub fn direct<W: Watch>(
     let (certificates, proof) = read_case(case, watch)?;
     let state = State::at(moment, state)?;
     let mut press = Press { moment, state };
-    walk(case.request, &certificates, &proof, &mut press, watch)
+    walk(case, &certificates, &proof, &mut press, watch)
 }

@@ -11,7 +11,7 @@ use super::terms::sort_of;
 use super::times::Interval;
 use super::trying::Trial;
 use super::viewing::{View, Viewer, Words};
-use crate::data::{Answer, Request, Term, Time};
+use crate::data::{Answer, Case, Term, Time};
 use std::rc::Rc;
 
 /// A formula that holds on an interval.
@@ -35,9 +35,9 @@ pub struct Walk<'a, R, W> {
     pub trial: Trial<'a, R, W>,
 }
 
-/// Walks a proof of a request up to its first fault.
+/// Walks the proof of a case up to its first fault, with its certificates as they were read.
 pub fn walk<R: Reading, W: Watch>(
-    request: Request,
+    case: &Case,
     certificates: &[Certificate],
     proof: &Step,
     reading: &mut R,
@@ -46,10 +46,10 @@ pub fn walk<R: Reading, W: Watch>(
     let mut walk = Walk {
         certificates,
         assumptions: Vec::new(),
-        trial: Trial::new(reading, watch),
+        trial: Trial::new(&case.pairs, reading, watch),
     };
     let goal = Goal {
-        formula: &Formula::wanted(request),
+        formula: &Formula::wanted(case.request),
         interval: Interval {
             from: Time::Ctime,
             to: Time::Ctime,

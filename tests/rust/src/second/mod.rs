@@ -16,6 +16,7 @@ mod reading;
 mod spelling;
 mod state;
 mod steps;
+mod strength;
 mod terms;
 mod text;
 mod times;

@@ -35,12 +35,13 @@ pub fn case_of(input: &[u8]) -> Result<Case, Answer> {
     case.ok_or_else(|| Answer::refused(14, lines.number()))
 }
 
-/// The case on these lines, if they have the form of one.
+/// The case on these lines, if they have the form of one. No line is for pairs.
 fn read_case(lines: &mut Lines) -> Option<Case> {
     let mut case = Case {
         request: read_request(lines)?,
         records: Vec::new(),
         buffer: Vec::new(),
+        pairs: Vec::new(),
         proof: Vec::new(),
     };
     let groups = lines.field(b"certs=", |rest| decimal(rest, MOST_GROUPS))?;

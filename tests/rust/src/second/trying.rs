@@ -2,18 +2,24 @@
 
 use super::clauses::{Clause, Verdict, Watch};
 use super::reading::Reading;
-use crate::data::{Answer, Fact, Time};
+use super::strength::at_least_as_strong;
+use crate::data::{Answer, Fact, Pair, Time};
 
-/// Tries clauses in one reading, and somebody watches.
+/// Tries clauses under the pairs of a case, in one reading, and somebody watches.
 pub struct Trial<'a, R, W> {
+    pairs: &'a [Pair],
     reading: &'a mut R,
     watch: &'a mut W,
 }
 
 impl<'a, R: Reading, W: Watch> Trial<'a, R, W> {
-    /// A trial in this reading, for this watch.
-    pub fn new(reading: &'a mut R, watch: &'a mut W) -> Trial<'a, R, W> {
-        Trial { reading, watch }
+    /// A trial under these pairs, in this reading, for this watch.
+    pub fn new(pairs: &'a [Pair], reading: &'a mut R, watch: &'a mut W) -> Trial<'a, R, W> {
+        Trial {
+            pairs,
+            reading,
+            watch,
+        }
     }
 
     /// The walk has come to a step with this tag.
@@ -30,6 +36,14 @@ impl<'a, R: Reading, W: Watch> Trial<'a, R, W> {
     pub fn found<T>(&mut self, clause: Clause, found: Option<T>, offset: u64) -> Result<T, Answer> {
         self.watch.clause(clause, found.is_some());
         found.ok_or(Answer::refused(3, offset))
+    }
+
+    /// Whether a principal is at least as strong as another, which a clause asks.
+    pub fn strong_enough(&mut self, clause: Clause, principal: u16, other: u16) -> bool {
+        let held = at_least_as_strong(self.pairs, principal, other);
+        self.watch
+            .strength(clause, self.pairs, (principal, other), held);
+        held
     }
 
     /// Goes on where the reading lets left be not after right.

@@ -22,8 +22,8 @@ pub struct View {
 
 /// What somebody's words must pass before they are used, in this order.
 pub struct Words {
-    /// Whoever they are from is the principal of the view.
-    in_its_view: Clause,
+    /// Whoever they are from is at least as strong as the principal of the view.
+    strong_enough: Clause,
     /// They hold from the view's start at the latest.
     from_views_start: Clause,
     /// They hold to the view's end at least.
@@ -33,14 +33,14 @@ pub struct Words {
 impl Words {
     /// What a claim must pass.
     pub const OF_A_CLAIM: Words = Words {
-        in_its_view: Clause::ClaimInItsView,
+        strong_enough: Clause::ClaimStrongEnough,
         from_views_start: Clause::ClaimFromViewsStart,
         to_views_end: Clause::ClaimToViewsEnd,
     };
 
     /// What a certificate must pass.
     pub const OF_A_CERTIFICATE: Words = Words {
-        in_its_view: Clause::CertificateInItsView,
+        strong_enough: Clause::CertificateStrongEnough,
         from_views_start: Clause::CertificateFromViewsStart,
         to_views_end: Clause::CertificateToViewsEnd,
     };
@@ -62,8 +62,10 @@ impl View {
         interval: Interval,
         offset: u64,
     ) -> Result<(), Answer> {
-        let same = self.viewer.filter(|viewer| viewer.principal == principal);
-        let viewed = trial.found(words.in_its_view, same, offset)?.interval;
+        let clause = words.strong_enough;
+        let strong = |viewer: &Viewer| trial.strong_enough(clause, principal, viewer.principal);
+        let viewer = self.viewer.filter(strong);
+        let viewed = trial.found(clause, viewer, offset)?.interval;
         trial.not_after(words.from_views_start, interval.from, viewed.from, offset)?;
         trial.not_after(words.to_views_end, viewed.to, interval.to, offset)
     }

@@ -53,13 +53,7 @@ fn grant_all(case: &Case, moment: u64, facts: &mut Vec<Fact>) -> Result<(), Answ
         press: Press { moment, state },
         facts: Vec::new(),
     };
-    let walked = walk(
-        case.request,
-        &certificates,
-        &proof,
-        &mut granting,
-        &mut NoWatch,
-    );
+    let walked = walk(case, &certificates, &proof, &mut granting, &mut NoWatch);
     *facts = granting.facts;
     walked
 }

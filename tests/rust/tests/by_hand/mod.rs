@@ -1,7 +1,7 @@
 //! What cases made by hand are made of. Each file of tests uses a part of it.
 #![allow(dead_code)]
 
-use second_opinion::data::{Answer, Case, Procap, Record, Request, Time, LATEST};
+use second_opinion::data::{Answer, Case, Pair, Procap, Record, Request, Time, LATEST};
 use second_opinion::second::{direct, door, verify, NoWatch};
 
 /// The request of every case: 2 asks to use 7 by the right 9.
@@ -61,6 +61,7 @@ pub fn case(said: &[Said], proof: &str) -> Case {
         request: REQUEST,
         records: Vec::new(),
         buffer: Vec::new(),
+        pairs: Vec::new(),
         proof: bytes(proof),
     };
     for (principal, (from, to), formula) in said {
@@ -75,6 +76,17 @@ pub fn case(said: &[Said], proof: &str) -> Case {
         case.buffer.extend(formula);
     }
     case
+}
+
+/// The case with these pairs, the stronger of each first.
+pub fn lending(pairs: &[(u16, u16)], case: Case) -> Case {
+    let pairs = pairs
+        .iter()
+        .map(|&(stronger, weaker)| Pair { stronger, weaker });
+    Case {
+        pairs: pairs.collect(),
+        ..case
+    }
 }
 
 /// A case where 1 says these formulas for all time.
@@ -119,7 +131,12 @@ pub fn issued(case: &Case, states: &[&str]) -> Result<Procap, Answer> {
 
 /// What verify says where these certificates are; the direct check must accept just where its procap opens.
 pub fn told(said: &[Said], proof: &str) -> Told {
-    briefly(issued(&case(said, proof), &[""]))
+    told_by(&[], said, proof)
+}
+
+/// The same where these pairs are lent.
+pub fn told_by(pairs: &[(u16, u16)], said: &[Said], proof: &str) -> Told {
+    briefly(issued(&lending(pairs, case(said, proof)), &[""]))
 }
 
 /// What the direct check says where these certificates are.

@@ -6,6 +6,7 @@ use crate::difference::Outcome;
 use crate::options::Options;
 use crate::questions::{far_too_long, presses, program, records, text, values, verify};
 use crate::wire::{records_in_bytes, respell};
+use crate::wire_pairs::{cut_short, pairs_in_bytes};
 use second_opinion::data::Case;
 use second_opinion::generate::Random;
 
@@ -14,6 +15,8 @@ pub struct Asking<'a> {
     pub case: &'a Case,
     /// The case's records in the archive's bytes.
     pub records: Vec<u8>,
+    /// The case's pairs in the archive's bytes, the last of which may be incomplete.
+    pub pairs: Vec<u8>,
     pub index: u64,
     pub random: Random,
     pub options: &'a Options,
@@ -33,9 +36,14 @@ impl<'a> Asking<'a> {
         if random.one_in(4) {
             respell(&mut random, &mut records);
         }
+        let mut pairs = pairs_in_bytes(&case.pairs);
+        if random.one_in(2) {
+            cut_short(&mut random, &mut pairs);
+        }
         Asking {
             case,
             records,
+            pairs,
             index,
             random,
             options,
@@ -49,6 +57,7 @@ impl<'a> Asking<'a> {
             request: self.case.request,
             records: &self.records,
             buffer: &self.case.buffer,
+            pairs: &self.pairs,
             proof: &self.case.proof,
         }
     }

@@ -18,6 +18,7 @@ mod states;
 mod tables;
 mod tables_orders;
 mod wire;
+mod wire_pairs;
 
 use coverage::Coverage;
 use options::{seed_from_the_clock, Options, USAGE};

@@ -1,5 +1,6 @@
 //! Cases and states in bytes, and bytes in hex.
 
+use crate::wire_pairs::{pairs_from_bytes, pairs_in_bytes};
 use second_opinion::data::{Case, Fact, Record, Request, Term, Time};
 use second_opinion::generate::Random;
 
@@ -92,18 +93,19 @@ fn records_from_bytes(bytes: &[u8]) -> Option<Vec<Record>> {
     whole.then(|| records.collect())
 }
 
-/// A case on one line: the request, the records, the buffer, the proof.
+/// A case on one line: the request, the records, the buffer, the pairs, the proof.
 pub fn case_in_words(case: &Case) -> String {
     let Request { who, what, right } = case.request;
     let records = hex(&records_in_bytes(&case.records));
-    let (buffer, proof) = (hex(&case.buffer), hex(&case.proof));
-    format!("{who},{what},{right}/{records}/{buffer}/{proof}")
+    let [buffer, pairs, proof] =
+        [&case.buffer, &pairs_in_bytes(&case.pairs), &case.proof].map(|bytes| hex(bytes));
+    format!("{who},{what},{right}/{records}/{buffer}/{pairs}/{proof}")
 }
 
 /// The case that such a line spells, if it does.
 pub fn case_from_words(words: &str) -> Option<Case> {
     let parts: Vec<&str> = words.trim().split('/').collect();
-    let [request, records, buffer, proof] = parts[..] else {
+    let [request, records, buffer, pairs, proof] = parts[..] else {
         return None;
     };
     let names: Option<Vec<u16>> = request.split(',').map(|name| name.parse().ok()).collect();
@@ -114,6 +116,7 @@ pub fn case_from_words(words: &str) -> Option<Case> {
         request: Request { who, what, right },
         records: records_from_bytes(&unhex(records)?)?,
         buffer: unhex(buffer)?,
+        pairs: pairs_from_bytes(&unhex(pairs)?),
         proof: unhex(proof)?,
     })
 }
