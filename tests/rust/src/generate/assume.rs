@@ -67,10 +67,10 @@ impl Office<'_> {
         pair(tags::AT_OUT, Some(first.step), second)
     }
 
-    /// The goal checked with a claim from a `says`, of the principal whose words the goal asks for.
+    /// The goal checked with a claim from a `says`, of a principal whose words can be used where the goal asks for some.
     fn says_out(&mut self, goal: &Goal) -> Option<Step> {
         let helped = self.helped(goal, true);
-        let name = helped.view.principal;
+        let name = self.speaker(helped.view.principal);
         let formula = self.helpful(&helped.formula, helped.levels - 2);
         let whole = Formula::says(Word::name(name), formula.clone());
         let span = self.claimed_on(&helped);

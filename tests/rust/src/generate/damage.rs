@@ -3,6 +3,7 @@
 use super::clock::any_moment;
 use super::damage_bytes::damaged_bytes;
 use super::damage_formula::damaged_formula;
+use super::damage_pairs::damage_pairs;
 use super::damage_proof::damaged_proof;
 use super::formula::read_formula;
 use super::step::read_proof;
@@ -22,6 +23,10 @@ pub fn damaged(random: &mut Random, case: &Case) -> Case {
 /// The case with one small damage that may change nothing.
 fn perhaps_damaged(random: &mut Random, case: &Case) -> Case {
     let mut other = case.clone();
+    if !other.pairs.is_empty() && random.one_in(3) {
+        damage_pairs(random, &mut other.pairs);
+        return other;
+    }
     match random.below(20) {
         0..=7 => in_proof(random, &mut other),
         8..=11 => in_formula(random, &mut other),

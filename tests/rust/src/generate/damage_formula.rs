@@ -1,5 +1,6 @@
 //! One small damage to a certificate's formula that leaves it readable more often than not.
 
+use super::constant::some_constant;
 use super::damage_proof::another_word;
 use super::formula::Formula;
 use super::tags;
@@ -62,17 +63,9 @@ fn change(random: &mut Random, formula: &mut Formula, whole: &Formula) -> bool {
         13 => arguments_changed(random, formula),
         14 => swapped(random, formula),
         _ => {
-            *formula = some_constant(random);
+            *formula = some_constant(random, 2);
             true
         }
-    }
-}
-
-/// Top or falsity.
-fn some_constant(random: &mut Random) -> Formula {
-    match random.below(2) {
-        0 => Formula::top(),
-        _ => Formula::falsity(),
     }
 }
 
@@ -135,8 +128,8 @@ fn wrapped(random: &mut Random, formula: Formula) -> Formula {
         4 => Formula::both(formula, Formula::top()),
         5 => Formula::both(Formula::top(), formula),
         6 => Formula::implies(formula, Formula::top()),
-        7 => Formula::either(formula, some_constant(random)),
-        8 => Formula::either(some_constant(random), formula),
+        7 => Formula::either(formula, some_constant(random, 2)),
+        8 => Formula::either(some_constant(random, 2), formula),
         _ => Formula::implies(Formula::top(), formula),
     }
 }

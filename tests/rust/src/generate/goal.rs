@@ -4,7 +4,8 @@ use super::clock::Span;
 use super::formula::Formula;
 use super::step::Step;
 
-/// In whose view something is to be shown, and on which span: what is used there is the principal's and covers the span.
+/// In whose view something is to be shown, and on which span: what is used there is the principal's, or of one who
+/// stands above it, and covers the span.
 #[derive(Clone, Copy, Debug, PartialEq, Eq)]
 pub struct View {
     pub principal: u16,

@@ -6,6 +6,7 @@ use super::formula::Formula;
 use super::goal::{Goal, Inferred, View};
 use super::matching::ways;
 use super::office::{Certificate, Office};
+use super::ranks::all_above;
 use super::step::Step;
 use super::tags;
 use crate::data::Time;
@@ -44,10 +45,12 @@ impl Office<'_> {
     /// All ways to the goal from assumptions and certificates at hand.
     fn at_hand(&mut self, goal: &Goal) -> Vec<Way> {
         let mut found = Vec::new();
+        let above = all_above(&self.pairs, goal.view.principal);
         let count = self.scope.len();
         for (position, assumption) in self.scope.iter().enumerate() {
             let (span, claimed_by) = (assumption.span, assumption.claimed_by);
-            let claim_fits = claimed_by.is_none_or(|name| self.usable(name, span, goal.view));
+            let usable = |name| self.usable(&above, name, span, goal.view);
+            let claim_fits = claimed_by.is_none_or(usable);
             if claim_fits && !assumption.hidden && self.clock.covers(span, goal.span) {
                 let step = Step::named(tags::LOCAL, count - 1 - position);
                 let plans = ways(self.random, &self.clock, &assumption.formula, &goal.formula);
@@ -56,7 +59,7 @@ impl Office<'_> {
         }
         for (index, certificate) in self.policy.iter().enumerate() {
             let span = certificate.span;
-            let usable = self.usable(certificate.principal, span, goal.view);
+            let usable = self.usable(&above, certificate.principal, span, goal.view);
             if usable && self.clock.covers(span, goal.span) {
                 let step = Step::certificate(index);
                 let plans = ways(
@@ -71,9 +74,10 @@ impl Office<'_> {
         found
     }
 
-    /// Whether a view lets words of a principal on a span be used, as the clock stands.
-    fn usable(&self, principal: u16, span: Span, view: View) -> bool {
-        principal == view.principal && self.clock.covers(span, view.span)
+    /// Whether a view lets words of a principal on a span be used, as the clock stands and where these are as strong
+    /// as the view's principal.
+    fn usable(&self, strong: &[u16], principal: u16, span: Span, view: View) -> bool {
+        strong.contains(&principal) && self.clock.covers(span, view.span)
     }
 
     /// The goal inferred from a certificate written for it.
@@ -87,7 +91,8 @@ impl Office<'_> {
         let (grown, plan) = self.grown(goal.formula.clone(), goal.levels, moves, asking);
         let (formula, plan) = self.without_ctime(grown, plan);
         let both = self.clock.around_both(goal.span, goal.view.span);
-        let head = self.certified(goal.view.principal, both, formula)?;
+        let speaker = self.speaker(goal.view.principal);
+        let head = self.certified(speaker, both, formula)?;
         self.followed(head, &plan, goal)
     }
 

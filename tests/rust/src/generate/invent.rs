@@ -1,5 +1,6 @@
 //! Formulas out of nothing: ones that the office will show, and ones that only stand beside.
 
+use super::constant::some_constant;
 use super::formula::Formula;
 use super::office::Office;
 use super::word::{Sort, Word};
@@ -87,21 +88,13 @@ impl Office<'_> {
     /// A closed formula of one level.
     fn fresh_leaf(&mut self) -> Formula {
         match self.random.below(10) {
-            0 => self.some_constant(3),
+            0 => some_constant(self.random, 3),
             1..=2 => self.some_order(),
             3..=4 => self.some_fact(),
             _ => {
                 let words = self.arguments();
                 Formula::atom(self.predicate(), words)
             }
-        }
-    }
-
-    /// Top or, once in so many times, falsity.
-    fn some_constant(&mut self, falsity_one_in: u64) -> Formula {
-        match self.random.one_in(falsity_one_in) {
-            true => Formula::falsity(),
-            false => Formula::top(),
         }
     }
 
@@ -181,7 +174,7 @@ impl Office<'_> {
     fn open_leaf(&mut self, around: &[Sort]) -> Formula {
         let count = self.random.below(5);
         match self.random.below(6) {
-            0 => self.some_constant(2),
+            0 => some_constant(self.random, 2),
             1 => {
                 let left = self.open_word(around, Some(Sort::Time));
                 Formula::order(left, self.open_word(around, Some(Sort::Time)))

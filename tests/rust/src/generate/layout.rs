@@ -24,7 +24,7 @@ pub fn case_of(office: &mut Office, request: Request, mut proof: Step) -> Case {
         request,
         records,
         buffer,
-        pairs: Vec::new(),
+        pairs: std::mem::take(&mut office.pairs),
         proof: proof.bytes(),
     }
 }

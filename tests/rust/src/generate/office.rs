@@ -6,7 +6,7 @@ use super::goal::Goal;
 use super::step::Step;
 use super::word::Word;
 use super::Random;
-use crate::data::{Request, Time};
+use crate::data::{Pair, Request, Time};
 
 /// A certificate of the policy.
 #[derive(Clone, Debug)]
@@ -57,6 +57,7 @@ pub struct Office<'a> {
     pub names: Vec<u16>,
     pub predicates: Vec<u16>,
     pub policy: Vec<Certificate>,
+    pub pairs: Vec<Pair>,
     pub goals: Vec<Formula>,
     pub scope: Vec<Assumption>,
     pub habits: Habits,
@@ -100,6 +101,7 @@ impl<'a> Office<'a> {
             names: some_names(random),
             predicates: some_predicates(random),
             policy: Vec::new(),
+            pairs: Vec::new(),
             goals: Vec::new(),
             scope: Vec::new(),
             facts_left: 16,

@@ -4,7 +4,7 @@ use super::clock::any_moment;
 use super::step::{adds, infers_first, shape};
 use super::tags;
 use super::Random;
-use crate::data::{Case, Record, Request, Time, LATEST};
+use crate::data::{Case, Pair, Record, Request, Time, LATEST};
 
 /// The tags of formulas with none inside.
 const LEAVES: [u8; 5] = [
@@ -32,9 +32,9 @@ pub fn raw(random: &mut Random) -> Case {
     Case {
         request: raw_request(random),
         proof: raw_proof(random, records.len() as u64),
+        pairs: raw_pairs(random),
         records,
         buffer,
-        pairs: Vec::new(),
     }
 }
 
@@ -46,6 +46,22 @@ fn some_count(random: &mut Random) -> u64 {
         2 => random.below(33),
         _ => 1 + random.below(4),
     }
+}
+
+/// Pairs of small names: mostly none or a few, seldom about as many as can be lent.
+fn raw_pairs(random: &mut Random) -> Vec<Pair> {
+    let count = match random.below(16) {
+        0..=7 => 0,
+        8 => 126 + random.below(6),
+        9 => random.below(300),
+        _ => 1 + random.below(5),
+    };
+    let mut name = || random.below(4) as u16;
+    let pairs = (0..count).map(|_| Pair {
+        stronger: name(),
+        weaker: name(),
+    });
+    pairs.collect()
 }
 
 /// A request, mostly about small names.

@@ -6,11 +6,16 @@ use super::formula::Formula;
 use super::goal::{Goal, View};
 use super::layout::case_of;
 use super::office::{Habits, Office};
+use super::pairs::some_pairs;
+use super::stand_ins::by_a_stand_in;
 use super::tags;
 use super::views::well_used;
 use super::word::Word;
 use super::Random;
-use crate::data::{Case, Request};
+use crate::data::{Case, Pair, Request};
+
+/// Which pairs are lent, about these names.
+type Lending = fn(&mut Random, &[u16]) -> Vec<Pair>;
 
 /// The administrator's name.
 pub const ADMINISTRATOR: u16 = 1;
@@ -24,22 +29,35 @@ pub fn may(request: Request) -> Formula {
     Formula::atom(MAY, words.into_iter().map(Word::name).collect())
 }
 
-/// A case whose proof shows its request, within all limits.
+/// A case whose proof shows its request, within all limits and with no pair.
 pub fn valid(random: &mut Random) -> Case {
     match random.below(16) {
         0 => return well_used(random),
         1 => return by_an_or(random),
         _ => {}
     }
+    made(random, |_, _| Vec::new())
+}
+
+/// A case whose proof shows its request, within all limits, mostly by words of some who stand above others.
+pub fn valid_by_strength(random: &mut Random) -> Case {
+    match random.one_in(3) {
+        true => by_a_stand_in(random),
+        false => made(random, some_pairs),
+    }
+}
+
+/// A case that the office makes, with such pairs about its names.
+fn made(random: &mut Random, pairs: Lending) -> Case {
     for _ in 0..20 {
         let habits = some_habits(random);
-        if let Some(case) = attempt(random, habits) {
+        if let Some(case) = attempt(random, habits, pairs) {
             return case;
         }
     }
     loop {
         let steps = random.below(3) as i64;
-        if let Some(case) = attempt(random, small(steps)) {
+        if let Some(case) = attempt(random, small(steps), pairs) {
             return case;
         }
     }
@@ -117,9 +135,10 @@ fn large(steps: i64) -> Habits {
     }
 }
 
-/// One try at a case with the habits given.
-fn attempt(random: &mut Random, habits: Habits) -> Option<Case> {
+/// One try at a case with the habits and such pairs.
+fn attempt(random: &mut Random, habits: Habits, pairs: Lending) -> Option<Case> {
     let mut office = Office::new(random, habits);
+    office.pairs = pairs(office.random, &office.names);
     let request = office.request();
     let goal = Goal {
         formula: may(request),

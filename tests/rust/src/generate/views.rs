@@ -10,17 +10,18 @@ use super::step::Step;
 use super::tags;
 use super::word::Word;
 use super::Random;
-use crate::data::Case;
+use crate::data::{Case, Pair};
 
 /// Words used in a view: who has the view and on which span, on which span the goal is there, who speaks and on which
-/// span the words hold.
-struct Use {
+/// span the words hold, and who stands above whom.
+pub struct Use {
     clock: Clock,
-    viewer: u16,
+    pub viewer: u16,
     view: Span,
     goal: Span,
-    speaker: u16,
+    pub speaker: u16,
     words: Span,
+    pub pairs: Vec<Pair>,
 }
 
 /// A case where words are used in a view as they may be.
@@ -32,12 +33,7 @@ pub fn well_used(random: &mut Random) -> Case {
 /// A case where words are used in a view, and mostly as they may not be: not on all of the view's span, or by another.
 pub fn in_a_view(random: &mut Random) -> Case {
     let mut used = Use::some(random);
-    match random.below(6) {
-        0..=2 => used.words = used.clock.around(random, used.goal),
-        3 => used.words.from = used.clock.any(random, 1),
-        4 => used.words.to = used.clock.any(random, 1),
-        _ => {}
-    }
+    used.move_words(random);
     if random.one_in(4) {
         used.speaker = another_name(random, used.speaker);
     }
@@ -46,7 +42,7 @@ pub fn in_a_view(random: &mut Random) -> Case {
 
 impl Use {
     /// Words that may be used: by whoever has the view, on a span around the view's and the goal's.
-    fn some(random: &mut Random) -> Use {
+    pub fn some(random: &mut Random) -> Use {
         let clock = Clock::new(random);
         let [view, goal] = [(); 2].map(|_| clock.any_span(random));
         let viewer = *random.pick(&[1, 2, 7]);
@@ -57,12 +53,23 @@ impl Use {
             speaker: viewer,
             words: clock.around(random, clock.around_both(view, goal)),
             clock,
+            pairs: Vec::new(),
+        }
+    }
+
+    /// Lets the words hold on another span, mostly not on all of the view's.
+    pub fn move_words(&mut self, random: &mut Random) {
+        match random.below(6) {
+            0..=2 => self.words = self.clock.around(random, self.goal),
+            3 => self.words.from = self.clock.any(random, 1),
+            4 => self.words.to = self.clock.any(random, 1),
+            _ => {}
         }
     }
 
     /// The case where the words are a certificate, a claim from outside of the view or from inside, or seldom an
     /// assumption that is nobody's.
-    fn case(&self, random: &mut Random) -> Case {
+    pub fn case(&self, random: &mut Random) -> Case {
         match random.below(7) {
             0..=1 => self.certified(random),
             2..=3 => self.claimed_outside(random),
@@ -139,11 +146,14 @@ impl Use {
         let request = some_request(random);
         let viewed = Formula::says(Word::name(self.viewer), Formula::at_span(self.goal, said()));
         let rule = asking(request, Formula::at_span(self.view, viewed));
-        case(request, &[rule, certificate], claim(granted(shown)))
+        Case {
+            pairs: self.pairs.clone(),
+            ..case(request, &[rule, certificate], claim(granted(shown)))
+        }
     }
 }
 
 /// What is said.
-fn said() -> Formula {
+pub fn said() -> Formula {
     Formula::atom(300, vec![])
 }
