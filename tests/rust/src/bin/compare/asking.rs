@@ -4,7 +4,7 @@ use crate::archive;
 use crate::coverage::Coverage;
 use crate::difference::Outcome;
 use crate::options::Options;
-use crate::questions::{far_too_long, presses, program, records, text, values, verify};
+use crate::questions::{far_too_long, pairs, presses, program, records, text, values, verify};
 use crate::wire::{records_in_bytes, respell};
 use crate::wire_pairs::{cut_short, pairs_in_bytes};
 use second_opinion::data::Case;
@@ -67,6 +67,7 @@ impl<'a> Asking<'a> {
         let issued = verify::ask(self)?;
         presses::ask(self, &issued)?;
         records::ask(self)?;
+        pairs::ask(self)?;
         program::ask(self)?;
         let procap = match issued {
             Ok(procap) => procap,

@@ -1,6 +1,7 @@
 //! What came up in a run, and what should have.
 
-use second_opinion::data::Time;
+use crate::strengths::Way;
+use second_opinion::data::{Pair, Time};
 use second_opinion::second::{Clause, Verdict, Watch};
 use std::collections::BTreeMap;
 
@@ -25,13 +26,15 @@ pub enum Kind {
     Ctime,
 }
 
-/// How often steps were walked, formulas read, clauses tried and orders asked by one call.
+/// How often steps were walked, formulas read, clauses tried, orders and strengths asked by one call.
 pub struct Walked {
     pub clauses: Vec<[u64; 2]>,
     /// By the kind of the left time, the kind of the right time, and the verdict.
     pub orders: [[[u64; Verdict::ALL.len()]; Kind::ALL.len()]; Kind::ALL.len()],
     /// By the clause that asked, and the verdict.
     pub orders_of: Vec<[u64; Verdict::ALL.len()]>,
+    /// By the clause that asked, and the way in which the strength came out.
+    pub strengths: BTreeMap<(Clause, Way), u64>,
     pub steps: Vec<u64>,
     pub formulas: Vec<u64>,
 }
@@ -76,6 +79,7 @@ impl Walked {
             clauses: vec![[0; 2]; Clause::ALL.len()],
             orders: Default::default(),
             orders_of: vec![Default::default(); Clause::ALL.len()],
+            strengths: BTreeMap::new(),
             steps: vec![0; 256],
             formulas: vec![0; 256],
         }
@@ -93,6 +97,7 @@ impl Walked {
             self.orders_of.as_flattened_mut(),
             other.orders_of.as_flattened(),
         );
+        add_named(&mut self.strengths, &other.strengths);
         add_each(&mut self.steps, &other.steps);
         add_each(&mut self.formulas, &other.formulas);
     }
@@ -120,6 +125,11 @@ impl Watch for Walked {
         let [left, right] = [left, right].map(|time| Kind::of(time) as usize);
         self.orders[left][right][verdict as usize] += 1;
         self.orders_of[clause as usize][verdict as usize] += 1;
+    }
+    fn strength(&mut self, clause: Clause, pairs: &[Pair], asked: (u16, u16), held: bool) {
+        for way in Way::of(pairs, asked, held) {
+            *self.strengths.entry((clause, way)).or_default() += 1;
+        }
     }
     fn step(&mut self, tag: u8) {
         self.steps[usize::from(tag)] += 1;

@@ -15,8 +15,10 @@ mod questions;
 mod run;
 mod spoiled;
 mod states;
+mod strengths;
 mod tables;
 mod tables_orders;
+mod tables_strengths;
 mod wire;
 mod wire_pairs;
 

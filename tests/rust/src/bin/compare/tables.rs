@@ -1,6 +1,7 @@
 //! The tables at the end of a run, and what is missing in them.
 
 use crate::coverage::{Call, Coverage, Walked};
+use crate::questions::pairs;
 use crate::questions::presses::DEMAND_3_WHERE;
 use crate::questions::text::DEMAND_2_OF_A_TEXT;
 use crate::questions::values::DEMAND_2_OF_A_VALUE;
@@ -9,14 +10,17 @@ use std::collections::BTreeMap;
 
 /// The answers that a call gives; any other never comes. 6 is no answer of any: the number is withdrawn.
 const ANSWERS: [(Call, &[u64]); 7] = [
-    (Call::Verify, &[0, 1, 2, 3, 4, 5, 13]),
-    (Call::Direct, &[0, 1, 2, 3, 4, 7, 10, 11]),
+    (Call::Verify, &[0, 1, 2, 3, 4, 5, 13, 21]),
+    (Call::Direct, &[0, 1, 2, 3, 4, 7, 10, 11, 21]),
     (Call::DoorOnText, &[0, 7, 8, 9, 10, 11, 12]),
     (Call::DoorOnValue, &[0, 7, 8, 9, 10, 11, 12]),
     (Call::Rewrite, &[0, 12, 13]),
     (Call::Write, &[0, 12, 13]),
     (Call::Program, &[0, 1, 2, 3, 4, 5, 14]),
 ];
+
+/// The numbers that are looked for among the answers: all there are, and those that later requests may add.
+const NUMBERS: std::ops::RangeInclusive<u64> = 0..=31;
 
 /// The lines at which a malformed input must have been refused, 0 standing for one that is too long.
 const LINES: std::ops::RangeInclusive<u64> = 0..=12;
@@ -76,6 +80,7 @@ impl Report {
         };
         report.questions(coverage);
         report.demands(coverage);
+        report.pairs(coverage);
         report.answers(coverage);
         report.input_lines(coverage);
         report.facts(coverage);
@@ -86,6 +91,7 @@ impl Report {
         report.clauses("verify", &coverage.verify, possible_in_verify);
         report.clauses("direct", &coverage.direct, possible_in_direct);
         report.all_orders(coverage);
+        report.all_strengths(coverage);
         report
     }
 
@@ -122,12 +128,20 @@ impl Report {
         }
     }
 
+    /// Lists of pairs of every kind must have been asked about.
+    fn pairs(&mut self, coverage: &Coverage) {
+        for name in pairs::WHERE {
+            let count = coverage.asked.get(name).copied().unwrap_or(0);
+            self.expect(true, count, || name.to_string());
+        }
+    }
+
     /// How often each call gave each answer.
     fn answers(&mut self, coverage: &Coverage) {
         self.line("answers".to_string());
         for (call, numbers) in ANSWERS {
             let mut line = format!("  {:<12}", format!("{call:?}"));
-            for number in 0..=15 {
+            for number in NUMBERS {
                 let count = coverage.answers.get(&(call, number)).copied();
                 let count = count.unwrap_or(0);
                 let name = || format!("{call:?} answers {number}");

@@ -1,5 +1,6 @@
 //! Presses: the direct check and the door at many moments, in many states, and what joins them.
 
+use super::pairs;
 use crate::archive::{self, Returned};
 use crate::asking::Asking;
 use crate::coverage::Call;
@@ -53,7 +54,7 @@ pub fn ask(asking: &mut Asking, issued: &Result<Procap, Answer>) -> Outcome {
         text: second::text_of(procap).unwrap_or_default(),
         value: second::value_of(procap),
     });
-    let malformed = matches!(issued, Err(refusal) if refusal.number <= 2);
+    let malformed = matches!(issued, Err(refusal) if matches!(refusal.number, 1 | 2 | 21));
     let all = asking.options.all_presses;
     let candidates = all_moments(asking.case, issued.as_ref().ok());
     let moments = match (all, malformed) {
@@ -90,7 +91,7 @@ fn edges(issued: &Result<Procap, Answer>) -> Vec<u64> {
 fn press(asking: &mut Asking, press: Press, shown: Option<&Shown>) -> Outcome {
     let direct = direct(asking, press)?;
     let accepted = direct == Answer::GRANTED;
-    if asking.index % DEMAND_3_EACH == 0 {
+    if asking.index.is_multiple_of(DEMAND_3_EACH) {
         demand_3(asking, press, shown.is_some(), accepted)?;
     }
     let Some(shown) = shown else {
@@ -113,6 +114,7 @@ fn demand_3(asking: &mut Asking, press: Press, issued: bool, accepted: bool) -> 
         (true, false) => DEMAND_3_WHERE[1],
         (true, true) => DEMAND_3_WHERE[2],
     });
+    pairs::note_demand_3(asking);
     promised(kept, || press.words("demand 3"), "yes", kept)
 }
 

@@ -1,11 +1,11 @@
 //! Lists of records that are too long or end within a record.
 
-use crate::archive::{self, Returned};
+use super::both::both;
+use crate::archive;
 use crate::asking::Asking;
-use crate::difference::{same, Outcome};
+use crate::difference::Outcome;
 use crate::wire::{hex, records_in_bytes, RECORD_BYTES};
-use second_opinion::data::{Answer, Case, Record, Time};
-use second_opinion::second::{self, NoWatch};
+use second_opinion::data::{Case, Record, Time};
 
 /// A record that is malformed whatever the buffer.
 const MALFORMED: Record = Record {
@@ -36,7 +36,7 @@ fn with_a_tail(asking: &mut Asking) -> Outcome {
     let mut case = asking.case.clone();
     case.records.push(MALFORMED);
     asking.coverage.asked("records with an incomplete tail");
-    both(asking, &case, &bytes)
+    ask_both(asking, &case, &bytes)
 }
 
 /// Asks about the case with its records repeated to a little or far more than a list may have.
@@ -55,23 +55,16 @@ fn with_more(asking: &mut Asking) -> Outcome {
     }
     let bytes = records_in_bytes(&case.records);
     asking.coverage.asked("more records than there were");
-    both(asking, &case, &bytes)
+    ask_both(asking, &case, &bytes)
 }
 
 /// Asks verify and the direct check about a case with these bytes for its records.
-fn both(asking: &mut Asking, case: &Case, bytes: &[u8]) -> Outcome {
+fn ask_both(asking: &mut Asking, case: &Case, bytes: &[u8]) -> Outcome {
     let moment = asking.random.below(3000);
     let for_archive = archive::Case {
         records: bytes,
         ..asking.for_archive()
     };
     let words = |what: &str| format!("{what} with the records {}", hex(bytes));
-    let verified = second::verify(case, &mut NoWatch);
-    let returned = archive::verify(&for_archive, &mut [0; 1300]);
-    same(&Answer::of(&verified), &returned.answer, || words("verify"))?;
-    let answer = second::direct(case, moment, &[], &mut NoWatch);
-    let returned = archive::direct(&for_archive, moment, &[]);
-    same(&Returned::plain(answer), &returned, || {
-        words("direct check")
-    })
+    both(case, &for_archive, moment, words)
 }

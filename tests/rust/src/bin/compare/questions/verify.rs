@@ -1,5 +1,6 @@
 //! Verify: the answer, the text, and the buffer afterwards.
 
+use super::pairs;
 use crate::archive;
 use crate::asking::Asking;
 use crate::coverage::Call;
@@ -29,5 +30,6 @@ pub fn ask(asking: &mut Asking) -> Result<Result<Procap, Answer>, Difference> {
     if let Ok(procap) = &issued {
         asking.coverage.listed(procap.facts.len());
     }
+    pairs::note(asking, &issued);
     Ok(issued)
 }
