@@ -2,7 +2,7 @@
 
 use crate::data::{Case, Time, LATEST};
 
-/// The input that spells the case, if it can be spelled.
+/// The input that spells the case, if it can be spelled. Its pairs are left out: the program has no line for them.
 pub fn input_of(case: &Case) -> Option<Vec<u8>> {
     if case.records.len() > 32 {
         return None;

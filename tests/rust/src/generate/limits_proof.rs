@@ -13,7 +13,7 @@ use super::Random;
 use crate::data::{Case, Request, Time, LATEST};
 
 /// The formula at all times.
-fn at_all_times(formula: Formula) -> Formula {
+pub fn at_all_times(formula: Formula) -> Formula {
     Formula::at(
         Word::when(Time::MinusInfinity),
         Word::when(Time::PlusInfinity),

@@ -27,6 +27,15 @@ pub fn ring(names: &[u16]) -> Vec<Pair> {
     pairs
 }
 
+/// Who stands above a name by a chain of as many pairs as can be lent, and the chain with its lowest pair first.
+pub fn longest_chain(name: u16) -> (u16, Vec<Pair>) {
+    let above = (1..=MOST as u16).rev().map(|step| name.wrapping_add(step));
+    let names: Vec<u16> = above.chain([name]).collect();
+    let mut pairs = chain(&names);
+    pairs.reverse();
+    (names[0], pairs)
+}
+
 /// So many names above a name, the highest first and the name itself last. None of the others is a small number.
 pub fn line_above(random: &mut Random, name: u16, count: usize) -> Vec<u16> {
     let lowest = some_stranger(random);

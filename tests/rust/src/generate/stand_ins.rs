@@ -7,12 +7,16 @@ use super::pairs::{
     too_many,
 };
 use super::stand_ins_compared::compared;
+use super::stand_ins_often::some_often;
 use super::views::Use;
 use super::Random;
 use crate::data::{Case, Pair};
 
-/// A case where somebody's words are used, as they may be, in the view of one below.
+/// A case where somebody's words are used, as they may be, in the view of one below; seldom again and again.
 pub fn by_a_stand_in(random: &mut Random) -> Case {
+    if random.one_in(12) {
+        return some_often(random);
+    }
     let (mut used, names) = some_use(random);
     used.pairs = leading_down(random, &names);
     if random.one_in(8) {
