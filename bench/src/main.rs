@@ -5,6 +5,8 @@
 #[allow(dead_code)]
 #[path = "../../tests/rust/src/bin/compare/archive.rs"]
 mod archive;
+mod chains;
+mod examples;
 mod measure;
 mod rows;
 mod state;

@@ -1,6 +1,8 @@
 //! The rows of the table: presses and proofs, small, usual and the largest that are allowed.
 
 use crate::archive;
+use crate::chains::{chained, name_of, Asks, Lent};
+use crate::examples::example;
 use crate::measure::Calls;
 use crate::state::opening_state;
 use crate::wire::records_in_bytes;
@@ -24,11 +26,12 @@ enum From {
     Example(&'static str),
     Valid(u64),
     AtALimit(u64),
+    Chained(Asks, Lent),
 }
 
-/// The rows: presses with one fact and with sixteen; case P, three proofs of 30 steps, the deepest proofs and the longest. The seeds are the first
-/// that give such proofs and are issued.
-const PLANS: [(What, From); 15] = [
+/// The rows: presses with one fact and with sixteen; case P, three proofs of 30 steps, the deepest proofs and the longest, all with no pairs; then
+/// chains of pairs, beside the same with none. The seeds are the first that give such proofs and are issued.
+const PLANS: [(What, From); 21] = [
     (What::DoorOnValue, From::Example("p")),
     (What::DoorOnText, From::Example("p")),
     (What::DoorOnValue, From::Example("sixteen_facts")),
@@ -44,6 +47,12 @@ const PLANS: [(What, From); 15] = [
     (What::Verify, From::AtALimit(8)),
     (What::Verify, From::AtALimit(16)),
     (What::Verify, From::AtALimit(18)),
+    (What::Verify, From::Chained(Asks::Once, Lent::None)),
+    (What::Verify, From::Chained(Asks::Once, Lent::BottomFirst)),
+    (What::Verify, From::Chained(Asks::Once, Lent::TopFirst)),
+    (What::Verify, From::Chained(Asks::Often, Lent::None)),
+    (What::Verify, From::Chained(Asks::Often, Lent::BottomFirst)),
+    (What::Verify, From::Chained(Asks::Often, Lent::TopFirst)),
 ];
 
 /// A row: what is measured, and on which case.
@@ -161,6 +170,7 @@ impl From {
             From::Example(name) => example(name),
             From::Valid(seed) => valid(&mut Random::new(seed)),
             From::AtALimit(seed) => at_a_limit(&mut Random::new(seed)),
+            From::Chained(asks, lent) => chained(asks, lent),
         }
     }
 
@@ -170,15 +180,9 @@ impl From {
             From::Example(name) => name.to_string(),
             From::Valid(seed) => format!("made up (seed {seed})"),
             From::AtALimit(seed) => format!("at a limit (seed {seed})"),
+            From::Chained(asks, lent) => name_of(asks, lent),
         }
     }
-}
-
-/// The case of an example.
-fn example(name: &str) -> Case {
-    let path = format!("{}/../examples/{name}.case", env!("CARGO_MANIFEST_DIR"));
-    let input = std::fs::read(path).expect("the example is there");
-    second::case_of(&input).expect("the example is a case")
 }
 
 /// How many steps are walked for a case.
