@@ -38,6 +38,45 @@ fn number(case: &Case, watch: &mut impl Watch) -> u64 {
     Answer::of(&second::verify(case, watch)).number
 }
 
+/// One case of each kind from a seed.
+fn one_of_each(seed: u64) -> [Case; 4] {
+    let mut random = Random::new(seed);
+    let by_strength = valid_by_strength(&mut random);
+    let weakened = damaged(&mut random, &by_strength);
+    let about_stand_ins = about_stand_ins(&mut random);
+    let raw = raw(&mut random);
+    let lent = perhaps_lending(&mut random, raw);
+    [by_strength, weakened, about_stand_ins, lent]
+}
+
+#[test]
+fn same_seed_same_cases() {
+    for seed in 0..SEEDS {
+        assert_eq!(one_of_each(seed), one_of_each(seed), "seed {seed}");
+    }
+}
+
+/// By strength too, the door opens just where the direct check accepts.
+#[test]
+fn the_door_opens_when_the_direct_check_accepts() {
+    let (mut opened, mut shut) = (0, 0);
+    for (seed, case) in (0..SEEDS).flat_map(|seed| one_of_each(seed).map(|case| (seed, case))) {
+        let issued = second::verify(&case, &mut NoWatch);
+        let Some(moment) = second::moments_of(&case).first().copied() else {
+            continue;
+        };
+        let state = [];
+        let accepted = second::direct(&case, moment, &state, &mut NoWatch) == Answer::GRANTED;
+        let door = |procap| second::door(procap, case.request, moment, &state);
+        let opens = issued
+            .as_ref()
+            .is_ok_and(|procap| door(procap) == Answer::GRANTED);
+        assert_eq!(accepted, opens, "seed {seed} at {moment}");
+        *if opens { &mut opened } else { &mut shut } += 1;
+    }
+    assert!(opened > 1000 && shut > 1000, "{opened} opened, {shut} shut");
+}
+
 #[test]
 fn valid_cases_are_issued_by_strength() {
     let (mut asked, mut issued, mut needed) = (Asked::default(), 0, 0);

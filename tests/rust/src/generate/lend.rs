@@ -1,8 +1,8 @@
-//! Pairs for cases that were made without any.
+//! Pairs that no proof was made for.
 
 use super::pairs::{some_pairs, too_many};
 use super::Random;
-use crate::data::Case;
+use crate::data::{Case, Pair};
 
 /// The case, now and then with pairs about its principals or with too many.
 pub fn perhaps_lending(random: &mut Random, mut case: Case) -> Case {
@@ -16,4 +16,20 @@ pub fn perhaps_lending(random: &mut Random, mut case: Case) -> Case {
         too_many(random, &mut case.pairs);
     }
     case
+}
+
+/// Pairs of small names: mostly none or a few, seldom about as many as can be lent.
+pub fn raw_pairs(random: &mut Random) -> Vec<Pair> {
+    let count = match random.below(16) {
+        0..=7 => 0,
+        8 => 126 + random.below(6),
+        9 => random.below(300),
+        _ => 1 + random.below(5),
+    };
+    let mut name = || random.below(4) as u16;
+    let pairs = (0..count).map(|_| Pair {
+        stronger: name(),
+        weaker: name(),
+    });
+    pairs.collect()
 }

@@ -1,10 +1,11 @@
 //! Cases of raw bytes: some quite at random, some that follow the forms of formulas and proofs without any sense.
 
 use super::clock::any_moment;
+use super::lend::raw_pairs;
 use super::step::{adds, infers_first, shape};
 use super::tags;
 use super::Random;
-use crate::data::{Case, Pair, Record, Request, Time, LATEST};
+use crate::data::{Case, Record, Request, Time, LATEST};
 
 /// The tags of formulas with none inside.
 const LEAVES: [u8; 5] = [
@@ -46,22 +47,6 @@ fn some_count(random: &mut Random) -> u64 {
         2 => random.below(33),
         _ => 1 + random.below(4),
     }
-}
-
-/// Pairs of small names: mostly none or a few, seldom about as many as can be lent.
-fn raw_pairs(random: &mut Random) -> Vec<Pair> {
-    let count = match random.below(16) {
-        0..=7 => 0,
-        8 => 126 + random.below(6),
-        9 => random.below(300),
-        _ => 1 + random.below(5),
-    };
-    let mut name = || random.below(4) as u16;
-    let pairs = (0..count).map(|_| Pair {
-        stronger: name(),
-        weaker: name(),
-    });
-    pairs.collect()
 }
 
 /// A request, mostly about small names.

@@ -43,6 +43,9 @@ const DEMAND_3: [&str; 3] = [
     "demand 3 with too many pairs",
 ];
 
+/// How many bytes of a list are shown where the answers differ: of one that is not too long, all.
+const SHOWN: usize = 128 * PAIR_BYTES;
+
 /// Counts what the pairs of a case are that verify has answered.
 pub fn note(asking: &mut Asking, issued: &Result<Procap, Answer>) {
     let pairs = &asking.case.pairs;
@@ -127,6 +130,7 @@ fn ask_both(asking: &mut Asking, bytes: &[u8]) -> Outcome {
         pairs: bytes,
         ..asking.for_archive()
     };
-    let words = |what: &str| format!("{what} with the pairs {}", hex(bytes));
+    let (count, first) = (case.pairs.len(), &bytes[..bytes.len().min(SHOWN)]);
+    let words = |what: &str| format!("{what} with {count} pairs, first {}", hex(first));
     both(&case, &for_archive, moment, words)
 }
