@@ -6,7 +6,7 @@ use crate::data::Pair;
 /// How many pairs can be lent.
 pub const MOST: usize = 128;
 
-/// How many pairs are more than can be lent: by one, by a few, and so that two bytes for their length say less.
+/// How many pairs are more than can be lent: by one, by a few, and so that one byte for their number says none or few.
 const TOO_MANY: [usize; 7] = [129, 129, 130, 192, 256, 257, 300];
 
 /// The pair of a stronger and a weaker name.
