@@ -12,7 +12,7 @@ use Rattle.bl.specs.Strength.{Pair, most-pairs, pairs-of, pairs-in}
 use Rattle.bl.specs.Policy.{Policy}
 use Rattle.strength.specs.Strengths.{strength-numbers, StrengthsOf}
 use Rattle.strength.specs.Finding.{FindsStrengths}
-use Rattle.strength.proofs.StrengthLaws.{no-strengths}
+use Rattle.strength.proofs.StrengthLaws.{no-strengths, found-strengths}
 use Rattle.ledger.specs.declared.Ledger.{Ledger}
 use Rattle.walk.specs.Walking.{PolicyLent}
 use Rattle.verifier.specs.declared.verify.Asked.{Asked}
@@ -32,8 +32,7 @@ none-give (n ∷ ns) ps none e = absurd (omega arith)
 
 -- Pairs give the strengths that were found.
 pub found-give : (pairs numbers : List ℕ) (ps : List Pair) → FindsStrengths pairs (replicate strength-numbers 0) numbers → pairs-in pairs ≡ granted ps → StrengthsOf numbers ps
-unfolding FindsStrengths
-found-give pairs numbers ps found e = pairs-from pairs ps e λ few is. rw is (found few refl)
+found-give pairs numbers ps found e = pairs-from pairs ps e λ few is. rw is (found-strengths pairs _ numbers found few refl)
 
 -- So the walk by these is the walk by those.
 pub by-strengths : (asked : Asked) (buffer pairs rows strengths proof state ends list : List ℕ) {l : Ledger} {list′ : List ℕ}
