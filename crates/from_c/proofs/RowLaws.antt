@@ -42,7 +42,7 @@ pub record LentOn (all most lent : ℕ) : Type 0 where
 pub few-lent : (all most lent : ℕ) → LentOn all most lent → lent ≤ most
 few-lent all most lent on = elim (decLe all most) [ yes l ↦ omega (arith, on .few l) | no n ↦ omega (arith, on .many (omega arith)) ]
 
-pub row-lent : {A : Type 0} (value : ℕ → A) (step all most lent : ℕ) → LentOn all most lent
+row-lent : {A : Type 0} (value : ℕ → A) (step all most lent : ℕ) → LentOn all most lent
     → in-a-row value step lent 0 ≡ take most (in-a-row value step all 0)
 row-lent value step all most lent on = elim (decLe all most) [ yes l ↦ all-lent l | no n ↦ most-lent (omega arith) ]
   where
@@ -74,9 +74,19 @@ module _ {A : Type 0} {value : ℕ → A} {step n at : ℕ} {array : List A} whe
             ∙ ap₂ (λ xs y. xs ++ (y ∷ [])) (h .front) e
             ∙ sym (row-more value step i at)
 
+    -- The same from the front of the bytes, where the next place is told.
+    pub next-filled : at ≡ 0 → (x : A) (place : ℕ) → i < n → place ≡ step * i → x ≡ value place → Filled value step n at (set array i x) (i + 1)
+    next-filled front x place l e f = one-filled x l (f ∙ ap value (omega (arith, front, e)))
+
     -- All of them.
     pub all-filled : n ≤ i → array ≡ in-a-row value step n at
     all-filled l = all ∙ ap (λ k. in-a-row value step k at) (sym (row-length value step i at) ∙ ap length (sym all) ∙ h .whole)
       where
         all : array ≡ in-a-row value step i at
         all = sym (take-all i array (omega (arith, h .whole))) ∙ h .front
+
+-- Where as many are filled as are lent on, these are the first of all.
+pub lent-filled : {A : Type 0} (value : ℕ → A) (step all most lent i : ℕ) (array : List A) → LentOn all most lent → i ≡ lent
+    → Filled value step most 0 array i → take lent array ≡ take most (in-a-row value step all 0)
+lent-filled value step all most lent i array on e filled =
+    ap (λ k. take k array) (sym e) ∙ filled .front ∙ ap (λ k. in-a-row value step k 0) e ∙ row-lent value step all most lent on

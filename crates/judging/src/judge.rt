@@ -31,7 +31,7 @@ ghost use Rattle.procap.specs.Writable.{TermInForm};
 ghost use Rattle.bl.specs.Walk as walk;
 ghost use Rattle.ledger.specs.Books.{misfitted, Leads};
 ghost use Rattle.formula.specs.Meaning.{«from-of», «to-of»};
-ghost use Rattle.judging.specs.Judging.{«view-in», outermost, «scope-inside», «scope-with», «part-of», «nothing-inferred», «top-goal», «order-goal», «first-side», «second-side», «put-in»};
+ghost use Rattle.judging.specs.Judging.{outermost, «scope-inside», «scope-with», «part-of», «nothing-inferred», «top-goal», «order-goal», «first-side», «second-side», «put-in»};
 ghost use Rattle.judging.specs.StepPromises.{NeedsView, UsesRow, UsesLocal, UsesCertificate, TakesSides, TakesSidesInferred, StaysStopped, TakesTimes, TakesAt, TakesSays, TakesInside, TakesInsideInferred, Continues, PutsToUse, MeetsGoal, MeetsFact, FitsGoal, ChecksInferred};
 ghost use Rattle.judging.specs.Pieces.{«binder-of»};
 ghost use Rattle.judging.specs.RowNumbers.{«rows-with»};

@@ -20,7 +20,7 @@ use Rattle.procap.proofs.Granted.{same-grant, went-on, goes-on, is-so, is-not-s
 use Rattle.state.specs.Standing.{WellFormed}
 use Rattle.bl.specs.declared.Certificate.{Certificate}
 use Rattle.bl.specs.Trees.{Check}
-use Rattle.bl.specs.Certificates.{Statement, statements}
+use Rattle.bl.specs.Certificates.{statements}
 use Rattle.bl.specs.Strength.{most-pairs, pairs-of, pairs-in}
 use Rattle.bl.specs.Policy.{Policy, policy-in}
 use Rattle.bl.specs.Questions.{done}

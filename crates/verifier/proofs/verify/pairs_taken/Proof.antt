@@ -1,5 +1,4 @@
 -- The length tells.
-use borrow.Author.Needs.{needs}
 use Rattle.verifier.proofs.Answers.{few-pairs, too-many-pairs}
 use Rattle.verifier.proofs.verify.pairs_taken.Statement.{statement}
 use Rattle.verifier.proofs.verify.pairs_taken.Tie as tie
