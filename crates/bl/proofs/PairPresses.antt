@@ -1,4 +1,5 @@
--- Presses, computed: whose claim or certificate is used in a view by the lent pairs, at which place one is refused and before what that is asked, and where 21 stands among the answers.
+-- Presses, computed: whose claim or certificate is used in a view by the lent pairs, at which place one is refused and before
+-- what that is asked, and where 21 stands among the answers.
 use Prim.Native.Nat.{ℕ, _+_, _*_}
 use mathlib.Core.Path.{refl}
 use mathlib.Core.List.{List, [], _∷_}

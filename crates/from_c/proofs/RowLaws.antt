@@ -1,4 +1,5 @@
--- Laws of values in a row, and of an array that is filled with them one by one: so the records, the pairs, the terms of a fact and the facts of a value are read.
+-- Laws of values in a row, and of an array that is filled with them one by one: so the records, the pairs, the terms of a fact
+-- and the facts of a value are read.
 use Prim.Native.Nat.{ℕ, zero, suc, _+_, _*_, _≤_, _<_}
 use mathlib.Core.Path.{_≡_, refl, sym, ap, ap₂, _∙_}
 use mathlib.Core.List.{List, [], _∷_, _++_}

@@ -1,5 +1,6 @@
 -- Too many records stay too many where only the first 33 of them are lent on: 33 or fewer are all there, and of more the first 33 are
--- refused like them, since 32 is the most. It is the same with pairs, of which 129 are lent on. So verify and the direct check answer the same.
+-- refused like them, since 32 is the most. It is the same with pairs, of which 129 are lent on. So verify and the direct check
+-- answer the same.
 use Prim.Native.Nat.{ℕ, suc, _≤_, _<_}
 use mathlib.Core.Path.{_≡_, refl, sym, ap, _∙_}
 use mathlib.Core.List.{List}

@@ -209,7 +209,8 @@ fn covers(ledger: Ledger, offset: usize, judgement: Judgement, from: Time, to: T
     ask_order(asked, offset, to, end.time())
 }
 
-// What a principal claims or certifies must be usable in the view: the principal must be at least as strong as the view's, and then the judgement's interval must cover the view's.
+// What a principal claims or certifies must be usable in the view: the principal must be at least as strong as the view's, and
+// then the judgement's interval must cover the view's.
 fn in_view(
     strengths: &[u64],
     ledger: Ledger,
@@ -233,7 +234,8 @@ fn in_view(
     covered
 }
 
-// A row, used as it stands: a plain assumption unless it is shut out, a claim in a view that it covers, of somebody whom its principal is as strong as.
+// A row, used as it stands: a plain assumption unless it is shut out, a claim in a view that it covers, of somebody whom its
+// principal is as strong as.
 fn row_used(
     rows: &[u64],
     strengths: &[u64],

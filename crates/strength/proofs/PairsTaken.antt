@@ -1,4 +1,5 @@
--- Pairs are taken from the last to the first: the names stay in order and have both sides of all, and the strengths are those of the pairs behind.
+-- Pairs are taken from the last to the first: the names stay in order and have both sides of all, and the strengths are those of
+-- the pairs behind.
 use Prim.Native.Nat.{ℕ, suc, _-_, _≤_, _<_}
 use mathlib.Core.Path.{_≡_, ap, _∙_}
 use mathlib.Core.List.{List, [], _∷_}

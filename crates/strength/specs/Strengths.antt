@@ -56,7 +56,8 @@ pub record MarkedAbove (numbers : List ℕ) (k j : ℕ) : Type 0 where
   pub weaker : In j (names (weakers numbers))
   pub marked : Marked (marks numbers) (below k (names (strongers numbers))) (below j (names (weakers numbers)))
 
--- The numbers are the strengths that the pairs give: of two principals they mark one above the other where, and only where, the pairs make it as strong.
+-- The numbers are the strengths that the pairs give: they mark one principal above another where the pairs make it as strong, and
+-- only there.
 pub record StrengthsOf (numbers : List ℕ) (ps : List Pair) : Type 0 where
   pub ordered : length numbers ≡ strength-numbers → InOrder numbers
   pub told : (k j : ℕ) → AsStrong ps k j → (k ≡ j) ⊎ MarkedAbove numbers k j

@@ -49,7 +49,8 @@ struct Asked {
     pub reading: Reading,
 }
 
-// Whether the proof shows the request from the certificates and the pairs, and the procap for it. Each number of the pairs is one: the stronger principal times 65,536, and the weaker.
+// Whether the proof shows the request from the certificates and the pairs, and the procap for it. Each number of the pairs is
+// one: the stronger principal times 65,536, and the weaker.
 pub fn verify(
     request: Request,
     certificates: &[Certificate],
@@ -219,7 +220,8 @@ fn check_case(
     }
 }
 
-// Whether to go on: what is malformed stops, the records, of which there are so many, before the pairs, and these before the proof. Where nothing does, the table has where the second part of each 26 ends.
+// Whether to go on: what is malformed stops, the records, of which there are so many, before the pairs, and these before the
+// proof. Where nothing does, the table has where the second part of each 26 ends.
 fn malformed(stop: Stop, pairs: &[u32], proof: &[u8], certificates: usize, ends: &mut [u16]) -> Stop
     ensures stops { λ r. ⌜ CaseStops stop pairs proof certificates r ⌝ }
     ensures told { λ r. ⌜ ToldUnlessStopped proof certificates ends r ⌝ }
@@ -264,7 +266,8 @@ fn proof_malformed(proof: &[u8], certificates: usize, ends: &mut [u16]) -> Stop
     }
 }
 
-// The ledger at the end of the walk for what is asked. The strengths that the pairs give are found once; with no pair there is nothing to find.
+// The ledger at the end of the walk for what is asked. The strengths that the pairs give are found once; with no pair there is
+// nothing to find.
 #[rattlefmt::skip]
 fn walked(
     asked: Asked,

@@ -24,7 +24,8 @@ use Rattle.formula.specs.Meaning.{Means, from-of, to-of}
 use Rattle.judging.specs.RowsOf.{Assumed, Certified, row-in, all-numbers}
 use Rattle.judging.specs.Judging.{view-in, Yields, Passes}
 
--- What is lent all through a walk: the bytes of the formulas, of the proof and of the state, the rows of the certificates, the strengths of the principals, and where second parts end.
+-- What is lent all through a walk: formulas, proof and state in bytes, certificates in rows, strengths in numbers, and where
+-- second parts end.
 pub record Sources : Type 0 where
   pub buffer : List ℕ
   pub proof : List ℕ
@@ -38,7 +39,8 @@ pub record PolicyLent (buffer certificates strengths : List ℕ) (π : Policy) :
   pub certified : Certified buffer certificates (π .statements)
   pub strong : StrengthsOf strengths (π .pairs)
 
--- What stands around a step: the policy that is lent, and rows that are the assumptions Γ, none shut out that is yet to come, with room for one more at each level left, in as many numbers as all rows take.
+-- What stands around a step: the policy that is lent, and rows that are the assumptions Γ, none shut out that is yet to come,
+-- with room for one more at each level left, in as many numbers as all rows take.
 pub record Around (S : Sources) (rows : List ℕ) (scope : Scope) (left : ℕ) (π : Policy) (Γ : List Assumption) : Type 0 where
   pub policy : PolicyLent (S .buffer) (S .certificates) (S .strengths) π
   pub assumed : Assumed (S .buffer) rows (scope .shut) (scope .count) Γ

@@ -1,4 +1,5 @@
--- The principal is at least as strong as the view's, and then the intervals are asked about; or it is not, or the view is nobody's, and it does not fit.
+-- The principal is at least as strong as the view's, and then the intervals are asked about; or it is not, or the view is
+-- nobody's, and it does not fit.
 use borrow.Author.Needs.{needs}
 use Rattle.procap.proofs.Telling.{fails-where, holds-else}
 use Rattle.judging.proofs.Coming.{stops}

@@ -1,4 +1,5 @@
--- The records are taken into the rows, and what the direct check answers from the rows is what it answers to the records: `direct` is a call over lent records, with the pairs, the proof, the moment and the state as its further parameters.
+-- The records are taken into the rows, and what the direct check answers from the rows is what it answers to the records:
+-- `direct` is a call over lent records, with the pairs, the proof, the moment and the state as its further parameters.
 use mathlib.Core.Path.{_≡_, refl}
 use mathlib.Core.List.{List, [], _∷_}
 use mir.Syntax.{named}

@@ -1,4 +1,5 @@
--- The records are taken into the rows, and what verify answers from the rows is what it answers to the records: `verify` is a call over lent records, with the pairs and the proof as its further parameters.
+-- The records are taken into the rows, and what verify answers from the rows is what it answers to the records: `verify` is a
+-- call over lent records, with the pairs and the proof as its further parameters.
 use mathlib.Core.Path.{refl}
 use mathlib.Core.List.{List, [], _∷_}
 use mir.Syntax.{named}

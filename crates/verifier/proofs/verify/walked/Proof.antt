@@ -1,4 +1,5 @@
--- With no pair nothing is found, and the empty part of the rows is the strengths of none; else they are found. Either way the walk goes by the strengths that the pairs give.
+-- With no pair nothing is found, and the empty part of the rows is the strengths of none; else they are found. Either way the
+-- walk goes by the strengths that the pairs give.
 use borrow.Author.Needs.{needs}
 use Rattle.verifier.proofs.ByStrengths.{none-give, found-give, by-strengths}
 use Rattle.verifier.proofs.verify.walked.Statement.{statement}

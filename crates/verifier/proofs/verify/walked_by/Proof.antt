@@ -1,4 +1,5 @@
--- The walk begins with nothing assumed, in rows that are all there, and with the ledger at its start, at the step of the proof that takes all of its bytes.
+-- The walk begins with nothing assumed, in rows that are all there, and with the ledger at its start, at the step of the proof
+-- that takes all of its bytes.
 use mathlib.Core.Path.{refl}
 use borrow.Author.Needs.{needs}
 use Rattle.verifier.proofs.WalkBegins.{walk-of-request}
