@@ -17,6 +17,10 @@ pub enum Way {
     ByMany,
     /// Held by a chain, and a pair leads back from one of its names to an earlier one.
     PastARing,
+    /// Held by a chain, and by another beside it that has none of its inner names.
+    ByTwoWays,
+    /// Held by a chain of 3 pairs or more that are listed with the lowest first.
+    LowestFirst,
     /// Held by a chain, among 128 pairs.
     AmongTheMost,
     /// Failed: no pair is lent.
@@ -33,13 +37,15 @@ pub enum Way {
 
 impl Way {
     /// Every way there is.
-    pub const ALL: [Way; 12] = [
+    pub const ALL: [Way; 14] = [
         Way::Same,
         Way::ByOne,
         Way::ByTwo,
         Way::ByAFew,
         Way::ByMany,
         Way::PastARing,
+        Way::ByTwoWays,
+        Way::LowestFirst,
         Way::AmongTheMost,
         Way::NoPair,
         Way::TurnedRound,
@@ -77,10 +83,42 @@ fn by_a_chain(pairs: &[Pair], chain: &[u16]) -> Vec<Way> {
     if pairs.iter().any(back) {
         ways.push(Way::PastARing);
     }
+    if another_way(pairs, chain) {
+        ways.push(Way::ByTwoWays);
+    }
+    if chain.len() > 3 && lowest_first(pairs, chain) {
+        ways.push(Way::LowestFirst);
+    }
     if pairs.len() == 128 {
         ways.push(Way::AmongTheMost);
     }
     ways
+}
+
+/// Whether another chain leads from the first name of a chain to its last, past none of those between.
+fn another_way(pairs: &[Pair], chain: &[u16]) -> bool {
+    let (first, last) = (chain[0], chain[chain.len() - 1]);
+    let inner = &chain[1..chain.len() - 1];
+    let is_link = |pair: &Pair| inner.is_empty() && (pair.stronger, pair.weaker) == (first, last);
+    let passes = |pair: &Pair| inner.contains(&pair.stronger) || inner.contains(&pair.weaker);
+    let beside = pairs.iter().filter(|pair| !is_link(pair) && !passes(pair));
+    shortest_chain(&beside.copied().collect::<Vec<_>>(), first, last).is_some()
+}
+
+/// Whether the links of a chain stand in a list with the lowest first, and no link stands there twice.
+fn lowest_first(pairs: &[Pair], chain: &[u16]) -> bool {
+    let is_link = |pair: &Pair| {
+        chain
+            .windows(2)
+            .any(|two| (pair.stronger, pair.weaker) == (two[0], two[1]))
+    };
+    let links: Vec<&Pair> = pairs.iter().filter(|pair| is_link(pair)).collect();
+    let upwards = chain.windows(2).rev();
+    links.len() == chain.len() - 1
+        && links
+            .iter()
+            .zip(upwards)
+            .all(|(link, two)| (link.stronger, link.weaker) == (two[0], two[1]))
 }
 
 /// The ways in which it failed.
