@@ -24,22 +24,22 @@ use Rattle.from_c.proofs.TooMany.{verifies-the-same, checks-the-same}
 use Rattle.from_c.proofs.ValuesRead.{value-goes-on, value-refused}
 use Rattle.from_c.proofs.HandedBack.{stops-there, goes-on-with}
 
-module _ (r : Request) (bytes buffer pair-bytes proof : List ℕ) (lent : List Certificate) (numbers : List ℕ)
-    (lent-on : lent ≡ take lent-at-most (records-in bytes)) (paired : numbers ≡ take pairs-at-most (pair-numbers pair-bytes)) where
+module _ (r : Request) (bytes buffer pairs proof : List ℕ) (lent : List Certificate) (numbers : List ℕ)
+    (lent-on : lent ≡ take lent-at-most (records-in bytes)) (paired : numbers ≡ take pairs-at-most (pair-numbers pairs)) where
   -- What verify hands over for the records and the pairs that are lent on is what it comes to for all.
-  pub hands-over-all : (v : Verified) → HandsOver (verified r lent buffer numbers proof) v → HandsOver (verified r (records-in bytes) buffer (pair-numbers pair-bytes) proof) v
+  pub hands-over-all : (v : Verified) → HandsOver (verified r lent buffer numbers proof) v → HandsOver (verified r (records-in bytes) buffer (pair-numbers pairs) proof) v
   hands-over-all v hands =
-      let same : verified r lent buffer numbers proof ≡ verified r (records-in bytes) buffer (pair-numbers pair-bytes) proof =
-      rw (lent-on, paired) (verifies-the-same buffer (pair-numbers pair-bytes) proof (records-in bytes) r) in
+      let same : verified r lent buffer numbers proof ≡ verified r (records-in bytes) buffer (pair-numbers pairs) proof =
+      rw (lent-on, paired) (verifies-the-same buffer (pair-numbers pairs) proof (records-in bytes) r) in
       rw same at hands
 
   -- What the direct check answers for them, packed, is what it answers for all.
   pub packs-for-all : (m : ℕ) (state : List ℕ) (answer : Answer) (number : ℕ) → number ≡ packed answer 0
       → answer ≡ answer-of (directly r lent buffer numbers proof m state)
-      → number ≡ packed (answer-of (directly r (records-in bytes) buffer (pair-numbers pair-bytes) proof m state)) 0
+      → number ≡ packed (answer-of (directly r (records-in bytes) buffer (pair-numbers pairs) proof m state)) 0
   packs-for-all m state answer number packs answers =
-      let same : directly r lent buffer numbers proof m state ≡ directly r (records-in bytes) buffer (pair-numbers pair-bytes) proof m state =
-      rw (lent-on, paired) (checks-the-same buffer (pair-numbers pair-bytes) proof (records-in bytes) r m state) in
+      let same : directly r lent buffer numbers proof m state ≡ directly r (records-in bytes) buffer (pair-numbers pairs) proof m state =
+      rw (lent-on, paired) (checks-the-same buffer (pair-numbers pairs) proof (records-in bytes) r m state) in
       packs ∙ ap (λ a. packed a 0) (answers ∙ ap answer-of same)
 
 module _ (r : Request) (bytes buffer pairs proof : List ℕ) (room : ℕ) (v : Verified)

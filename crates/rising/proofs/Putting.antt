@@ -5,7 +5,7 @@ use mathlib.Core.List.{List, _∷_}
 use native.Mathlib.Omega.{arith}
 use lib.ListN.{length, getD, take}
 use lib.Seq.{length-take-le, getD-take}
-use Rattle.rising.specs.Rising.{Rising, insert, with-at, Placed, Puts}
+use Rattle.rising.specs.Rising.{Rising, insert, with-at, CountsBelow, Puts}
 use Rattle.rising.proofs.Placing.{Placing, last, before, there, behind, placing}
 
 -- What comes of it where the number is found at its place, and where it is not.
@@ -21,7 +21,7 @@ put-new (before l) d = refl
 put-new (there q) d = absurd (d (omega arith) q)
 put-new (behind {k = k} l p) d = ap (λ xs. k ∷ xs) (put-new p (λ b e. d (omega arith) e))
 
-module _ (numbers : List ℕ) (count number place : ℕ) (room : count < length numbers) (placed : Placed numbers count number place) where
+module _ (numbers : List ℕ) (count number place : ℕ) (room : count < length numbers) (placed : CountsBelow numbers count number place) where
   first : length (take count numbers) ≡ count
   first = length-take-le count numbers (omega arith)
 

@@ -5,7 +5,7 @@ use mathlib.Core.List.{List}
 use native.Mathlib.Omega.{arith}
 use lib.ListN.{length, getD, take, length-take}
 use lib.Seq.{getD-take}
-use Rattle.rising.specs.Rising.{Rising, below, Placed}
+use Rattle.rising.specs.Rising.{Rising, below, CountsBelow}
 use Rattle.rising.proofs.Placing.{placing, placed-within, past-lower, not-past}
 
 -- The bounds are in order and no further than the first numbers go, and between them is the place of the number where these rise.
@@ -49,5 +49,5 @@ module _ (numbers : List ℕ) (count number : ℕ) where
     }
 
   -- Bounds that have met are the place.
-  pub bounds-met : {low high : ℕ} → high ≤ low → Between numbers count number low high → Placed numbers count number low
+  pub bounds-met : {low high : ℕ} → high ≤ low → Between numbers count number low high → CountsBelow numbers count number low
   bounds-met met between few rise = omega (arith, between .from rise, between .to rise)

@@ -31,8 +31,8 @@ abbrev pub with-at : List ℕ → ℕ → ℕ → List ℕ
 with-at ks i n = take i ks ++ n ∷ drop i ks
 
 -- Where the first numbers rise, this is how many of them are below the number.
-abbrev pub Placed : List ℕ → ℕ → ℕ → ℕ → Type 0
-Placed numbers count number r = count ≤ length numbers → Rising (take count numbers) → r ≡ below number (take count numbers)
+abbrev pub CountsBelow : List ℕ → ℕ → ℕ → ℕ → Type 0
+CountsBelow numbers count number r = count ≤ length numbers → Rising (take count numbers) → r ≡ below number (take count numbers)
 
 -- Where the first numbers rise and have room behind them, the number is put among them, and this is how many they are then.
 abbrev pub Puts : List ℕ → List ℕ → ℕ → ℕ → ℕ → Type 0

@@ -2,12 +2,12 @@
 ghost use mathlib.Core.Path.{_≡_};
 ghost use Prim.Native.Nat.{_+_, _≤_, _<_};
 ghost use lib.ListN.{length, take};
-ghost use Rattle.rising.specs.Rising.{Placed, Puts, «with-at»};
+ghost use Rattle.rising.specs.Rising.{CountsBelow, Puts, «with-at»};
 
-// Where a number stands among the first `count`, which rise, or would stand: past those that are below it.
-pub fn place_of(numbers: &[u64], count: usize, number: u64) -> usize
+// How many of the first `count` numbers, which rise, are below a number: where it stands among them, or would stand.
+pub fn below(numbers: &[u64], count: usize, number: u64) -> usize
     ensures within { λ r. ⌜ r ≤ count ⌝ }
-    ensures placed { λ r. ⌜ Placed (now (numbers .entry)) count number r ⌝ }
+    ensures below { λ r. ⌜ CountsBelow (now (numbers .entry)) count number r ⌝ }
 {
     let mut low: usize = 0;
     let mut high = if count < numbers.len() {
@@ -50,7 +50,7 @@ pub fn put(numbers: &mut [u64], count: usize, number: u64) -> usize
     if numbers.len() <= count {
         return count;
     }
-    let place = place_of(numbers, count, number);
+    let place = below(numbers, count, number);
     if place < count {
         if numbers[place] == number {
             return count;

@@ -13,9 +13,9 @@ use Rattle.procap.specs.Lists.{In}
 use Rattle.rising.specs.Rising.{Rising, below}
 use Rattle.rising.proofs.RisingLaws.{stands-at}
 use Rattle.bl.specs.Strength.{Pair, most-pairs, AsStrong, as-itself}
-use Rattle.strength.specs.declared.marks.Row.{Row}
-use Rattle.strength.specs.declared.names.Place.{Place}
-use Rattle.strength.specs.declared.names.Place.the-variants.{Absent, At}
+use Rattle.strength.specs.declared.marks.MarkRow.{MarkRow}
+use Rattle.strength.specs.declared.names.Listed.{Listed}
+use Rattle.strength.specs.declared.names.Listed.the-variants.{Absent, At}
 use Rattle.strength.specs.Strengths.{marks-at, names-numbers, names, strongers, weakers, marks, InOrder, MarkedAbove, StrengthsOf}
 use Rattle.strength.specs.Places.{PlacedIn, KnownIn, side}
 use Rattle.strength.specs.Gaining.{MarkedIn, RowMarked, ColumnMarked, Gained, Reaching}
@@ -44,14 +44,14 @@ module _ (numbers : List ℕ) (o : InOrder numbers) where
   in-columns j i = omega (arith, placed-below (weakers numbers) j (o .under) i, o .under .few)
 
   -- A mark in the column of a place, or in its row, puts a principal above the one that stands there, or that one above it.
-  pub in-column : (k a : ℕ) (column : Place) → In k (names (strongers numbers)) → PlacedIn (weakers numbers) a column
+  pub in-column : (k a : ℕ) (column : Listed) → In k (names (strongers numbers)) → PlacedIn (weakers numbers) a column
       → ColumnMarked (marks numbers) (row-of numbers k) column ↔ MarkedAbove numbers k a
   in-column k a Absent i p = (λ m. absurd m, λ m. p (o .under) (m .weaker))
   in-column k a (At c) i p =
       let at = p .1 (o .under) in
       (λ m. record { size = o .size; stronger = i; weaker = at .0; marked = rw (at .1) at m }, λ m. rw (at .1) (m .marked))
 
-  in-row : (b j : ℕ) (row : Place) → In j (names (weakers numbers)) → PlacedIn (strongers numbers) b row
+  in-row : (b j : ℕ) (row : Listed) → In j (names (weakers numbers)) → PlacedIn (strongers numbers) b row
       → RowMarked (marks numbers) row (column-of numbers j) ↔ MarkedAbove numbers b j
   in-row b j Absent i p = (λ m. absurd m, λ m. p (o .above) (m .stronger))
   in-row b j (At r) i p =
@@ -60,7 +60,7 @@ module _ (numbers : List ℕ) (o : InOrder numbers) where
 
   module _ (ps : List Pair) (s : StrengthsOf numbers ps) where
     -- The rows that reach a principal are those of whoever is as strong as it.
-    reaches : (a row : ℕ) (column : Place) → PlacedIn (strongers numbers) a (At row) → PlacedIn (weakers numbers) a column
+    reaches : (a row : ℕ) (column : Listed) → PlacedIn (strongers numbers) a (At row) → PlacedIn (weakers numbers) a column
         → (k : ℕ) → In k (names (strongers numbers)) → Reaching (marks numbers) (getD numbers 0 0) column row (row-of numbers k) ↔ AsStrong ps k a
     reaches a row column r c k i = (to, fro)
       where
@@ -76,7 +76,7 @@ module _ (numbers : List ℕ) (o : InOrder numbers) where
             ]
 
     -- What is gained are the marks of whomever this principal is as strong as.
-    reached : (b own : ℕ) (row : Place) (gained : Row) → PlacedIn (weakers numbers) b (At own) → PlacedIn (strongers numbers) b row
+    reached : (b own : ℕ) (row : Listed) (gained : MarkRow) → PlacedIn (weakers numbers) b (At own) → PlacedIn (strongers numbers) b row
         → Gained (marks numbers) row own gained
         → (j : ℕ) → In j (names (weakers numbers)) → MarkedIn gained (column-of numbers j) ↔ AsStrong ps b j
     reached b own row gained p r g j i = (to, fro)
@@ -95,7 +95,7 @@ module _ (numbers : List ℕ) (o : InOrder numbers) where
             (elim (s .told b j h) [ inl e ↦ inl (ap (column-of numbers) (sym e) ∙ sym (here .1)) | inr m ↦ inr (in-row b j row i r .1 m) ])
 
   -- So these are what the pair brings.
-  pub brings : (p : Pair) (a b : ℕ) → a ≡ p .stronger → b ≡ p .weaker → (column lower : Place) (row own : ℕ) (gained : Row)
+  pub brings : (p : Pair) (a b : ℕ) → a ≡ p .stronger → b ≡ p .weaker → (column lower : Listed) (row own : ℕ) (gained : MarkRow)
       → PlacedIn (strongers numbers) a (At row) → PlacedIn (weakers numbers) a column
       → PlacedIn (strongers numbers) b lower → PlacedIn (weakers numbers) b (At own)
       → Gained (lent-marks numbers) lower own gained → Brings numbers p (record { column = column; row = row; gained = gained })

@@ -6,11 +6,11 @@ use native.Mathlib.Omega.{arith}
 use lib.ListN.{length, getD, take, drop, length-drop}
 use lib.Seq.{length-take-le, getD-take, getD-drop}
 use Rattle.procap.specs.Lists.{In}
-use Rattle.rising.specs.Rising.{below, Placed}
+use Rattle.rising.specs.Rising.{below, CountsBelow}
 use Rattle.rising.proofs.RisingLaws.{stands-at, found-stands}
 use Rattle.bl.specs.Strength.{most-pairs}
-use Rattle.strength.specs.declared.names.Place.{Place}
-use Rattle.strength.specs.declared.names.Place.the-variants.{Absent, At}
+use Rattle.strength.specs.declared.names.Listed.{Listed}
+use Rattle.strength.specs.declared.names.Listed.the-variants.{Absent, At}
 use Rattle.strength.specs.Strengths.{names-numbers, names, Ordered}
 use Rattle.strength.specs.Places.{PlacedIn, KnownIn, Within}
 use Rattle.strength.proofs.Parts.{to-the-end}
@@ -24,19 +24,19 @@ pub placed-below : (numbers : List ℕ) (name : ℕ) → Ordered numbers → In 
 placed-below numbers name o i = omega (arith, stands-at name (names numbers) (o .rising) i .0, names-counted numbers (o .size) (o .few))
 
 -- A place that was found is one of 128.
-pub placed-within : (numbers : List ℕ) (name : ℕ) (place : Place) → PlacedIn numbers name place → Within place
+pub placed-within : (numbers : List ℕ) (name : ℕ) (place : Listed) → PlacedIn numbers name place → Within place
 placed-within numbers name Absent p = tt
 placed-within numbers name (At i) p = p .0
 
-pub within-told : (place : Place) {i : ℕ} → place ≡ At i → Within place → i < most-pairs
+pub within-told : (place : Listed) {i : ℕ} → place ≡ At i → Within place → i < most-pairs
 within-told place e h = rw e at h
 
-pub place-told : (numbers : List ℕ) (name : ℕ) (place : Place) {i : ℕ} → place ≡ At i → PlacedIn numbers name place → i < most-pairs
+pub place-told : (numbers : List ℕ) (name : ℕ) (place : Listed) {i : ℕ} → place ≡ At i → PlacedIn numbers name place → i < most-pairs
 place-told numbers name place e p = within-told place e (placed-within numbers name place p)
 
 -- What the search by halves found is the place of the name, and holds the name where it stands there.
 module _ (numbers : List ℕ) (name place : ℕ) (size : length numbers ≡ names-numbers) (few : getD numbers 0 0 ≤ most-pairs)
-    (p : Placed (take (length numbers - 1) (drop 1 numbers)) (getD numbers 0 0) name place) where
+    (p : CountsBelow (take (length numbers - 1) (drop 1 numbers)) (getD numbers 0 0) name place) where
   place-is : Ordered numbers → place ≡ below name (names numbers)
   place-is o = let q = rw (to-the-end 1 numbers) at p in q (omega (arith, length-drop 1 numbers)) (o .rising)
 

@@ -19,7 +19,7 @@ use Rattle.strength.proofs.TableParts.{lent-marks, with-marks, size-kep
 use Rattle.strength.proofs.Bringing.{row-of, column-of, in-columns, stronger-stands, weaker-stands}
 
 -- What a pair brings is gained by the marks, and the names stay.
-pub record Taken (numbers more : List ℕ) (p : Pair) (brought : Brought) : Type 0 where
+pub record PairTaken (numbers more : List ℕ) (p : Pair) (brought : Brought) : Type 0 where
   pub ordered : InOrder numbers
   pub stronger : In (p .stronger) (names (strongers numbers))
   pub weaker : In (p .weaker) (names (weakers numbers))
@@ -29,7 +29,7 @@ pub record Taken (numbers more : List ℕ) (p : Pair) (brought : Brought) : Type
   pub above : strongers more ≡ strongers numbers
   pub under : weakers more ≡ weakers numbers
 
-module _ (numbers more : List ℕ) (p : Pair) (brought : Brought) (t : Taken numbers more p brought) (ps : List Pair) (s : StrengthsOf numbers ps) where
+module _ (numbers more : List ℕ) (p : Pair) (brought : Brought) (t : PairTaken numbers more p brought) (ps : List Pair) (s : StrengthsOf numbers ps) where
   -- A mark that was there, or is gained, is there then.
   marked-then : {k j : ℕ} → In k (names (strongers numbers)) → In j (names (weakers numbers))
       → Marked (marks numbers) (row-of numbers k) (column-of numbers j)
@@ -67,8 +67,8 @@ module _ (numbers more : List ℕ) (p : Pair) (brought : Brought) (t : Taken num
   more-ordered : InOrder more
   more-ordered = record { size = t .size ∙ t .ordered .size; above = rw (t .above) (t .ordered .above); under = rw (t .under) (t .ordered .under) }
 
-  pub one-more : StrengthsOf more (p ∷ ps)
-  one-more = record { ordered = λ _. more-ordered; told = told-more; only = only-more }
+  pub one-pair-more : StrengthsOf more (p ∷ ps)
+  one-pair-more = record { ordered = λ _. more-ordered; told = told-more; only = only-more }
 
 -- The pair whose marks were put is one pair more.
 pub pair-taken : (pair : ℕ) (numbers words : List ℕ) (brought : Brought) → Standing (pair ∷ []) numbers → Brings numbers (pair-of pair) brought
@@ -77,7 +77,7 @@ pub pair-taken : (pair : ℕ) (numbers words : List ℕ) (brought : Brought) →
     (Reaching (lent-marks numbers) (getD numbers 0 0) (brought .column) (brought .row)) (brought .gained)
     → OnePairMore pair numbers (with-marks numbers words)
 pair-taken pair numbers words brought s b same g =
-    record { above = taken .above; under = taken .under; grown = one-more numbers (with-marks numbers words) (pair-of pair) brought taken }
+    record { above = taken .above; under = taken .under; grown = one-pair-more numbers (with-marks numbers words) (pair-of pair) brought taken }
   where
     size : length numbers ≡ strength-numbers
     size = s .ordered .size
@@ -86,7 +86,7 @@ pair-taken pair numbers words brought s b same g =
         (Reaching (marks numbers) (getD numbers 0 0) (brought .column) (brought .row)) (brought .gained)
     put = rw (marks-put numbers words size same) (rw (to-the-end marks-at numbers) at g)
 
-    taken : Taken numbers (with-marks numbers words) (pair-of pair) brought
+    taken : PairTaken numbers (with-marks numbers words) (pair-of pair) brought
     taken =
         record {
           ordered = s .ordered;

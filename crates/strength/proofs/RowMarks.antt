@@ -9,9 +9,9 @@ use lib.Bits.{bitOr}
 use lib.ListN.{length, getD, set, length-set}
 use lib.Seq.{getD-set-same, getD-set-other}
 use Rattle.bl.specs.Strength.{most-pairs}
-use Rattle.strength.specs.declared.marks.Row.{Row}
-use Rattle.strength.specs.declared.names.Place.{Place}
-use Rattle.strength.specs.declared.names.Place.the-variants.{Absent, At}
+use Rattle.strength.specs.declared.marks.MarkRow.{MarkRow}
+use Rattle.strength.specs.declared.names.Listed.{Listed}
+use Rattle.strength.specs.declared.names.Listed.the-variants.{Absent, At}
 use Rattle.strength.specs.Marks.{Bit, Marked}
 use Rattle.strength.specs.Gaining.{MarkedIn, OneMark, Gained}
 use Rattle.strength.proofs.BitLaws.{bit-or, one-bit, no-bit}
@@ -58,7 +58,7 @@ module _ (words : List ℕ) (row low high : ℕ) where
       ∙ getD-set-other words (row * 2) (x * 2 + h) low 0 (λ e. n (omega arith))
 
 -- With no row, one mark is gained; with a row, its marks besides.
-module _ (words : List ℕ) (place : Place) (own : ℕ) (mark : Row) (one : OneMark own mark) where
+module _ (words : List ℕ) (place : Listed) (own : ℕ) (mark : MarkRow) (one : OneMark own mark) where
   pub mark-gained : place ≡ Absent → Gained words place own mark
   mark-gained e y l = rw e (λ m. inl (one y l .0 m), λ s. elim s [ inl q ↦ one y l .1 q | inr n ↦ absurd n ])
 
@@ -70,7 +70,7 @@ module _ (words : List ℕ) (place : Place) (own : ℕ) (mark : Row) (one : OneM
       (λ m. elim (both .0 m) [ inl w ↦ inl (one y l .0 w) | inr g ↦ inr g ], λ s. both .1 (elim s [ inl q ↦ inl (one y l .1 q) | inr g ↦ inr g ]))
 
 -- A row of one bit has one mark.
-one-marked : (row : Row) (column y : ℕ) → y < most-pairs
+one-marked : (row : MarkRow) (column y : ℕ) → y < most-pairs
     → (y / 64 ≡ column / 64 → getD (row .low ∷ row .high ∷ []) (y / 64) 0 ≡ 1 * 2 ^ (column % 64) % 2 ^ 64)
     → ((y / 64 ≡ column / 64 → ⊥) → getD (row .low ∷ row .high ∷ []) (y / 64) 0 ≡ 0)
     → MarkedIn row y ↔ (y ≡ column)

@@ -8,8 +8,8 @@ use lib.ListN.{length}
 use Rattle.procap.specs.Tells.{Tells}
 use Rattle.procap.proofs.Telling.{tells-by}
 use Rattle.bl.specs.Strength.{as-itself}
-use Rattle.strength.specs.declared.names.Place.{Place}
-use Rattle.strength.specs.declared.names.Place.the-variants.{Absent, At}
+use Rattle.strength.specs.declared.names.Listed.{Listed}
+use Rattle.strength.specs.declared.names.Listed.the-variants.{Absent, At}
 use Rattle.strength.specs.Marks.{Marked}
 use Rattle.strength.specs.Strengths.{strength-numbers, strongers, weakers, marks, InOrder, MarkedAbove, TellsStrength}
 use Rattle.strength.specs.Places.{PlacedIn}
@@ -29,13 +29,13 @@ module _ (numbers : List ℕ) (k j : ℕ) where
     no-table n = tells-marked false (λ o m. n (m .size))
 
     module _ (size : length numbers ≡ strength-numbers) where
-      pub no-row : (place : Place) → place ≡ Absent → PlacedIn (strongers numbers) k place → TellsStrength numbers k j false
+      pub no-row : (place : Listed) → place ≡ Absent → PlacedIn (strongers numbers) k place → TellsStrength numbers k j false
       no-row place e p = let q = rw e at p in tells-marked false (λ o m. q (o size .above) (m .stronger))
 
-      pub no-column : (place : Place) → place ≡ Absent → PlacedIn (weakers numbers) j place → TellsStrength numbers k j false
+      pub no-column : (place : Listed) → place ≡ Absent → PlacedIn (weakers numbers) j place → TellsStrength numbers k j false
       no-column place e p = let q = rw e at p in tells-marked false (λ o m. q (o size .under) (m .weaker))
 
-      pub by-mark : (upper lower : Place) (row column : ℕ) (r : Bool) → upper ≡ At row → PlacedIn (strongers numbers) k upper
+      pub by-mark : (upper lower : Listed) (row column : ℕ) (r : Bool) → upper ≡ At row → PlacedIn (strongers numbers) k upper
           → lower ≡ At column → PlacedIn (weakers numbers) j lower → Tells r (Marked (marks numbers) row column) → TellsStrength numbers k j r
       by-mark upper lower row column r e p f q t = tells-marked r (λ o. told (o size))
         where

@@ -7,12 +7,12 @@ use Rattle.procap.specs.Lists.{In}
 use Rattle.procap.specs.Tells.{pick}
 use Rattle.rising.specs.Rising.{below}
 use Rattle.bl.specs.Strength.{pair-of, most-pairs}
-use Rattle.strength.specs.declared.names.Place.{Place}
-use Rattle.strength.specs.declared.names.Place.the-variants.{Absent, At}
+use Rattle.strength.specs.declared.names.Listed.{Listed}
+use Rattle.strength.specs.declared.names.Listed.the-variants.{Absent, At}
 use Rattle.strength.specs.Strengths.{names, Ordered}
 
 -- Where a name stands in a list that is in order; a place is one of 128 in any case.
-abbrev pub PlacedIn : List ℕ → ℕ → Place → Type 0
+abbrev pub PlacedIn : List ℕ → ℕ → Listed → Type 0
 PlacedIn numbers name Absent = Ordered numbers → In name (names numbers) → ⊥
 PlacedIn numbers name (At i) = (i < most-pairs) × (Ordered numbers → In name (names numbers) × (i ≡ below name (names numbers)))
 
@@ -22,7 +22,7 @@ pub record KnownIn (numbers : List ℕ) (name : ℕ) : Type 0 where
   pub there : In name (names numbers)
 
 -- A place is one of 128.
-abbrev pub Within : Place → Type 0
+abbrev pub Within : Listed → Type 0
 Within Absent = Unit {0}
 Within (At i) = i < most-pairs
 

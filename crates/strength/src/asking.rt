@@ -3,7 +3,7 @@ use crate::MARKS_AT;
 use crate::STRENGTH_NUMBERS;
 use crate::WEAKERS_AT;
 use crate::marks::marked;
-use crate::names::Place;
+use crate::names::Listed;
 use crate::names::place_in;
 ghost use Rattle.strength.specs.Strengths.{TellsStrength};
 
@@ -17,10 +17,10 @@ pub fn as_strong(strengths: &[u64], principal: u64, other: u64) -> bool
     if strengths.len() != STRENGTH_NUMBERS {
         return false;
     }
-    let Place::At(row) = place_in(&strengths[0..WEAKERS_AT], principal) else {
+    let Listed::At(row) = place_in(&strengths[0..WEAKERS_AT], principal) else {
         return false;
     };
-    let Place::At(column) = place_in(&strengths[WEAKERS_AT..MARKS_AT], other) else {
+    let Listed::At(column) = place_in(&strengths[WEAKERS_AT..MARKS_AT], other) else {
         return false;
     };
     marked(&strengths[MARKS_AT..], row, column)

@@ -3,10 +3,10 @@ use crate::MARKS_AT;
 use crate::MOST_PAIRS;
 use crate::STRENGTH_NUMBERS;
 use crate::WEAKERS_AT;
-use crate::marks::Row;
+use crate::marks::MarkRow;
 use crate::marks::gain;
 use crate::marks::gained_by;
-use crate::names::Place;
+use crate::names::Listed;
 use crate::names::known_place_in;
 use crate::names::place_in;
 use crate::names::put_names;
@@ -19,9 +19,9 @@ ghost use Rattle.strength.specs.Taking.{Standing, Brings, OnePairMore};
 
 // What a pair brings: the column of its stronger one, if there is one, the row of that one, and the marks that are gained.
 struct Brought {
-    column: Place,
+    column: Listed,
     row: usize,
-    gained: Row,
+    gained: MarkRow,
 }
 
 // Finds the strengths that the pairs give.

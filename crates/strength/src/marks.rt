@@ -1,5 +1,5 @@
 // Rows of marks, two words for each.
-use crate::names::Place;
+use crate::names::Listed;
 ghost use Prim.Native.Nat.{_<_, _≤_};
 ghost use mathlib.Core.Path.{_≡_};
 ghost use lib.ListN.{length};
@@ -10,7 +10,7 @@ ghost use Rattle.strength.specs.Places.{Within};
 ghost use Rattle.strength.specs.Gaining.{«mark-words», OneMark, ColumnMarked, Gained, Gains, Reaching};
 
 // A row of marks by itself.
-pub(crate) struct Row {
+pub(crate) struct MarkRow {
     pub low: u64,
     pub high: u64,
 }
@@ -32,34 +32,34 @@ pub(crate) fn marked(words: &[u64], row: usize, column: usize) -> bool
 }
 
 // The row with one mark.
-fn one_mark(column: usize) -> Row
+fn one_mark(column: usize) -> MarkRow
     requires { ⌜ column < «most-pairs» ⌝ }
     ensures { λ r. ⌜ OneMark column r ⌝ }
 {
     let bit = 1u64 << (column % 64);
     if column < 64 {
-        return Row { low: bit, high: 0 };
+        return MarkRow { low: bit, high: 0 };
     }
-    Row { low: 0, high: bit }
+    MarkRow { low: 0, high: bit }
 }
 
 // The marks of a row, if there is one, with that of a column.
-pub(crate) fn gained_by(words: &[u64], row: Place, own: usize) -> Row
+pub(crate) fn gained_by(words: &[u64], row: Listed, own: usize) -> MarkRow
     requires { ⌜ (length (now words) ≡ «mark-words») × Within row × (own < «most-pairs») ⌝ }
     ensures { λ r. ⌜ Gained (now (words .entry)) row own r ⌝ }
 {
     let mark = one_mark(own);
-    let Place::At(at) = row else {
+    let Listed::At(at) = row else {
         return mark;
     };
-    Row {
+    MarkRow {
         low: mark.low | words[at * 2],
         high: mark.high | words[at * 2 + 1],
     }
 }
 
 // A row gains marks.
-fn gain_row(words: &mut [u64], row: usize, gained: Row)
+fn gain_row(words: &mut [u64], row: usize, gained: MarkRow)
     requires { ⌜ (length (now words) ≡ «mark-words») × (row < «most-pairs») ⌝ }
     ensures { λ _. ⌜ Gains (now (words .entry)) (now (words .exit)) (λ x. x ≡ row) gained ⌝ }
 {
@@ -70,11 +70,11 @@ fn gain_row(words: &mut [u64], row: usize, gained: Row)
 }
 
 // Each of the first rows gains marks that has the mark of a column.
-fn gain_rows(words: &mut [u64], count: usize, column: Place, gained: Row)
+fn gain_rows(words: &mut [u64], count: usize, column: Listed, gained: MarkRow)
     requires { ⌜ (length (now words) ≡ «mark-words») × (count ≤ «most-pairs») × Within column ⌝ }
     ensures { λ _. ⌜ Gains (now (words .entry)) (now (words .exit)) (λ x. (x < count) × ColumnMarked (now (words .entry)) x column) gained ⌝ }
 {
-    let Place::At(at) = column else {
+    let Listed::At(at) = column else {
         return;
     };
     let word = at / 64;
@@ -89,7 +89,7 @@ fn gain_rows(words: &mut [u64], count: usize, column: Place, gained: Row)
 }
 
 // Each of the first rows gains marks that has the mark of a column, and one row in any case.
-pub(crate) fn gain(words: &mut [u64], count: usize, column: Place, row: usize, gained: Row)
+pub(crate) fn gain(words: &mut [u64], count: usize, column: Listed, row: usize, gained: MarkRow)
     requires { ⌜ (length (now words) ≡ «mark-words») × (count ≤ «most-pairs») × Within column × (row < «most-pairs») ⌝ }
     ensures { λ _. ⌜ Gains (now (words .entry)) (now (words .exit)) (Reaching (now (words .entry)) count column row) gained ⌝ }
 {

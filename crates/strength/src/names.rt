@@ -1,17 +1,17 @@
 // Lists of names in rising order, each behind its count.
 use crate::MOST_PAIRS;
-use rising::place_of;
+use rising::below;
 use rising::put;
 ghost use Prim.Native.Nat.{_≤_};
 ghost use mathlib.Core.Path.{_≡_};
 ghost use lib.ListN.{length};
 ghost use Rattle.bl.specs.Strength.{«most-pairs»};
-ghost use Rattle.strength.specs.declared.names.Place.the-variants.{At};
+ghost use Rattle.strength.specs.declared.names.Listed.the-variants.{At};
 ghost use Rattle.strength.specs.Strengths.{«names-numbers»};
 ghost use Rattle.strength.specs.Places.{PlacedIn, KnownIn, side, Named};
 
 // Where a name stands in a list, if it does.
-pub(crate) enum Place {
+pub(crate) enum Listed {
     Absent,
     At(usize),
 }
@@ -20,24 +20,24 @@ pub(crate) enum Place {
 const NAMES_NUMBERS: usize = 129;
 
 // Where a name stands in a counted list.
-pub(crate) fn place_in(names: &[u64], name: u64) -> Place
+pub(crate) fn place_in(names: &[u64], name: u64) -> Listed
     ensures { λ r. ⌜ PlacedIn (now (names .entry)) name r ⌝ }
 {
     if names.len() != NAMES_NUMBERS {
-        return Place::Absent;
+        return Listed::Absent;
     }
     let count = names[0] as usize;
     if MOST_PAIRS < count {
-        return Place::Absent;
+        return Listed::Absent;
     }
-    let place = place_of(&names[1..], count, name);
+    let place = below(&names[1..], count, name);
     if count <= place {
-        return Place::Absent;
+        return Listed::Absent;
     }
     if names[place + 1] != name {
-        return Place::Absent;
+        return Listed::Absent;
     }
-    Place::At(place)
+    Listed::At(place)
 }
 
 // Where a name stands that a counted list has.
@@ -46,7 +46,7 @@ pub(crate) fn known_place_in(names: &[u64], name: u64) -> usize
     ensures { λ r. ⌜ PlacedIn (now (names .entry)) name (At r) ⌝ }
 {
     let count = names[0] as usize;
-    place_of(&names[1..], count, name)
+    below(&names[1..], count, name)
 }
 
 // The stronger one of a pair, or else its weaker one.

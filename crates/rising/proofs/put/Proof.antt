@@ -12,17 +12,17 @@ returns c = (omega arith, (refl, λ room rise. absurd (omega arith)))
 
 returns-2 : tie.Need-returns-2
 returns-2 c =
-    let place-of = c .before .before .before .place-of in
-    (omega arith, (refl, puts-nothing _ _ _ (place-of .result) (omega arith) (place-of .ensures .1) (c .before .before .if2 .taken) (c .if3 .taken)))
+    let counted = c .before .before .before .below in
+    (omega arith, (refl, puts-nothing _ _ _ (counted .result) (omega arith) (counted .ensures .1) (c .before .before .if2 .taken) (c .if3 .taken)))
 
 returns-3 : tie.Need-returns-3
 returns-3 c =
     let joined = c .before .before .before .before in
-    let place-of = joined .before .place-of in (
+    let counted = joined .before .below in (
       omega arith,
       (
         search needs,
-        puts-one _ _ _ (place-of .result) (omega arith) (place-of .ensures .1) _
+        puts-one _ _ _ (counted .result) (omega arith) (counted .ensures .1) _
             (λ inside found. ⊎-elim (λ w. w .2 .left found) (λ w. omega arith) (joined .if2 .came))
             (search needs) (c .before .before .put-at .ensures),
       ),

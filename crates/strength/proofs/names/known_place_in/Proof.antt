@@ -7,7 +7,7 @@ use Rattle.strength.proofs.names.known_place_in.Tie as tie
 returns : tie.Need-returns
 returns c =
     let known = c .before .before .before .before .pre in
-    known-there _ _ _ (known .ordered .size) (known .ordered .few) (c .place-of .ensures .1) known
+    known-there _ _ _ (known .ordered .size) (known .ordered .few) (c .below .ensures .1) known
 
 pub known-place-in-spec : {M : Type 1} → statement M
 known-place-in-spec =

@@ -7,18 +7,18 @@ use Rattle.strength.proofs.names.place_in.Tie as tie
 
 returns-3 : tie.Need-returns-3
 returns-3 c =
-    let place = c .before .place-of in
+    let place = c .before .below in
     past-the-end _ _ (place .result) (omega (arith, c .before)) (omega (arith, c .before)) (place .ensures .1) (c .if3 .taken)
 
 returns-4 : tie.Need-returns-4
 returns-4 c =
-    let place = c .before .before .before .place-of in
+    let place = c .before .before .before .below in
     another-there _ _ (place .result) (omega (arith, c .before)) (omega (arith, c .before)) (place .ensures .1)
     (c .before .before .if3 .left) (c .if4 .taken)
 
 returns-5 : tie.Need-returns-5
 returns-5 c =
-    let place = c .before .before .before .place-of in
+    let place = c .before .before .before .below in
     name-there _ _ (place .result) (omega (arith, c .before)) (omega (arith, c .before)) (place .ensures .1)
     (c .before .before .if3 .left) (c .if4 .left)
 

@@ -4,8 +4,8 @@ use mathlib.Core.Logic.{⊎-elim}
 use native.Mathlib.Omega.{arith}
 use borrow.Author.Needs.{needs}
 use Rattle.rising.proofs.Searching.{Between, all-between, upper-half, lower-half, bounds-met}
-use Rattle.rising.proofs.place_of.Statement.{statement}
-use Rattle.rising.proofs.place_of.Tie as tie
+use Rattle.rising.proofs.below.Statement.{statement}
+use Rattle.rising.proofs.below.Tie as tie
 
 abbrev Inv-loop : tie.InvT-loop
 Inv-loop numbers count number low₀ high₀ low high = Between numbers count number low high
@@ -29,8 +29,8 @@ loop-again-2 c =
 returns : tie.Need-returns Inv-loop μ-loop
 returns c = (omega arith, bounds-met _ _ _ (c .loop-test .left) (c .before .loop .inv))
 
-pub place-of-spec : {M : Type 1} → statement M
-place-of-spec =
+pub below-spec : {M : Type 1} → statement M
+below-spec =
     tie.close
     (tie.spec Inv-loop μ-loop loop-holds (λ c. search needs) (λ c. search needs) (λ c. search needs) (λ c. search needs) (λ c. search needs)
     (λ c. search needs) loop-again (λ c. search needs) loop-again-2 returns)
