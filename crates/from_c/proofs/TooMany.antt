@@ -10,14 +10,14 @@ use lib.ListN.{length, take}
 use lib.Seq.{length-take-le, take-all}
 use borrow.Author.Tests.{lt-leb}
 use Rattle.procap.specs.Outcome.{refused, go-on}
-use Rattle.procap.specs.declared.answer.Answer.the-variants.{CertificateMalformed, TooManyPairs}
+use Rattle.procap.specs.declared.answer.Answer.the-variants.{CertificateMalformed}
 use Rattle.procap.specs.declared.procap.Request.{Request}
-use Rattle.procap.proofs.Granted.{is-not-so}
 use Rattle.bl.specs.declared.Certificate.{Certificate}
 use Rattle.bl.specs.Certificates.{most-certificates, statements}
 use Rattle.bl.specs.Strength.{most-pairs, pairs-in}
 use Rattle.bl.specs.Policy.{policy-in}
 use Rattle.bl.specs.Calls.{read-case, verified, directly}
+use Rattle.bl.proofs.Called.{too-many-pairs}
 use Rattle.from_c.specs.Records.{lent-at-most}
 use Rattle.from_c.specs.Pairs.{pairs-at-most}
 
@@ -31,11 +31,6 @@ lent-the-same f most many same xs = by (decLe (length xs) (suc most))
     by (no more) =
         let lent = length-take-le (suc most) xs (omega arith) in
         same (take (suc most) xs) (omega arith) ∙ sym (same xs (omega arith))
-
--- More pairs than are taken are refused.
-too-many-pairs : (pairs : List ℕ) → most-pairs < length pairs → pairs-in pairs ≡ refused TooManyPairs
-unfolding pairs-in go-on
-too-many-pairs pairs many = rw (is-not-so TooManyPairs (decLe (length pairs) most-pairs) (λ few. omega arith)) refl
 
 module _ (buffer pairs proof : List ℕ) where
   -- More records than are taken are refused, before any of them is looked at.

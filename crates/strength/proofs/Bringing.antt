@@ -1,6 +1,5 @@
 -- What a pair brings, by the places of its two principals: a row reaches its stronger one where its principal is as strong, and a
--- mark is gained
--- where the weaker one is as strong as the principal of the column.
+-- mark is gained where the weaker one is as strong as the principal of the column.
 use Prim.Native.Nat.{ℕ, _<_}
 use mathlib.Core.Path.{_≡_, refl, sym, ap, _∙_}
 use mathlib.Core.Bool.{true, false}

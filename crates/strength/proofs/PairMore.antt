@@ -1,6 +1,5 @@
 -- One pair more: the rows of whoever is as strong as its stronger one gain the marks of whomever its weaker one is as strong as,
--- and so the marks
--- say what the pairs give with one more.
+-- and so the marks say what the pairs give with one more.
 use Prim.Native.Nat.{ℕ}
 use mathlib.Core.Path.{_≡_, refl, sym, _∙_}
 use mathlib.Core.List.{List, [], _∷_}

@@ -13,22 +13,22 @@ use Rattle.procap.specs.States.{stated}
 use Rattle.procap.specs.Desk.{read-press}
 use Rattle.procap.specs.Outcome.{Outcome, granted, refused, go-on, or-else, answer-of, procap-handed}
 use Rattle.procap.specs.declared.answer.Answer.{Answer}
-use Rattle.procap.specs.declared.answer.Answer.the-variants.{Granted, ProofMalformed, NoMomentLeft, StateMalformed, MomentAboveLatest, TooManyPairs}
+use Rattle.procap.specs.declared.answer.Answer.the-variants.{Granted, ProofMalformed, NoMomentLeft, StateMalformed, MomentAboveLatest}
 use Rattle.procap.specs.declared.procap.Request.{Request}
 use Rattle.procap.specs.declared.procap.Procap.{Procap}
-use Rattle.procap.proofs.Granted.{same-grant, went-on, goes-on, is-so, is-not-so, reads-press}
+use Rattle.procap.proofs.Granted.{goes-on, is-so, is-not-so, reads-press}
 use Rattle.state.specs.Standing.{WellFormed}
 use Rattle.bl.specs.declared.Certificate.{Certificate}
 use Rattle.bl.specs.Trees.{Check}
 use Rattle.bl.specs.Certificates.{statements}
-use Rattle.bl.specs.Strength.{most-pairs, pairs-of, pairs-in}
+use Rattle.bl.specs.Strength.{pairs-in}
 use Rattle.bl.specs.Policy.{Policy, policy-in}
 use Rattle.bl.specs.Questions.{done}
 use Rattle.bl.specs.Steps.{proof-in}
 use Rattle.bl.specs.Walk.{walk}
 use Rattle.bl.specs.Readings.{Kept, start, office, press, run}
 use Rattle.bl.specs.Calls.{read-case, issue, verified, directly}
-use Rattle.bl.proofs.Called.{case-read}
+use Rattle.bl.proofs.Called.{policy-from, case-read}
 use Rattle.ledger.specs.declared.Reading.{Reading}
 use Rattle.ledger.specs.declared.Reading.the-variants.{Office, Press}
 use Rattle.ledger.specs.declared.Stop.{Stop}
@@ -96,16 +96,6 @@ pub a-proof : (c : ℕ) (proof : List ℕ) (N : Check) → proof-in c proof ≡ 
 unfolding or-else
 a-proof c proof N e = rw e refl
 
--- Pairs that are few, and too many.
-module _ (pairs : List ℕ) where
-  pub few-pairs : length pairs ≤ most-pairs → pairs-in pairs ≡ granted (pairs-of pairs)
-  unfolding pairs-in
-  few-pairs few = goes-on _ _ tt (is-so TooManyPairs (decLe (length pairs) most-pairs) few)
-
-  pub too-many-pairs : most-pairs < length pairs → pairs-in pairs ≡ refused TooManyPairs
-  unfolding pairs-in
-  too-many-pairs many = refused-on _ _ TooManyPairs (is-not-so TooManyPairs (decLe (length pairs) most-pairs) (λ few. omega arith))
-
 module _ (records : List Certificate) (buffer pairs : List ℕ) where
   -- What stops the certificates stops the policy, and then what stops the pairs.
   pub policy-stops : (stop other : Stop) → Stops (statements buffer records) stop → Stops (pairs-in pairs) other → Stops (policy-in records buffer pairs) (first-of stop other)
@@ -113,16 +103,6 @@ module _ (records : List Certificate) (buffer pairs : List ℕ) where
   policy-stops Going Going (cs, e) (ps, f) = (_, goes-on _ _ cs e ∙ goes-on _ _ ps f)
   policy-stops Going (Stopped answer) (cs, e) f = goes-on _ _ cs e ∙ refused-on _ _ answer f
   policy-stops (Stopped answer) other e f = refused-on _ _ answer e
-
-  -- What a policy was read from.
-  policy-from : {C : Type 0} (π : Policy) → policy-in records buffer pairs ≡ granted π
-      → (statements buffer records ≡ granted (π .statements) → pairs-in pairs ≡ granted (π .pairs) → C) → C
-  unfolding policy-in
-  policy-from π e k =
-      went-on _ _ _ e λ cs e₁ e.
-      went-on _ _ _ e λ ps e₂ e₃.
-      let is : record { statements = cs; pairs = ps } ≡ π = same-grant e₃ in
-      k (rw (← is) e₁) (rw (← is) e₂)
 
 module _ (records : List Certificate) (buffer pairs proof : List ℕ) where
   -- What stops the policy stops the case; where nothing does, the proof decides.

@@ -1,14 +1,12 @@
 -- A walk that goes by the strengths that were found goes by the pairs that were read: they gave those strengths, also where there is none.
-use Prim.Native.Nat.{ℕ, _≤_}
-use native.Mathlib.Decide.{decLe}
-use mathlib.Core.Path.{_≡_, refl, sym}
+use Prim.Native.Nat.{ℕ}
+use mathlib.Core.Path.{_≡_, refl}
 use mathlib.Core.List.{List, [], _∷_}
 use lib.ListN.{length, replicate}
 use native.Mathlib.Omega.{arith}
 use Rattle.procap.specs.Outcome.{granted}
-use Rattle.procap.specs.declared.answer.Answer.the-variants.{TooManyPairs}
-use Rattle.procap.proofs.Granted.{same-grant, went-on, was-so}
-use Rattle.bl.specs.Strength.{Pair, most-pairs, pairs-of, pairs-in}
+use Rattle.bl.proofs.Called.{pairs-from}
+use Rattle.bl.specs.Strength.{Pair, pairs-in}
 use Rattle.bl.specs.Policy.{Policy}
 use Rattle.strength.specs.Strengths.{strength-numbers, StrengthsOf}
 use Rattle.strength.specs.Finding.{FindsStrengths}
@@ -17,13 +15,6 @@ use Rattle.ledger.specs.declared.Ledger.{Ledger}
 use Rattle.walk.specs.Walking.{PolicyLent}
 use Rattle.verifier.specs.declared.verify.Asked.{Asked}
 use Rattle.verifier.specs.Verifying.{PolicyRead, Walked}
-
--- Pairs that were read are the lent ones, and few.
-pairs-from : {C : Type 0} (pairs : List ℕ) (ps : List Pair) → pairs-in pairs ≡ granted ps → (length pairs ≤ most-pairs → ps ≡ pairs-of pairs → C) → C
-unfolding pairs-in
-pairs-from pairs ps e k =
-    went-on _ _ _ e λ u few is.
-    k (was-so TooManyPairs (decLe (length pairs) most-pairs) u few) (sym (same-grant is))
 
 -- No pairs give no strengths.
 pub none-give : (pairs : List ℕ) (ps : List Pair) → length pairs ≡ 0 → pairs-in pairs ≡ granted ps → StrengthsOf [] ps

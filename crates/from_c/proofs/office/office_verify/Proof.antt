@@ -1,6 +1,5 @@
 -- What verify hands over for the records and the pairs that are lent on is what it comes to for all. The number of its answer
--- tells whether it issues a
--- procap: if not, its answer is handed back; else the procap's text is written.
+-- tells whether it issues a procap: if not, its answer is handed back; else the procap's text is written.
 use borrow.Author.Needs.{needs}
 use mathlib.Core.Path.{sym, _∙_}
 use lib.Seq.{length-take-le}

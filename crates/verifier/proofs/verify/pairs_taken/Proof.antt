@@ -1,5 +1,5 @@
 -- The length tells.
-use Rattle.verifier.proofs.Answers.{few-pairs, too-many-pairs}
+use Rattle.bl.proofs.Called.{few-pairs, too-many-pairs}
 use Rattle.verifier.proofs.verify.pairs_taken.Statement.{statement}
 use Rattle.verifier.proofs.verify.pairs_taken.Tie as tie
 
