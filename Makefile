@@ -14,8 +14,6 @@ C_MISSING := $(if $(shell command -v $(C_COMPILER)),,yes)
 BOUND_AT_START := -Wl,-z,now
 STATIC := $(if $(filter /%,$(shell $(C_COMPILER) -print-file-name=libc.a 2> /dev/null)),-static)
 DOOR := target/staticlib/libdoor.a
-# What the test of the door is made of.
-DOOR_TEST := $(addprefix tests/c/,door_test.c pressing.c edges.c longest.c damaged.c model.c)
 
 # Programs of this machine link these: the door, the crate from_c, which has every call on numbers and byte slices, and the crate kept, the demands as calls.
 NATIVE := target/native
@@ -23,8 +21,8 @@ CARGO := CARGO_TARGET_DIR=$(CURDIR)/target/rust RATTLE_ARCHIVES=$(CURDIR)/$(NATI
 CARGO_MISSING := $(if $(shell command -v cargo),,yes)
 COMPARE := target/rust/release/compare
 BENCH := target/rust/release/bench
-# The deepest proofs that the limits allow, and one that uses as many certificates as there may be, each with a number of its own.
-DEEPEST := $(addprefix examples/,thirty_assumptions thirty_implications thirty_cases sixteen_facts thirty_two_numbers)
+# The deepest proofs that the limits allow.
+DEEPEST := examples/thirty_assumptions examples/thirty_implications examples/thirty_cases examples/sixteen_facts
 # How many cases `make test` compares, and from which seed; how long `make fuzz` runs.
 CASES ?= 100000
 SEED ?= 1
@@ -54,7 +52,7 @@ bin/press: door examples/press.c include/procap.h
 kept: bin/kept
 	@bin/kept examples/loaded.state examples/*.case examples/*.procap
 
-bin/kept: $(NATIVE)/libkept.a tests/c/kept.c tests/c/case_bytes.c tests/c/calls.h tests/c/pressing.h
+bin/kept: $(NATIVE)/libkept.a tests/c/kept.c tests/c/case_bytes.c tests/c/calls.h
 	@$(call linked,,kept,tests/c/kept.c tests/c/case_bytes.c target/staticlib/libkept.a)
 
 # Everything that a landing must pass: the layout of the files, the pages and pictures, every proof, then the tests that run. The last line is the count that
@@ -102,7 +100,7 @@ test-c:
 	@echo "no $(C_COMPILER) on this machine: the door was not called from C here"
 else
 test-c: archives
-	@[ -z "$$(nm -u $(DOOR) | awk '$$1 == "U" { print $$2 }')" ] || { echo "the door needs something of the C library, and include/procap.h says that it does not"; exit 1; }
+	@[ "$$(nm -u $(DOOR) | awk '$$1 == "U" { print $$2 }')" = memcpy ] || { echo "the door needs more than the memcpy that include/procap.h names"; exit 1; }
 	@for link in $(BOUND_AT_START) $(STATIC); do $(MAKE) --no-print-directory test-c-linked LINK=$$link; done
 	@$(if $(STATIC),,echo "no static C library on this machine: what is linked statically was left out")
 	@$(if $(EMULATED),echo "under an emulator the sanitizers and valgrind are left out",$(MAKE) --no-print-directory test-c-memory)
@@ -112,9 +110,9 @@ endif
 # linked with LINK.
 test-c-linked: archives
 	@echo "linked with $(LINK):"
-	@$(call linked,$(LINK),door_test,$(DOOR_TEST) $(DOOR))
+	@$(call linked,$(LINK),door_test,tests/c/door_test.c tests/c/model.c $(DOOR))
 	@bin/door_test
-	@$(call linked,$(LINK),stack,tests/c/stack.c tests/c/own_stack.c tests/c/longest.c $(DOOR))
+	@$(call linked,$(LINK),stack,tests/c/stack.c tests/c/own_stack.c $(DOOR))
 	@bin/stack
 	@$(call linked,$(LINK),office_stack,tests/c/office_stack.c tests/c/own_stack.c tests/c/case_bytes.c target/staticlib/libfrom_c.a)
 	@bin/office_stack $(DEEPEST:%=%.case)
@@ -128,10 +126,10 @@ linked = $(C) $(1) -o bin/$(2) $(3) && tests/run_here.sh bin/$(2)
 
 # Presses under the sanitizers and under valgrind, which look at memory. Valgrind does not see the blocks of a program that is linked statically.
 test-c-memory: archives
-	@$(C) -g -fsanitize=address,undefined -o bin/door_test_sanitized $(DOOR_TEST) $(DOOR)
+	@$(C) -g -fsanitize=address,undefined -o bin/door_test_sanitized tests/c/door_test.c tests/c/model.c $(DOOR)
 	@echo "with the address and undefined-behaviour sanitizers:"
 	@bin/door_test_sanitized 50000
-	@$(C) -g -o bin/door_test_watched $(DOOR_TEST) $(DOOR)
+	@$(C) -g -o bin/door_test_watched tests/c/door_test.c tests/c/model.c $(DOOR)
 	@if command -v valgrind > /dev/null; then echo "under valgrind, for reads and writes outside of a buffer:"; \
 	valgrind -q --undef-value-errors=no --error-exitcode=9 bin/door_test_watched 2000; \
 	else echo "no valgrind on this machine: the reads past a buffer's end that it would see were not looked for"; fi
@@ -182,7 +180,7 @@ fuzz: $(NATIVE)/libfrom_c_covered.a $(NATIVE)/libdoor_covered.a $(NATIVE)/libkep
 	@clang -g -O1 -Wall -Wextra -Werror -fsanitize=fuzzer -o target/fuzz/fuzz tests/fuzz/fuzz.c $(NATIVE)/libfrom_c_covered.a $(NATIVE)/libdoor_covered.a $(NATIVE)/libkept_covered.a
 	@cd target/fuzz && ./fuzz -max_total_time=$(FUZZ_SECONDS) -max_len=20000 -print_final_stats=1 corpus seeds 2>&1 | grep -E "broken|ERROR|SUMMARY|stat::|^Done|INITED|Test unit written"
 
-# The program on these proofs, with a stack of 2 MiB and less.
+# The program on the deepest proofs that the limits allow, with a stack of 2 MiB and less.
 test-stack: program
 	@tests/stack.sh bin/check 2048 $(DEEPEST)
 

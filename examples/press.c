@@ -1,8 +1,7 @@
 /*
- * A press, as desk firmware makes it: the procap text, the state and the list of withdrawn numbers come as files, the request and the
- * moment as numbers. Without a list nothing is withdrawn.
+ * A press, as desk firmware makes it: the procap text and the state come as files, the request and the moment as numbers.
  *
- *     press PROCAP WHO WHAT RIGHT MOMENT STATE [WITHDRAWN]
+ *     press PROCAP WHO WHAT RIGHT MOMENT STATE
  */
 #include "../include/procap.h"
 #include <errno.h>
@@ -12,19 +11,16 @@
 
 #define MOST_BYTES 8192
 
-/*
- * Reads a file into the buffer; one that does not fit is cut, and the door then refuses it, as every longer text, state and list. So the
- * buffer has more room than any of them may take: a list cut to what is taken would be a list, with numbers missing. Where a file cannot be
- * read there is no press: a list that is not there is not the empty one.
- */
+/* Reads a file into the buffer; one that does not fit is cut, and the door then refuses it, as every longer text and state. */
 static size_t bytes_of(const char *name, uint8_t *buffer)
 {
     FILE *file = fopen(name, "rb");
-    size_t length = file ? fread(buffer, 1, MOST_BYTES, file) : 0;
-    if (!file || ferror(file)) {
+    size_t length;
+    if (!file) {
         perror(name);
         exit(2);
     }
+    length = fread(buffer, 1, MOST_BYTES, file);
     fclose(file);
     return length;
 }
@@ -45,18 +41,17 @@ static uint64_t number_of(const char *word)
 
 int main(int count, char **words)
 {
-    static uint8_t text[MOST_BYTES], state[MOST_BYTES], withdrawn[MOST_BYTES];
-    size_t text_length, state_length, withdrawn_length;
+    static uint8_t text[MOST_BYTES], state[MOST_BYTES];
+    size_t text_length, state_length;
     uint64_t answer;
-    if (count != 7 && count != 8) {
-        fprintf(stderr, "usage: press PROCAP WHO WHAT RIGHT MOMENT STATE [WITHDRAWN]\n");
+    if (count != 7) {
+        fprintf(stderr, "usage: press PROCAP WHO WHAT RIGHT MOMENT STATE\n");
         return 2;
     }
     text_length = bytes_of(words[1], text);
     state_length = bytes_of(words[6], state);
-    withdrawn_length = count == 8 ? bytes_of(words[7], withdrawn) : 0;
     answer = procap_door(text, text_length, number_of(words[2]), number_of(words[3]), number_of(words[4]), number_of(words[5]), state,
-                         state_length, withdrawn, withdrawn_length);
+                         state_length);
     if (answer == PROCAP_OPEN) {
         printf("open\n");
         return 0;

@@ -39,7 +39,7 @@ int main(int words, char **word)
     read_case(input, &given);
     for (int i = 2; i < words; i++)
         put_name(word[i], pairs + (i - 2) * 2);
-    uint64_t answer = office_verify(given.version, given.who, given.what, given.right, given.records, given.records_length, given.buffer,
+    uint64_t answer = office_verify(given.who, given.what, given.right, given.records, given.records_length, given.buffer,
                                     given.buffer_length, pairs, (size_t)(words - 2) * 2, given.proof, given.proof_length, text,
                                     sizeof text);
     if (NUMBER_OF(answer) != 0)

@@ -26,10 +26,10 @@ refuses() { # WHAT NUMBER PLACE
     expect "$1" "$room/printed" "$room/expected"
 }
 
-# Holds what is printed for a case on standard input to a procap, which is case P's where none is named.
-issues() { # WHAT [PROCAP]
+# Holds what is printed for a case on standard input to case P's procap.
+issues() { # WHAT
     "$check" > "$room/printed"
-    expect "$1" "$room/printed" "${2:-examples/p.procap}"
+    expect "$1" "$room/printed" examples/p.procap
 }
 
 # So many bytes 0.
@@ -69,46 +69,6 @@ refuses "carriage returns" 14 1 < <(sed 's/$/\r/' examples/p.case)
 refuses "a byte 0" 14 1 < <(tr 'w' '\0' < examples/p.case)
 refuses "a byte after the proof's line" 14 10 < <(cat examples/p.case; zeros 1)
 
-# ── Numbers of certificates ──
-
-# Case P with a number, and other lines in the place of that one.
-numbered() { # LINE..
-    local line
-    while IFS= read -r line; do
-        if [ "$line" = num=258 ]; then printf '%s\n' "$@"; else printf '%s\n' "$line"; fi
-    done < examples/p_numbered.case
-}
-
-# What is issued for it with another number.
-with_number() { # NUMBER
-    sed "s/^cert=258$/cert=$1/" examples/p_numbered.procap
-}
-
-numbered_length=$(wc -c < examples/p_numbered.case)
-for ((i = 0; i < numbered_length; i++)); do
-    line=$(head -c "$i" examples/p_numbered.case | wc -l)
-    refuses "case P with a number, cut after $i bytes" 14 $((line + 1)) < <(head -c "$i" examples/p_numbered.case)
-done
-for number in 0 9 10 65535; do
-    with_number "$number" > "$room/issued"
-    issues "the number $number" "$room/issued" < <(numbered "num=$number")
-done
-for word in 65536 99999 18446744073709551874 00 0258 -1 +258 ' 258' '258 ' 0x102 2,5 ''; do
-    refuses "the number \"$word\"" 14 9 < <(numbered "num=$word")
-done
-for line in Num=258 number=258 num:258 ' num=258' cert=258 ''; do
-    refuses "\"$line\" for a number's line" 14 9 < <(numbered "$line")
-done
-refuses "two numbers" 14 10 < <(numbered num=258 num=258)
-refuses "a number before what is said" 14 8 < <(sed -e '/^num=/d' -e 's/^says=/num=258\n&/' examples/p_numbered.case)
-refuses "a number and no group" 14 5 < <(sed 's/^certs=0$/&\nnum=258/' examples/no_certificates.case)
-refuses "a number on the second of three only" 14 13 < <(sed -e '9d;19d' examples/shared_number.case)
-refuses "no number on the second of three" 14 14 < <(sed -e '14d' examples/shared_number.case)
-refuses "no number on the last of 32" 14 164 < <(sed -e '164d' examples/thirty_two_numbers.case)
-issues "no number on any of three" examples/whoever_is_on_duty.procap < <(sed '/^num=/d' examples/shared_number.case)
-# Who is told 14 is told it before anything of the certificates is looked at.
-refuses "a certificate that is malformed, then a number too many" 14 13 < <(sed 's/^says=13/says=ff/' examples/number_too_many.case)
-
 # ── How much comes in ──
 
 refuses "65,536 bytes of a case: the certificate is too long" 1 0 < <(case_of 65536)
@@ -134,21 +94,11 @@ passed=$((passed + 1))
 # ── From the office to the desk ──
 
 # Presses Start with what is printed for a case, and holds what the door says to what is expected.
-presses() { # CASE MOMENT STATE EXPECTED [WITHDRAWN]
+presses() { # CASE MOMENT STATE EXPECTED
     "$check" < "examples/$1.case" > "$room/printed"
-    "$press" "$room/printed" 2 7 9 "$2" "$3" "${@:5}" > "$room/said" || true
+    "$press" "$room/printed" 2 7 9 "$2" "$3" > "$room/said" || true
     printf '%b' "$4" > "$room/expected"
-    expect "$1 shown at the door at $2${5:+ with the list ${5##*/}}" "$room/said" "$room/expected"
-}
-
-# The same at 1500, where all facts hold.
-listed() { # CASE WITHDRAWN EXPECTED
-    presses "$1" 1500 examples/loaded_and_idle.state "$3" "$2"
-}
-
-# A list of so many numbers that rise from 1000 on.
-rising() { # COUNT
-    for ((i = 1000; i < 1000 + $1; i++)); do printf '%b' "\\0$(printf %o $((i / 256)))\\0$(printf %o $((i % 256)))"; done
+    expect "$1 shown at the door at $2" "$room/said" "$room/expected"
 }
 
 if [ -z "$press" ]; then
@@ -169,50 +119,16 @@ presses trainee_in_march 1780272000 /dev/null 'refused=9\nplace=0\n'
 presses whoever_is_on_duty 1500 examples/loaded_and_idle.state 'open\n'
 presses whoever_is_on_duty 1500 examples/loaded.state 'refused=10\nplace=1\n'
 presses no_moment_left 1500 examples/loaded.state 'refused=12\nplace=0\n'
-# What examples/README.md says of each list. A text of version 1 is not touched by one, unless it is none.
-for case in p_numbered shared_number unused_number p whoever_is_on_duty head_blender_says_so; do
-    if grep -q ^num= "examples/$case.case"; then withdrawn='refused=15\nplace=0\n'; else withdrawn='open\n'; fi
-    listed $case /dev/null 'open\n'
-    listed $case examples/others.withdrawn 'open\n'
-    listed $case examples/number_258.withdrawn "$withdrawn"
-    listed $case examples/falling.withdrawn 'refused=16\nplace=0\n'
-done
-# Of 32 numbers the highest and the lowest, and the number below that.
-listed thirty_two_numbers <(printf '\377\377') 'refused=15\nplace=0\n'
-listed thirty_two_numbers <(printf '\377\340') 'refused=15\nplace=0\n'
-listed thirty_two_numbers <(printf '\377\337') 'open\n'
-# 16, then 15, then 9, then 10.
-presses p_numbered 999 /dev/null 'refused=16\nplace=0\n' examples/falling.withdrawn
-presses p_numbered 999 /dev/null 'refused=15\nplace=0\n' examples/number_258.withdrawn
-presses p_numbered 999 /dev/null 'refused=9\nplace=0\n' examples/others.withdrawn
-presses p_numbered 1000 /dev/null 'refused=10\nplace=0\n' examples/others.withdrawn
-# As many numbers as a list may have, one more, half a number less, and more bytes than the press reads.
-listed p_numbered <(rising 256) 'open\n'
-listed p_numbered <(rising 257) 'refused=16\nplace=0\n'
-listed p_numbered <(rising 256 | head -c 511) 'refused=16\nplace=0\n'
-listed p_numbered /dev/zero 'refused=16\nplace=0\n'
-
-# Holds words that are no press to the status 2, with nothing said of the door.
-no_press() { # WHAT WORD..
-    local status=0
-    "$press" "${@:2}" > "$room/said" 2> /dev/null || status=$?
-    echo "status $status" >> "$room/said"
-    echo "status 2" > "$room/expected"
-    expect "$1" "$room/said" "$room/expected"
-}
-
-# What is no number is none, in none of the four places.
+# What is no number is no press, in none of the four places: the status is 2, and nothing is said of the door.
 for word in x '' -1 ' 7' 7x 0x7 18446744073709551616; do
     for numbers in "$word|7|9|1500" "2|$word|9|1500" "2|7|$word|1500" "2|7|9|$word"; do
         IFS='|' read -r who what right moment <<< "$numbers"
-        no_press "a press with the numbers $numbers" examples/p.procap "$who" "$what" "$right" "$moment" examples/loaded.state
+        status=0
+        "$press" examples/p.procap "$who" "$what" "$right" "$moment" examples/loaded.state > "$room/said" 2> /dev/null || status=$?
+        echo "status $status" >> "$room/said"
+        echo "status 2" > "$room/expected"
+        expect "a press with the numbers $numbers" "$room/said" "$room/expected"
     done
-done
-# What cannot be read is not empty: a file that is not there, and a folder.
-for file in examples/no_such_file examples; do
-    no_press "a press with $file for a text" $file 2 7 9 1500 examples/loaded.state
-    no_press "a press with $file for a state" examples/p.procap 2 7 9 1500 $file
-    no_press "a press with $file for a list" examples/p_numbered.procap 2 7 9 1500 examples/loaded.state $file
 done
 
 echo "check: $passed runs came out as expected"

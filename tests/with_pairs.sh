@@ -1,20 +1,17 @@
 #!/bin/bash
-# The owner's certificate in the administrator's view, with and without pairs, as a program of the office lends them; and with a number.
+# The owner's certificate in the administrator's view, with and without pairs, as a program of the office lends them.
 # usage: with_pairs.sh WITH_PAIRS, from the top of the repository
 set -euo pipefail
 program=$1
 refused=$(cat examples/owner_certifies.refused)
 issued=$(cat examples/owner_above.procap)
-case=examples/owner_certifies.case
-numbered=$(mktemp)
-trap 'rm -f "$numbered"' EXIT
 passed=0
 
 # Holds what is printed for the case with these pairs to what is expected.
 expect() { # WHAT EXPECTED PAIRS..
     local what=$1 expected=$2 printed
     shift 2
-    printed=$("$program" "$case" "$@")
+    printed=$("$program" examples/owner_certifies.case "$@")
     if [ "$printed" != "$expected" ]; then
         echo "with_pairs: $what: printed \"$printed\" and not \"$expected\"" >&2
         exit 1
@@ -39,10 +36,4 @@ expect "each above itself" "$refused" 5 5 1 1
 expect "128 times the same pair" "$issued" $(times 128)
 # shellcheck disable=SC2046
 expect "129 times the same pair" $'refused=21\nplace=0' $(times 129)
-
-# The same certificate with a number: what is issued is of version 2, and pairs add no number to its list.
-sed 's/^says=.*/&\nnum=258/' "$case" > "$numbered"
-case=$numbered
-expect "a number, and no pairs" "$refused"
-expect "a number, and a chain" "$(sed -e 's/^procap=1$/procap=2/' -e 's/^facts=/certs=1\ncert=258\n&/' <<< "$issued")" 5 6 6 1
 echo "with_pairs: $passed lists of pairs, each answered as expected"

@@ -8,7 +8,6 @@ mod archive;
 mod chains;
 mod examples;
 mod measure;
-mod plans;
 mod rows;
 mod state;
 #[allow(dead_code)]
@@ -20,7 +19,6 @@ mod wire;
 #[allow(dead_code)]
 #[path = "../../tests/rust/src/bin/compare/wire_pairs.rs"]
 mod wire_pairs;
-mod withdrawn;
 
 use measure::{best_of_both, Calls};
 use rows::{rows, Row};

@@ -1,45 +1,85 @@
-//! The rows of the table, each ready to be called.
+//! The rows of the table: presses and proofs, small, usual and the largest that are allowed.
 
 use crate::archive;
+use crate::chains::{chained, name_of, Asks, Lent};
+use crate::examples::example;
 use crate::measure::Calls;
-use crate::plans::{Plan, What, PLANS};
 use crate::state::opening_state;
 use crate::wire::records_in_bytes;
 use crate::wire_pairs::pairs_in_bytes;
-use crate::withdrawn::withdrawn;
-use second_opinion::data::{Answer, Case, Procap, WITHOUT_NUMBERS, WITH_NUMBERS};
+use second_opinion::data::{Answer, Case, Procap};
+use second_opinion::generate::{at_a_limit, valid, Random};
 use second_opinion::second::{self, NoWatch};
 use std::hint::black_box;
 
-/// How long a text can be.
-const MOST_TEXT: usize = 1584;
+/// What is measured.
+#[derive(Clone, Copy)]
+enum What {
+    DoorOnValue,
+    DoorOnText,
+    Verify,
+}
+
+/// Where the case of a row comes from.
+#[derive(Clone, Copy)]
+enum From {
+    Example(&'static str),
+    Valid(u64),
+    AtALimit(u64),
+    Chained(Asks, Lent),
+}
+
+/// The rows: presses with one fact and with sixteen; case P, three proofs of 30 steps, the deepest proofs and the longest, all with no pairs; then
+/// chains of pairs, beside the same with none. The seeds are the first that give such proofs and are issued.
+const PLANS: [(What, From); 21] = [
+    (What::DoorOnValue, From::Example("p")),
+    (What::DoorOnText, From::Example("p")),
+    (What::DoorOnValue, From::Example("sixteen_facts")),
+    (What::DoorOnText, From::Example("sixteen_facts")),
+    (What::Verify, From::Example("p")),
+    (What::Verify, From::Valid(1081)),
+    (What::Verify, From::Valid(1308)),
+    (What::Verify, From::Valid(1850)),
+    (What::Verify, From::Example("thirty_implications")),
+    (What::Verify, From::Example("thirty_assumptions")),
+    (What::Verify, From::Example("thirty_cases")),
+    (What::Verify, From::Example("sixteen_facts")),
+    (What::Verify, From::AtALimit(8)),
+    (What::Verify, From::AtALimit(16)),
+    (What::Verify, From::AtALimit(18)),
+    (What::Verify, From::Chained(Asks::Once, Lent::None)),
+    (What::Verify, From::Chained(Asks::Once, Lent::BottomFirst)),
+    (What::Verify, From::Chained(Asks::Once, Lent::TopFirst)),
+    (What::Verify, From::Chained(Asks::Often, Lent::None)),
+    (What::Verify, From::Chained(Asks::Often, Lent::BottomFirst)),
+    (What::Verify, From::Chained(Asks::Often, Lent::TopFirst)),
+];
 
 /// A row: what is measured, and on which case.
 pub struct Row {
-    plan: Plan,
+    what: What,
+    from: From,
     case: Case,
     records: Vec<u8>,
     pairs: Vec<u8>,
     procap: Procap,
     text: Vec<u8>,
     state: Vec<u8>,
-    withdrawn: Vec<u8>,
 }
 
 impl Row {
     /// The row of this number, if there is one.
     pub fn number(index: usize) -> Option<Row> {
-        let plan = *PLANS.get(index)?;
-        let case = plan.from.case();
-        let issued = second::verify(plan.version, &case, &mut NoWatch);
-        let procap = issued.expect("the case is issued");
+        let (what, from) = *PLANS.get(index)?;
+        let case = from.case();
+        let procap = second::verify(&case, &mut NoWatch).expect("the case is issued");
         Some(Row {
-            plan,
+            what,
+            from,
             records: records_in_bytes(&case.records),
             pairs: pairs_in_bytes(&case.pairs),
             text: second::text_of(&procap).expect("what is issued can be written"),
             state: opening_state(&procap),
-            withdrawn: withdrawn(plan.withdrawn, &procap),
             case,
             procap,
         })
@@ -47,60 +87,49 @@ impl Row {
 
     /// What the row is called.
     pub fn name(&self) -> String {
-        let (on, facts) = (self.plan.from.name(), self.procap.facts.len());
-        let (bytes, steps) = (self.case.proof.len(), steps_of(&self.case));
-        let mut name = match self.plan.what {
-            What::DoorOnValue => format!("door on a value, {on}, facts: {facts}"),
-            What::DoorOnText => format!("door on a text, {on}, facts: {facts}"),
-            What::Verify => format!("verify, {on}: {bytes} bytes, {steps} steps"),
-        };
-        if self.plan.version == WITH_NUMBERS {
-            name += &format!(", numbers: {}", self.procap.numbers.len());
+        let on = self.from.name();
+        match self.what {
+            What::DoorOnValue => {
+                format!("door on a value, {on}, facts: {}", self.procap.facts.len())
+            }
+            What::DoorOnText => format!("door on a text, {on}, facts: {}", self.procap.facts.len()),
+            What::Verify => format!(
+                "verify, {on}: {} bytes, {} steps",
+                self.case.proof.len(),
+                steps_of(&self.case)
+            ),
         }
-        if self.plan.withdrawn > 0 {
-            name += &format!(", withdrawn: {}", self.plan.withdrawn);
-        }
-        name
     }
 
     /// Calls of the proved checker.
     pub fn proved(&self) -> Calls<'_> {
         let request = self.procap.request;
         let asked = [request.who, request.what, request.right].map(u64::from);
-        let (text, version) = (&self.text, self.plan.version);
-        let press = archive::Press {
-            moment: self.procap.from,
-            state: &self.state,
-            withdrawn: &self.withdrawn,
-        };
-        match self.plan.what {
+        let (text, from, state) = (&self.text, self.procap.from, &self.state);
+        match self.what {
             What::DoorOnValue => Box::new(move |calls| {
-                assert_eq!(archive::presses(text, request, press, calls), calls)
+                assert_eq!(archive::presses(text, request, from, state, calls), calls)
             }),
             What::DoorOnText => Box::new(move |calls| {
                 for _ in 0..calls {
-                    let answer = archive::door(black_box(text), asked, press);
+                    let answer = archive::door(black_box(text), asked, from, state);
                     assert_eq!(answer, Answer::GRANTED);
                 }
             }),
             What::Verify => Box::new(move |calls| {
-                let mut out = [0; MOST_TEXT];
+                let mut out = [0; 1223];
                 for _ in 0..calls {
-                    let returned = archive::verify(version, &self.for_archive(), &mut out);
+                    let case = archive::Case {
+                        request,
+                        records: black_box(&self.records),
+                        buffer: &self.case.buffer,
+                        pairs: &self.pairs,
+                        proof: &self.case.proof,
+                    };
+                    let returned = archive::verify(&case, &mut out);
                     assert_eq!(returned.answer, Answer::GRANTED);
                 }
             }),
-        }
-    }
-
-    /// The case as the proved checker takes it.
-    fn for_archive(&self) -> archive::Case<'_> {
-        archive::Case {
-            request: self.case.request,
-            records: black_box(&self.records),
-            buffer: &self.case.buffer,
-            pairs: &self.pairs,
-            proof: &self.case.proof,
         }
     }
 
@@ -108,30 +137,50 @@ impl Row {
     pub fn second(&self) -> Calls<'_> {
         let request = self.procap.request;
         let [who, what, right] = [request.who, request.what, request.right].map(u64::from);
-        let (procap, text, version) = (&self.procap, &self.text, self.plan.version);
-        let (from, state, list) = (procap.from, &self.state, &self.withdrawn);
-        match self.plan.what {
+        let (procap, text, state) = (&self.procap, &self.text, &self.state);
+        match self.what {
             What::DoorOnValue => Box::new(move |calls| {
                 for _ in 0..calls {
-                    let answer = second::door(black_box(procap), request, from, state, list);
+                    let answer = second::door(black_box(procap), request, procap.from, state);
                     assert_eq!(answer, Answer::GRANTED);
                 }
             }),
             What::DoorOnText => Box::new(move |calls| {
                 for _ in 0..calls {
-                    let text = black_box(text);
-                    let answer = second::door_on_text(text, who, what, right, from, state, list);
+                    let answer =
+                        second::door_on_text(black_box(text), who, what, right, procap.from, state);
                     assert_eq!(answer, Answer::GRANTED);
                 }
             }),
             What::Verify => Box::new(move |calls| {
-                let mut out = [0; MOST_TEXT];
+                let mut out = [0; 1223];
                 for _ in 0..calls {
-                    let issued = second::verify(version, black_box(&self.case), &mut NoWatch);
-                    let written = second::write_text(&issued.unwrap(), &mut out);
-                    assert_eq!(written.0, Answer::GRANTED);
+                    let issued = second::verify(black_box(&self.case), &mut NoWatch).unwrap();
+                    assert_eq!(second::write_text(&issued, &mut out).0, Answer::GRANTED);
                 }
             }),
+        }
+    }
+}
+
+impl From {
+    /// The case itself.
+    fn case(self) -> Case {
+        match self {
+            From::Example(name) => example(name),
+            From::Valid(seed) => valid(&mut Random::new(seed)),
+            From::AtALimit(seed) => at_a_limit(&mut Random::new(seed)),
+            From::Chained(asks, lent) => chained(asks, lent),
+        }
+    }
+
+    /// What the case is called.
+    fn name(self) -> String {
+        match self {
+            From::Example(name) => name.to_string(),
+            From::Valid(seed) => format!("made up (seed {seed})"),
+            From::AtALimit(seed) => format!("at a limit (seed {seed})"),
+            From::Chained(asks, lent) => name_of(asks, lent),
         }
     }
 }
@@ -145,7 +194,7 @@ fn steps_of(case: &Case) -> u64 {
         }
     }
     let mut steps = Steps(0);
-    let _ = second::verify(WITHOUT_NUMBERS, case, &mut steps);
+    let _ = second::verify(case, &mut steps);
     steps.0
 }
 

@@ -12,7 +12,6 @@ above   code     from_c      every call on numbers|and bytes
 desk    shipped  door        opens or refuses:|archive for firmware
 desk    code     text        reads and writes|the procap text
 desk    code     state       which facts stand|in a state
-desk    code     withdrawn   lists of|withdrawn numbers
 office  shipped  check_case  reads, answers, writes:|the program bin/check
 office  code     cases       what is printed|for a case
 office  code     verifier    verify and|the direct check
@@ -20,12 +19,10 @@ office  code     walk        a proof walked,|step by step
 office  code     judging     what each step|makes of goals
 office  code     formula     formulas in bytes,|taken apart, compared
 office  code     steps       proof bytes,|read and taken apart
-office  code     used        numbers that|a proof used
 office  code     ledger      what a walk|keeps and asks
 office  code     strength    who is as strong|as whom
 office  paper    bl          the logic on paper,|no code
 below   code     rising      numbers in|rising order
-below   code     lines       words and numbers|in lines
 below   code     procap      the data that|both halves share
 below   paper    by_hand     laws for functions|proved by hand
 kit     code     io
@@ -68,8 +65,8 @@ FNR == NR {
 END {
     if (stopped) exit 1
     for (i = 1; i <= listed; i++) if (half[name[i]] != "kit" && !(name[i] in seen)) stop("no crate " name[i] " in crates.txt: take its line out here")
-    # The crates of the office stand under each other, but for steps, strength and used.
-    for (crate in seen) if (half[crate] == "office" && crate != "steps" && crate != "strength" && crate != "used") column[crate] = ", group=office"
+    # The crates of the office stand under each other, but for steps and strength.
+    for (crate in seen) if (half[crate] == "office" && crate != "steps" && crate != "strength") column[crate] = ", group=office"
     look["paper"] = ", fillcolor=\"#d6d6d6\""
     look["shipped"] = ", penwidth=3"
     print "digraph \"The crates in two halves: the desk uses nothing of the office\" {"

@@ -44,18 +44,14 @@ static void read_line(const char *line, struct case_bytes *into)
         into->records_length += RECORD_BYTES;
         put_number(last, strtoull(line + 3, NULL, 10), 2);
     } else if (begins(line, "from=")) {
-        put_time(last + 4, line + 5);
+        put_time(last + 2, line + 5);
     } else if (begins(line, "to=")) {
-        put_time(last + 13, line + 3);
+        put_time(last + 11, line + 3);
     } else if (begins(line, "says=")) {
         size_t start = into->buffer_length;
         into->buffer_length += from_hex(line + 5, into->buffer + start, sizeof into->buffer - start);
-        put_number(last + 22, start, 8);
-        put_number(last + 30, into->buffer_length - start, 8);
-    } else if (begins(line, "num=")) {
-        put_number(last + 2, strtoull(line + 4, NULL, 10), 2);
-        if (into->records_length == RECORD_BYTES)
-            into->version = 2;
+        put_number(last + 20, start, 8);
+        put_number(last + 28, into->buffer_length - start, 8);
     } else if (begins(line, "proof=")) {
         into->proof_length = from_hex(line + 6, into->proof, sizeof into->proof);
     }
@@ -70,7 +66,6 @@ uint64_t number_after(const char *text, const char *word)
 void read_case(const char *text, struct case_bytes *into)
 {
     memset(into, 0, sizeof *into);
-    into->version = 1;
     into->who = (uint16_t)number_after(text, "who=");
     into->what = (uint16_t)number_after(text, "what=");
     into->right = (uint16_t)number_after(text, "right=");

@@ -7,7 +7,6 @@
 #include "calls.h"
 
 struct case_bytes {
-    uint64_t version; /* which one the case asks for: 2 where its first group has a number, else 1 */
     uint16_t who, what, right;
     uint8_t records[40 * RECORD_BYTES];
     size_t records_length;

@@ -1,14 +1,13 @@
 /*
  * A second door, of another make than the proved one: a text is read loosely with the C library's own number reader, spelled
- * out again by its printer, and taken only if that gives the same bytes; facts and numbers are looked for byte by byte.
+ * out again by its printer, and taken only if that gives the same bytes; facts are compared as bytes of the state.
  */
 #include "model.h"
 #include <stdio.h>
 #include <stdlib.h>
 #include <string.h>
 
-#define MOST_NUMBERS 32
-#define MOST_WITHDRAWN 256
+#define LATEST 1099511627775u
 
 struct fact {
     uint64_t predicate;
@@ -18,8 +17,7 @@ struct fact {
 };
 
 struct procap {
-    uint64_t version, who, what, right, from, to, used, count;
-    uint64_t numbers[MOST_NUMBERS];
+    uint64_t version, who, what, right, from, to, count;
     struct fact facts[17];
 };
 
@@ -52,37 +50,23 @@ static int take_fact(const char **at, struct fact *fact)
     return *(*at)++ == '\n';
 }
 
-/* Spells a number after a word. */
-static char *spell_number(char *end, const char *word, uint64_t number)
-{
-    return end + sprintf(end, "%s%llu", word, (unsigned long long)number);
-}
-
 /* Spells a procap. */
 static size_t spell(char *out, const struct procap *p)
 {
     uint64_t i;
     int k;
-    char *end = spell_number(out, "procap=", p->version);
-    end = spell_number(end, "\nwho=", p->who);
-    end = spell_number(end, "\nwhat=", p->what);
-    end = spell_number(end, "\nright=", p->right);
-    end = spell_number(end, "\nfrom=", p->from);
-    end = spell_number(end, "\nto=", p->to);
-    if (p->version == 2)
-        end = spell_number(end, "\ncerts=", p->used);
-    for (i = 0; i < p->used; i++)
-        end = spell_number(end, "\ncert=", p->numbers[i]);
-    end = spell_number(end, "\nfacts=", p->count);
-    *end++ = '\n';
+    char *end = out + sprintf(out, "procap=%llu\nwho=%llu\nwhat=%llu\nright=%llu\nfrom=%llu\nto=%llu\nfacts=%llu\n",
+                              (unsigned long long)p->version, (unsigned long long)p->who, (unsigned long long)p->what,
+                              (unsigned long long)p->right, (unsigned long long)p->from, (unsigned long long)p->to,
+                              (unsigned long long)p->count);
     for (i = 0; i < p->count; i++) {
-        end = spell_number(end, "fact=", p->facts[i].predicate);
+        end += sprintf(end, "fact=%llu", (unsigned long long)p->facts[i].predicate);
         for (k = 0; k < p->facts[i].count; k++) {
             end += sprintf(end, " %c", p->facts[i].kind[k]);
             if (p->facts[i].kind[k] == 'n' || p->facts[i].kind[k] == 't')
-                end = spell_number(end, "", p->facts[i].value[k]);
+                end += sprintf(end, "%llu", (unsigned long long)p->facts[i].value[k]);
         }
-        *end++ = '\n';
+        end += sprintf(end, "\n");
     }
     return (size_t)(end - out);
 }
@@ -109,37 +93,22 @@ static int same(const struct fact *a, const struct fact *b)
            !memcmp(a->value, b->value, 8 * (size_t)a->count);
 }
 
-/* Reads the lines up to the count of facts, loosely, and by their limits. */
-static int take_front(const char **at, struct procap *p)
-{
-    uint64_t i;
-    if (!take_number(at, "procap=", &p->version) || !take_number(at, "\nwho=", &p->who) || !take_number(at, "\nwhat=", &p->what) ||
-        !take_number(at, "\nright=", &p->right) || !take_number(at, "\nfrom=", &p->from) || !take_number(at, "\nto=", &p->to))
-        return 0;
-    if (p->version == 2 && (!take_number(at, "\ncerts=", &p->used) || p->used > MOST_NUMBERS))
-        return 0;
-    for (i = 0; i < p->used; i++)
-        if (!take_number(at, "\ncert=", &p->numbers[i]) || p->numbers[i] > 65535 || (i > 0 && p->numbers[i] <= p->numbers[i - 1]))
-            return 0;
-    if (!take_number(at, "\nfacts=", &p->count) || *(*at)++ != '\n')
-        return 0;
-    return (p->version == 1 || p->version == 2) && p->who <= 65535 && p->what <= 65535 && p->right <= 65535 && p->from <= p->to &&
-           p->to <= LATEST && p->count <= 16;
-}
-
 /* Reads a procap: loosely, then by its limits, then by spelling it again. */
-static int read_procap(struct lent text, struct procap *p)
+static int read_procap(const uint8_t *text, size_t length, struct procap *p)
 {
     static char copy[4096], again[4096];
     const char *at = copy;
     uint64_t i, j;
-    if (text.length >= sizeof copy)
+    if (length >= sizeof copy)
         return 0;
-    if (text.length)
-        memcpy(copy, text.bytes, text.length);
-    copy[text.length] = '\0';
+    memcpy(copy, text, length);
+    copy[length] = '\0';
     memset(p, 0, sizeof *p);
-    if (!take_front(&at, p))
+    if (!take_number(&at, "procap=", &p->version) || !take_number(&at, "\nwho=", &p->who) || !take_number(&at, "\nwhat=", &p->what) ||
+        !take_number(&at, "\nright=", &p->right) || !take_number(&at, "\nfrom=", &p->from) || !take_number(&at, "\nto=", &p->to) ||
+        !take_number(&at, "\nfacts=", &p->count) || *at++ != '\n')
+        return 0;
+    if (p->version != 1 || p->who > 65535 || p->what > 65535 || p->right > 65535 || p->from > p->to || p->to > LATEST || p->count > 16)
         return 0;
     for (i = 0; i < p->count; i++) {
         if (!take_fact(&at, &p->facts[i]) || !fact_in_form(&p->facts[i]))
@@ -148,7 +117,7 @@ static int read_procap(struct lent text, struct procap *p)
             if (same(&p->facts[i], &p->facts[j]))
                 return 0;
     }
-    return spell(again, p) == text.length && !memcmp(again, text.bytes, text.length);
+    return spell(again, p) == length && !memcmp(again, text, length);
 }
 
 /* How long the fact at the front of the state is, or 0 if none is there. */
@@ -194,73 +163,39 @@ static size_t fact_bytes(uint8_t *out, const struct fact *fact, uint64_t moment)
 }
 
 /* Whether the fact stands in a state that is well formed. */
-static int stands(const struct fact *fact, uint64_t moment, struct lent state)
+static int stands(const struct fact *fact, uint64_t moment, const uint8_t *state, size_t length)
 {
     uint8_t wanted[32];
     size_t n = fact_bytes(wanted, fact, moment), at = 0, k;
-    for (; at < state.length; at += k) {
-        k = fact_length(state.bytes + at, state.length - at);
-        if (k == n && !memcmp(state.bytes + at, wanted, n))
+    for (; at < length; at += k) {
+        k = fact_length(state + at, length - at);
+        if (k == n && !memcmp(state + at, wanted, n))
             return 1;
     }
     return 0;
 }
 
-/* Whether the state is a list of facts. */
-static int facts_all_along(struct lent state)
-{
-    size_t at, k;
-    if (state.length > 4096)
-        return 0;
-    for (at = 0; at < state.length; at += k)
-        if (!(k = fact_length(state.bytes + at, state.length - at)))
-            return 0;
-    return 1;
-}
-
-/* Whether the bytes are a list of withdrawn numbers: as bytes too, each two are above the two before them. */
-static int rising(struct lent withdrawn)
-{
-    size_t i;
-    if (withdrawn.length % 2 || withdrawn.length > 2 * MOST_WITHDRAWN)
-        return 0;
-    for (i = 2; i < withdrawn.length; i += 2)
-        if (memcmp(withdrawn.bytes + i, withdrawn.bytes + i - 2, 2) <= 0)
-            return 0;
-    return 1;
-}
-
-/* Whether the number stands among the withdrawn ones. */
-static int among(uint64_t number, struct lent withdrawn)
-{
-    size_t i;
-    for (i = 0; i + 1 < withdrawn.length; i += 2)
-        if (withdrawn.bytes[i] == number / 256 && withdrawn.bytes[i + 1] == number % 256)
-            return 1;
-    return 0;
-}
-
-uint64_t model_door(struct press press)
+uint64_t model_door(const uint8_t *text, size_t text_length, uint64_t who, uint64_t what, uint64_t right, uint64_t moment,
+                    const uint8_t *state, size_t state_length)
 {
     struct procap p;
+    size_t at, k;
     uint64_t i;
-    if (!read_procap(press.text, &p))
+    if (!read_procap(text, text_length, &p))
         return 256 * 12;
-    if (press.moment > LATEST)
+    if (moment > LATEST)
         return 256 * 11;
-    if (!facts_all_along(press.state))
+    if (state_length > 4096)
         return 256 * 7;
-    if (!rising(press.withdrawn))
-        return 256 * 16;
-    if (press.who != p.who || press.what != p.what || press.right != p.right)
+    for (at = 0; at < state_length; at += k)
+        if (!(k = fact_length(state + at, state_length - at)))
+            return 256 * 7;
+    if (who != p.who || what != p.what || right != p.right)
         return 256 * 8;
-    for (i = 0; i < p.used; i++)
-        if (among(p.numbers[i], press.withdrawn))
-            return 256 * 15;
-    if (press.moment < p.from || press.moment > p.to)
+    if (moment < p.from || moment > p.to)
         return 256 * 9;
     for (i = 0; i < p.count; i++)
-        if (!stands(&p.facts[i], press.moment, press.state))
+        if (!stands(&p.facts[i], moment, state, state_length))
             return 256 * 10 + i;
     return 0;
 }

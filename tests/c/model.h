@@ -2,10 +2,12 @@
 #ifndef MODEL_H
 #define MODEL_H
 
-#include "pressing.h"
+#include <stddef.h>
+#include <stdint.h>
 
 /* What the door should answer, as procap_door does. */
-uint64_t model_door(struct press press);
+uint64_t model_door(const uint8_t *text, size_t text_length, uint64_t who, uint64_t what, uint64_t right, uint64_t moment,
+                    const uint8_t *state, size_t state_length);
 
 /* The next of a fixed row of random numbers. */
 uint64_t next_random(void);

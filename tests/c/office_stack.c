@@ -10,7 +10,6 @@
 #define LIMIT (1024 * 1024)
 
 static struct case_bytes given;
-static uint64_t version;
 static uint8_t pairs[MOST_PAIRS * PAIR_BYTES];
 static size_t pairs_length;
 static char input[70000];
@@ -18,12 +17,11 @@ static size_t input_length;
 static uint8_t text[MOST_TEXT];
 static size_t text_length;
 static uint8_t value[VALUE_BYTES];
-static uint8_t withdrawn[2 * MOST_WITHDRAWN];
 static volatile uint64_t answer;
 
 static void verify(void)
 {
-    answer = office_verify(version, given.who, given.what, given.right, given.records, given.records_length, given.buffer,
+    answer = office_verify(given.who, given.what, given.right, given.records, given.records_length, given.buffer,
                            given.buffer_length, pairs, pairs_length, given.proof, given.proof_length, text, sizeof text);
 }
 
@@ -59,27 +57,9 @@ static void write_value(void)
     answer = office_write(value, sizeof value, text, sizeof text);
 }
 
-/* The door on the value, which is for 0, 0 and 0 at the moment 0. */
 static void door_on_value(void)
 {
-    answer = desk_door_on_value(value, sizeof value, 0, 0, 0, 0, NULL, 0, withdrawn, sizeof withdrawn);
-}
-
-/* 256 withdrawn numbers, from 0 on. */
-static void fill_withdrawn(void)
-{
-    for (int i = 0; i < MOST_WITHDRAWN; i++)
-        withdrawn[2 * i + 1] = (uint8_t)i;
-}
-
-/* 32 numbers for the value, all of them above these. */
-static void fill_numbers(void)
-{
-    value[23] = MOST_NUMBERS;
-    for (int i = 0; i < MOST_NUMBERS; i++) {
-        value[24 + 2 * i] = 0xff;
-        value[24 + 2 * i + 1] = (uint8_t)(0x100 - MOST_NUMBERS + i);
-    }
+    answer = desk_door_on_value(value, sizeof value, given.who, given.what, given.right, 0, NULL, 0);
 }
 
 /* Prints what a call takes; gives 1 where that is too much, or it is refused. */
@@ -91,52 +71,27 @@ static int measure(const char *call, void (*made)(void), unsigned refused)
     return used > LIMIT || (NUMBER_OF(answer) != 0 && NUMBER_OF(answer) != refused);
 }
 
-/* The calls on a case: verify in both versions and the direct check, without pairs and with 128; its text; the program's work. */
-static int measure_case(void)
-{
-    int bad = 0;
-    for (version = 1; version <= 2; version++) {
-        printf("version %d\n", (int)version);
-        pairs_length = 0;
-        bad |= measure("verify", verify, 0);
-        pairs_length = sizeof pairs;
-        bad |= measure("verify with 128 pairs", verify, 0);
-        text_length = LENGTH_OF(answer);
-        bad |= measure("reading and writing the text", rewrite, 0);
-    }
-    printf("either version\n");
-    pairs_length = 0;
-    bad |= measure("the direct check", direct, 10);
-    pairs_length = sizeof pairs;
-    bad |= measure("the direct check with 128 pairs", direct, 10);
-    return bad | measure("answering the case", answer_case, 0);
-}
-
-/* The calls on a procap value. */
-static int measure_value(void)
-{
-    int bad = measure("writing a value", write_value, 0);
-    return bad | measure("the door on a value", door_on_value, 0);
-}
-
 int main(int count, char **words)
 {
     int bad = 0;
     fill_pairs();
-    fill_withdrawn();
     for (int i = 1; i < count; i++) {
         input_length = read_file(words[i], input, sizeof input);
         read_case(input, &given);
         printf("%s\n", words[i]);
-        bad |= measure_case();
+        pairs_length = 0;
+        bad |= measure("verify", verify, 0);
+        text_length = LENGTH_OF(answer);
+        bad |= measure("the direct check", direct, 10);
+        pairs_length = sizeof pairs;
+        bad |= measure("verify with 128 pairs", verify, 0);
+        bad |= measure("the direct check with 128 pairs", direct, 10);
+        bad |= measure("reading and writing the text", rewrite, 0);
+        bad |= measure("answering the case", answer_case, 0);
     }
-    printf("a value of version 1, and 256 withdrawn numbers\n");
     value[0] = 1;
-    bad |= measure_value();
-    printf("a value of version 2, with 32 numbers, and 256 withdrawn ones\n");
-    value[0] = 2;
-    fill_numbers();
-    bad |= measure_value();
+    bad |= measure("writing a value", write_value, 0);
+    bad |= measure("the door on a value", door_on_value, 8);
     if (bad)
         printf("too much stack, or another answer than expected\n");
     return bad;

@@ -3,8 +3,7 @@
  *
  * An input is a letter that chooses the question, and parts, each after its length in two bytes. The lent bytes stand right before
  * a page that nobody may touch, so that a read past their end is a fault. Every answer is held to what it promises of the buffers,
- * and the answers to one another: what is written reads back the same, and a procap opens exactly when the direct check accepts and none
- * of its numbers is withdrawn.
+ * and the answers to one another: what is written reads back the same, and a procap opens exactly when the direct check accepts.
  */
 #define _GNU_SOURCE
 #include "../c/calls.h"
@@ -16,7 +15,7 @@
 
 #define ROOM 131072
 #define LATEST 1099511627775u
-enum { RECORDS, BUFFER, PAIRS, PROOF, STATE, WITHDRAWN, TEXT, OUT, SLOTS };
+enum { RECORDS, BUFFER, PAIRS, PROOF, STATE, TEXT, OUT, SLOTS };
 
 /* What is left of the input. */
 static const uint8_t *rest;
@@ -95,109 +94,62 @@ static void rewrite(struct part text, size_t room) {
         hold(LENGTH_OF(answer) == text.length && memcmp(out.bytes, text.bytes, text.length) == 0, "a text has one spelling");
 }
 
-/* Whether the part is a list of withdrawn numbers. */
-static int is_list(struct part list) {
-    if (list.length % 2 != 0 || list.length > PROCAP_LONGEST_LIST) return 0;
-    for (size_t i = 2; i < list.length; i += 2)
-        if (memcmp(list.bytes + i - 2, list.bytes + i, 2) >= 0) return 0;
-    return 1;
-}
-
-/* Whether a procap's text has a line for a number of the list. */
-static int lists_one_of(struct part text, struct part list) {
-    for (size_t i = 0; i + 1 < list.length; i += 2) {
-        char line[16];
-        int length = snprintf(line, sizeof line, "\ncert=%d\n", list.bytes[i] * 256 + list.bytes[i + 1]);
-        if (memmem(text.bytes, text.length, line, (size_t)length) != NULL) return 1;
-    }
-    return 0;
-}
-
-/* The request and the moment of a press; and the next of them in the input. */
-struct asked {
-    uint64_t who, what, right, moment;
-};
-
-static struct asked next_asked(void) {
-    uint64_t who = number(2), what = number(2), right = number(2);
-    return (struct asked){who, what, right, number(8)};
-}
-
-/*
- * The answer of the door, which is one of its numbers. Presses in a row are all alike. It is the answer where nothing is withdrawn, but for
- * 16 and 15, which are given as list and text say, and in their places in the order.
- */
-static uint64_t press(struct part text, struct asked asked, struct part state, struct part list) {
-    uint64_t answer = procap_door(text.bytes, text.length, asked.who, asked.what, asked.right, asked.moment, state.bytes, state.length,
-                                  list.bytes, list.length);
-    uint64_t without = procap_door(text.bytes, text.length, asked.who, asked.what, asked.right, asked.moment, state.bytes, state.length,
-                                   NULL, 0);
-    unsigned refused = PROCAP_NUMBER(answer), before = PROCAP_NUMBER(without);
-    hold(refused == 0 || (refused >= 7 && refused <= 12) || refused == 15 || refused == 16, "a number that the door does not give");
+/* The door gives one of its numbers, and presses in a row are all alike. */
+static void press(struct part text) {
+    uint64_t who = number(2), what = number(2), right = number(2), moment = number(8);
+    struct part state = part(STATE);
+    uint64_t answer = procap_door(text.bytes, text.length, who, what, right, moment, state.bytes, state.length);
+    unsigned refused = PROCAP_NUMBER(answer);
+    hold(refused == 0 || (refused >= 7 && refused <= 12), "a number that the door does not give");
     hold(refused == 10 ? PROCAP_PLACE(answer) < 16 : PROCAP_PLACE(answer) == 0, "only 10 has a place");
-    hold(before != 15 && before != 16, "where nothing is withdrawn neither 15 nor 16 is given");
-    if (before == 12 || before == 11 || before == 7)
-        hold(answer == without, "12, 11 and 7 come before 16");
-    else if (!is_list(list))
-        hold(refused == 16, "what is no list is 16");
-    else if (before == 8 || !lists_one_of(text, list))
-        hold(answer == without, "a list changes nothing for whom it does not name, and 8 comes before 15");
-    else
-        hold(refused == 15, "a number of the text that is on the list is 15");
-    uint64_t opened = desk_presses(text.bytes, text.length, (uint16_t)asked.who, (uint16_t)asked.what, (uint16_t)asked.right, asked.moment,
-                                   state.bytes, state.length, list.bytes, list.length, 3);
+    uint64_t opened = desk_presses(text.bytes, text.length, who, what, right, moment, state.bytes, state.length, 3);
     hold(opened == (refused == 0 ? 3 : 0), "equal presses are answered alike");
-    return answer;
 }
 
-/* Verify and the direct check: where nothing is withdrawn, what is issued opens exactly when the direct check accepts. */
+/* Verify and the direct check: what is issued opens exactly when the direct check accepts. */
 static void verify(void) {
-    uint64_t version = number(2);
-    struct asked request = next_asked();
-    uint16_t who = (uint16_t)request.who, what = (uint16_t)request.what, right = (uint16_t)request.right;
+    uint16_t who = number(2), what = number(2), right = number(2);
+    uint64_t moment = number(8);
     struct part records = part(RECORDS), buffer = part(BUFFER), pairs = part(PAIRS), proof = part(PROOF), state = part(STATE);
-    struct part list = part(WITHDRAWN), none = {NULL, 0}, out = buffer_to_write(MOST_TEXT);
-    hold(kept_demand_3(version, who, what, right, records.bytes, records.length, buffer.bytes, buffer.length, pairs.bytes, pairs.length,
-                       proof.bytes, proof.length, request.moment, state.bytes, state.length, list.bytes, list.length),
+    struct part out = buffer_to_write(MOST_TEXT);
+    hold(kept_demand_3(who, what, right, records.bytes, records.length, buffer.bytes, buffer.length, pairs.bytes, pairs.length, proof.bytes,
+                       proof.length, moment, state.bytes, state.length),
          "demand 3 says no");
-    uint64_t answer = office_verify(version, who, what, right, records.bytes, records.length, buffer.bytes, buffer.length, pairs.bytes,
+    uint64_t answer = office_verify(who, what, right, records.bytes, records.length, buffer.bytes, buffer.length, pairs.bytes,
                                     pairs.length, proof.bytes, proof.length, out.bytes, out.length);
     hold_written(answer, out, 5);
     hold(PLACE_OF(answer) < 4096, "a place is an index or an offset in the proof");
-    hold((NUMBER_OF(answer) == 12) == (version != 1 && version != 2), "12 is for a version that there is not");
     hold(NUMBER_OF(answer) != 21 || pairs.length > MOST_PAIRS * PAIR_BYTES, "21 is for over 128 pairs");
     uint64_t direct = office_direct(who, what, right, records.bytes, records.length, buffer.bytes, buffer.length, pairs.bytes,
-                                    pairs.length, proof.bytes, proof.length, request.moment, state.bytes, state.length);
+                                    pairs.length, proof.bytes, proof.length, moment, state.bytes, state.length);
     if (NUMBER_OF(answer) != 0) {
-        hold(NUMBER_OF(direct) != 0 || NUMBER_OF(answer) == 12, "nothing is accepted for which no procap is issued");
+        hold(NUMBER_OF(direct) != 0, "nothing is accepted for which no procap is issued");
         return;
     }
     struct part text = {room_for(TEXT, LENGTH_OF(answer)), LENGTH_OF(answer)};
     memcpy(text.bytes, out.bytes, text.length);
-    hold(text.bytes[strlen("procap=")] == '0' + version, "what is issued is of the version that was asked for");
-    uint64_t door = press(text, request, state, none);
+    uint64_t door = procap_door(text.bytes, text.length, who, what, right, moment, state.bytes, state.length);
     hold((door == PROCAP_OPEN) == (NUMBER_OF(direct) == 0), "the door opens exactly when the direct check accepts");
-    hold((request.moment <= LATEST) == (PROCAP_NUMBER(door) != 11), "11 is for a moment above the latest");
-    press(text, request, state, list);
+    hold((moment <= LATEST) == (PROCAP_NUMBER(door) != 11), "11 is for a moment above the latest");
     rewrite(text, MOST_TEXT);
 }
 
 /* A value is written exactly when the door takes it, and then its text is answered as it is. */
 static void value(void) {
-    struct asked request = next_asked();
-    struct part given = part(BUFFER), state = part(STATE), list = part(WITHDRAWN), out = buffer_to_write(MOST_TEXT);
+    uint16_t who = number(2), what = number(2), right = number(2);
+    uint64_t moment = number(8);
+    struct part given = part(BUFFER), state = part(STATE), out = buffer_to_write(MOST_TEXT);
     hold(kept_demand_2_writing(given.bytes, given.length), "demand 2 says no of a value");
     uint64_t answer = office_write(given.bytes, given.length, out.bytes, out.length);
     hold_written(answer, out, 0);
-    uint64_t door = desk_door_on_value(given.bytes, given.length, (uint16_t)request.who, (uint16_t)request.what, (uint16_t)request.right,
-                                       request.moment, state.bytes, state.length, list.bytes, list.length);
+    uint64_t door = desk_door_on_value(given.bytes, given.length, who, what, right, moment, state.bytes, state.length);
     if (NUMBER_OF(answer) != 0) {
         hold(NUMBER_OF(door) == 12, "a value that cannot be written is 12 at the door");
         return;
     }
     struct part text = {room_for(TEXT, LENGTH_OF(answer)), LENGTH_OF(answer)};
     memcpy(text.bytes, out.bytes, text.length);
-    uint64_t on_text = press(text, request, state, list);
+    uint64_t on_text = procap_door(text.bytes, text.length, who, what, right, moment, state.bytes, state.length);
     hold(PROCAP_NUMBER(on_text) == NUMBER_OF(door) && PROCAP_PLACE(on_text) == PLACE_OF(door), "a value and its text are answered alike");
     rewrite(text, MOST_TEXT);
 }
@@ -224,10 +176,8 @@ int LLVMFuzzerTestOneInput(const uint8_t *data, size_t size) {
     case 'c': answer_case(); break;
     default: {
         struct part text = part(TEXT);
-        struct asked request = next_asked();
-        struct part state = part(STATE), list = part(WITHDRAWN);
         rewrite(text, data[0] % 2 ? MOST_TEXT : 100);
-        press(text, request, state, list);
+        press(text);
     }
     }
     return 0;

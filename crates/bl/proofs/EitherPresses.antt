@@ -4,12 +4,12 @@ use mathlib.Core.Path.{refl}
 use mathlib.Core.List.{List, [], ◌∷◌, ◌++◌}
 use Rattle.procap.specs.Lists.{All}
 use Rattle.procap.specs.Times.{earliest, latest}
-use Rattle.procap.specs.Procaps.{empty_procap}
+use Rattle.procap.specs.Procaps.{procap_of, empty_procap}
 use Rattle.procap.specs.declared.time.Time.TheVariants.{Moment, MinusInfinity, PlusInfinity}
 use Rattle.procap.specs.declared.fact.Term.TheVariants.{Name}
 use Rattle.bl.specs.declared.Certificate.{Certificate}
 use Rattle.bl.proofs.CaseP.{request_P, computes}
-use Rattle.bl.proofs.Pressed.{issued_P, by_administrator, Press, ComesOut, DirectPress, DirectComesOut}
+use Rattle.bl.proofs.Pressed.{by_administrator, Press, ComesOut, DirectPress, DirectComesOut}
 
 -- What a house writes about a shift: 300 is that its head blender is on duty, 301 that its day blender is.
 abbrev shift_buffer : List ℕ
@@ -64,7 +64,7 @@ shift =
 abbrev presses : List Press
 presses =
     -- The left side shows an "or",
-    record { records = shift; proof = 0x2a ∷ 0x26 ∷ 0x21 ∷ 0x03 ∷ 0x2e ∷ 0x21 ∷ 0x04 ∷ 0x04 ∷ 0x04 ∷ []; number = 0; place = 0; procap = issued_P 1000 2000 [] }
+    record { records = shift; proof = 0x2a ∷ 0x26 ∷ 0x21 ∷ 0x03 ∷ 0x2e ∷ 0x21 ∷ 0x04 ∷ 0x04 ∷ 0x04 ∷ []; number = 0; place = 0; procap = procap_of request_P 1000 2000 [] }
     ∷
     -- and for the right one something else is wanted.
     record { records = shift; proof = 0x2a ∷ 0x26 ∷ 0x21 ∷ 0x03 ∷ 0x2f ∷ 0x21 ∷ 0x04 ∷ 0x04 ∷ 0x04 ∷ []; number = 3; place = 5; procap = empty_procap }
@@ -75,7 +75,7 @@ presses =
     record { records = shift; proof = 0x2a ∷ 0x2f ∷ 0x2e ∷ 0x21 ∷ 0x04 ∷ []; number = 3; place = 1; procap = empty_procap }
     ∷
     -- By cases: each side in its turn is the latest assumption.
-    record { records = shift; proof = 0x2a ∷ 0x30 ∷ 0x21 ∷ 0x00 ∷ 0x26 ∷ 0x21 ∷ 0x01 ∷ 0x20 ∷ 0x00 ∷ 0x04 ∷ 0x04 ∷ 0x26 ∷ 0x21 ∷ 0x02 ∷ 0x20 ∷ 0x00 ∷ 0x04 ∷ 0x04 ∷ []; number = 0; place = 0; procap = issued_P 1000 2000 [] }
+    record { records = shift; proof = 0x2a ∷ 0x30 ∷ 0x21 ∷ 0x00 ∷ 0x26 ∷ 0x21 ∷ 0x01 ∷ 0x20 ∷ 0x00 ∷ 0x04 ∷ 0x04 ∷ 0x26 ∷ 0x21 ∷ 0x02 ∷ 0x20 ∷ 0x00 ∷ 0x04 ∷ 0x04 ∷ []; number = 0; place = 0; procap = procap_of request_P 1000 2000 [] }
     ∷
     -- In the second branch the left side is not assumed any more.
     record { records = shift; proof = 0x2a ∷ 0x30 ∷ 0x21 ∷ 0x00 ∷ 0x26 ∷ 0x21 ∷ 0x01 ∷ 0x20 ∷ 0x00 ∷ 0x04 ∷ 0x04 ∷ 0x26 ∷ 0x21 ∷ 0x01 ∷ 0x20 ∷ 0x00 ∷ 0x04 ∷ 0x04 ∷ []; number = 3; place = 14; procap = empty_procap }
@@ -93,25 +93,25 @@ presses =
     record { records = shift; proof = 0x2a ∷ 0x30 ∷ 0x21 ∷ 0x00 ∷ 0x26 ∷ 0x21 ∷ 0x0b ∷ 0x2a ∷ 0x20 ∷ 0x00 ∷ 0x04 ∷ 0x04 ∷ 0x26 ∷ 0x21 ∷ 0x02 ∷ 0x20 ∷ 0x00 ∷ 0x04 ∷ 0x04 ∷ []; number = 3; place = 8; procap = empty_procap }
     ∷
     -- The facts of both branches are listed, the first branch's first.
-    record { records = shift; proof = 0x2a ∷ 0x30 ∷ 0x21 ∷ 0x00 ∷ 0x26 ∷ 0x21 ∷ 0x07 ∷ 0x22 ∷ 0x20 ∷ 0x00 ∷ 0x2c ∷ 0x04 ∷ 0x04 ∷ 0x26 ∷ 0x21 ∷ 0x08 ∷ 0x22 ∷ 0x20 ∷ 0x00 ∷ 0x2c ∷ 0x04 ∷ 0x04 ∷ []; number = 0; place = 0; procap = issued_P 1000 2000 ((200, Name 7 ∷ []) ∷ (202, Name 7 ∷ []) ∷ []) }
+    record { records = shift; proof = 0x2a ∷ 0x30 ∷ 0x21 ∷ 0x00 ∷ 0x26 ∷ 0x21 ∷ 0x07 ∷ 0x22 ∷ 0x20 ∷ 0x00 ∷ 0x2c ∷ 0x04 ∷ 0x04 ∷ 0x26 ∷ 0x21 ∷ 0x08 ∷ 0x22 ∷ 0x20 ∷ 0x00 ∷ 0x2c ∷ 0x04 ∷ 0x04 ∷ []; number = 0; place = 0; procap = procap_of request_P 1000 2000 ((200, Name 7 ∷ []) ∷ (202, Name 7 ∷ []) ∷ []) }
     ∷
     -- Falsity shows what was asked for,
-    record { records = shift; proof = 0x2a ∷ 0x31 ∷ 0x21 ∷ 0x05 ∷ []; number = 0; place = 0; procap = issued_P 1000 2000 [] }
+    record { records = shift; proof = 0x2a ∷ 0x31 ∷ 0x21 ∷ 0x05 ∷ []; number = 0; place = 0; procap = procap_of request_P 1000 2000 [] }
     ∷
     -- on whatever interval it was inferred,
-    record { records = shift; proof = 0x2a ∷ 0x29 ∷ 0x21 ∷ 0x09 ∷ 0x31 ∷ 0x20 ∷ 0x00 ∷ []; number = 0; place = 0; procap = issued_P earliest latest [] }
+    record { records = shift; proof = 0x2a ∷ 0x29 ∷ 0x21 ∷ 0x09 ∷ 0x31 ∷ 0x20 ∷ 0x00 ∷ []; number = 0; place = 0; procap = procap_of request_P earliest latest [] }
     ∷
     -- and top does not.
     record { records = shift; proof = 0x2a ∷ 0x31 ∷ 0x21 ∷ 0x06 ∷ []; number = 3; place = 1; procap = empty_procap }
     ∷
     -- Falsity is the same as falsity,
-    record { records = shift; proof = 0x2a ∷ 0x26 ∷ 0x21 ∷ 0x0a ∷ 0x21 ∷ 0x05 ∷ 0x04 ∷ 0x04 ∷ []; number = 0; place = 0; procap = issued_P 1000 2000 [] }
+    record { records = shift; proof = 0x2a ∷ 0x26 ∷ 0x21 ∷ 0x0a ∷ 0x21 ∷ 0x05 ∷ 0x04 ∷ 0x04 ∷ []; number = 0; place = 0; procap = procap_of request_P 1000 2000 [] }
     ∷
     -- and not as top.
     record { records = shift; proof = 0x2a ∷ 0x26 ∷ 0x21 ∷ 0x0a ∷ 0x21 ∷ 0x06 ∷ 0x04 ∷ 0x04 ∷ []; number = 3; place = 4; procap = empty_procap }
     ∷
     -- An "or" is the same as itself,
-    record { records = shift; proof = 0x2a ∷ 0x26 ∷ 0x21 ∷ 0x03 ∷ 0x21 ∷ 0x00 ∷ 0x04 ∷ 0x04 ∷ []; number = 0; place = 0; procap = issued_P 1000 2000 [] }
+    record { records = shift; proof = 0x2a ∷ 0x26 ∷ 0x21 ∷ 0x03 ∷ 0x21 ∷ 0x00 ∷ 0x04 ∷ 0x04 ∷ []; number = 0; place = 0; procap = procap_of request_P 1000 2000 [] }
     ∷
     -- and not with its sides exchanged.
     record { records = shift; proof = 0x2a ∷ 0x26 ∷ 0x21 ∷ 0x03 ∷ 0x21 ∷ 0x0c ∷ 0x04 ∷ 0x04 ∷ []; number = 3; place = 4; procap = empty_procap }

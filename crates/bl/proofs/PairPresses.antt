@@ -6,12 +6,12 @@ use mathlib.Core.List.{List, [], ◌∷◌}
 use lib.ListN.{replicate}
 use Rattle.procap.specs.Lists.{All}
 use Rattle.procap.specs.Times.{earliest, latest}
-use Rattle.procap.specs.Procaps.{empty_procap}
+use Rattle.procap.specs.Procaps.{procap_of, empty_procap}
 use Rattle.procap.specs.declared.time.Time.TheVariants.{Moment, MinusInfinity, PlusInfinity, Ctime}
 use Rattle.procap.specs.declared.procap.Procap.{Procap}
 use Rattle.bl.specs.declared.Certificate.{Certificate}
 use Rattle.bl.proofs.CaseP.{request_P, computes}
-use Rattle.bl.proofs.Pressed.{issued_P, by_administrator, Press, ComesOutWith, DirectPress, DirectComesOutWith}
+use Rattle.bl.proofs.Pressed.{by_administrator, Press, ComesOutWith, DirectPress, DirectComesOutWith}
 
 -- The pair that puts k above j, as a number.
 abbrev above : ℕ → ℕ → ℕ
@@ -31,11 +31,11 @@ estate_buffer =
 -- By the owner, and by the administrator.
 abbrev estate : List Certificate
 estate =
-    record { principal = 5; number = 0; from = MinusInfinity; to = PlusInfinity; start = 0; length = 13 } ∷
+    record { principal = 5; from = MinusInfinity; to = PlusInfinity; start = 0; length = 13 } ∷
     by_administrator MinusInfinity PlusInfinity 0 13 ∷
     by_administrator MinusInfinity PlusInfinity 13 17 ∷
     by_administrator MinusInfinity PlusInfinity 30 31 ∷
-    record { principal = 5; number = 0; from = Moment 2000; to = Moment 1000; start = 0; length = 13 } ∷
+    record { principal = 5; from = Moment 2000; to = Moment 1000; start = 0; length = 13 } ∷
     []
 
 -- ── Verify ──
@@ -50,7 +50,7 @@ PairedComesOut x = ComesOutWith x.pairs estate_buffer x.press
 
 -- What is issued, and what is refused, for the estate's certificates.
 abbrev for_all_time : Procap
-for_all_time = issued_P earliest latest []
+for_all_time = procap_of request_P earliest latest []
 
 abbrev issued : List ℕ → List ℕ → PairedPress
 issued pairs proof = record { pairs = pairs; press = record { records = estate; proof = proof; number = 0; place = 0; procap = for_all_time } }

@@ -3,11 +3,7 @@ use Prim.Native.Nat.{ℕ}
 use mathlib.Core.Path.{◌≡◌}
 use mathlib.Core.List.{List, []}
 use Rattle.procap.specs.Answers.{number_of, place_of}
-use Rattle.procap.specs.Facts.{Spelled}
-use Rattle.procap.specs.Procaps.{Paper, procap_of, version_number}
 use Rattle.procap.specs.declared.time.Time.{Time}
-use Rattle.procap.specs.declared.procap.Version.{Version}
-use Rattle.procap.specs.declared.procap.Version.TheVariants.{One}
 use Rattle.procap.specs.declared.procap.Procap.{Procap}
 use Rattle.procap.specs.Outcome.{answer_of, procap_handed}
 use Rattle.bl.specs.declared.Certificate.{Certificate}
@@ -15,15 +11,7 @@ use Rattle.bl.specs.Calls.{verified, directly}
 use Rattle.bl.proofs.CaseP.{request_P}
 
 abbrev pub by_administrator : Time → Time → ℕ → ℕ → Certificate
-by_administrator from to start length = record { principal = 1; number = 0; from = from; to = to; start = start; length = length }
-
--- A procap for case P's request, of a version and with the numbers used.
-abbrev pub paper_P : Version → List ℕ → ℕ → ℕ → List Spelled → Paper
-paper_P v used from to facts = record { version = version_number v; request = request_P; from = from; to = to; used = used; facts = facts }
-
--- The value of one of version 1.
-abbrev pub issued_P : ℕ → ℕ → List Spelled → Procap
-issued_P from to facts = procap_of (paper_P One [] from to facts)
+by_administrator from to start length = record { principal = 1; from = from; to = to; start = start; length = length }
 
 -- At the office: records over a buffer, pairs and a proof, and what verify gives back.
 pub record Press : Type 0 where
@@ -35,7 +23,7 @@ pub record Press : Type 0 where
 
 abbrev pub ComesOutWith : List ℕ → List ℕ → Press → Type 0
 ComesOutWith pairs buffer x =
-    let out = verified One request_P x.records buffer pairs x.proof in
+    let out = verified request_P x.records buffer pairs x.proof in
     (number_of (answer_of out) ≡ x.number) × (place_of (answer_of out) ≡ x.place) × (procap_handed out ≡ x.procap)
 
 -- The same with no pairs.

@@ -4,14 +4,13 @@ use mathlib.Core.Path.{◌≡◌, refl}
 use mathlib.Core.List.{List, [], ◌∷◌, ◌++◌}
 use Rattle.procap.specs.Times.{earliest, latest}
 use Rattle.procap.specs.Facts.{Spelled}
-use Rattle.procap.specs.declared.procap.Version.TheVariants.{One}
+use Rattle.procap.specs.Procaps.{procap_of}
 use Rattle.procap.specs.declared.answer.Answer.TheVariants.{ProofMalformed}
 use Rattle.procap.specs.declared.fact.Term.TheVariants.{Name}
 use Rattle.procap.specs.declared.time.Time.TheVariants.{MinusInfinity, PlusInfinity}
 use Rattle.bl.specs.declared.Certificate.{Certificate}
 use Rattle.procap.specs.Outcome.{granted, refused}
 use Rattle.bl.specs.Calls.{verified}
-use Rattle.bl.proofs.Pressed.{paper_P}
 use Rattle.bl.proofs.CaseP.{request_P, computes}
 
 -- Two parts under a tag, and sixteen, joined by twos.
@@ -39,7 +38,7 @@ abbrev rule : List ℕ → List ℕ
 rule facts = 0x12 ∷ (facts ++ (0x17 ∷ 0x00 ∷ 0x64 ∷ 0x03 ∷ 0x00 ∷ 0x00 ∷ 0x02 ∷ 0x00 ∷ 0x00 ∷ 0x07 ∷ 0x00 ∷ 0x00 ∷ 0x09 ∷ []))
 
 abbrev records : ℕ → List Certificate
-records length = record { principal = 1; number = 0; from = MinusInfinity; to = PlusInfinity; start = 0; length = length } ∷ []
+records length = record { principal = 1; from = MinusInfinity; to = PlusInfinity; start = 0; length = length } ∷ []
 
 -- The proof that uses it, over all time.
 abbrev applied : List ℕ → List ℕ
@@ -52,12 +51,12 @@ facts_from k (suc n) = (200, Name k ∷ []) ∷ facts_from (suc k) n
 
 -- Sixteen facts are asked for, and all are listed.
 sixteen_are_listed :
-    verified One request_P (records 141) (rule (sixteen 0x11 loaded)) [] (applied (sixteen 0x22 asked)) ≡ granted (paper_P One [] earliest latest (facts_from 0 16))
+    verified request_P (records 141) (rule (sixteen 0x11 loaded)) [] (applied (sixteen 0x22 asked)) ≡ granted (procap_of request_P earliest latest (facts_from 0 16))
 unfolding computes facts_from
 sixteen_are_listed = refl
 
 -- The first of them is asked for again: that is a 17th step 2C, and the answer is 2, at no place.
 a_seventeenth_step_is_malformed :
-    verified One request_P (records 149) (rule (0x11 ∷ (sixteen 0x11 loaded ++ loaded 0))) [] (applied (0x22 ∷ (sixteen 0x22 asked ++ asked 0))) ≡ refused ProofMalformed
+    verified request_P (records 149) (rule (0x11 ∷ (sixteen 0x11 loaded ++ loaded 0))) [] (applied (0x22 ∷ (sixteen 0x22 asked ++ asked 0))) ≡ refused ProofMalformed
 unfolding computes
 a_seventeenth_step_is_malformed = refl

@@ -4,11 +4,11 @@ use mathlib.Core.Path.{refl}
 use mathlib.Core.List.{List, [], ◌∷◌}
 use Rattle.procap.specs.Lists.{All}
 use Rattle.procap.specs.Times.{earliest, latest}
-use Rattle.procap.specs.Procaps.{empty_procap}
+use Rattle.procap.specs.Procaps.{procap_of, empty_procap}
 use Rattle.procap.specs.declared.time.Time.TheVariants.{Moment, MinusInfinity, PlusInfinity}
 use Rattle.bl.specs.declared.Certificate.{Certificate}
 use Rattle.bl.proofs.CaseP.{request_P, computes}
-use Rattle.bl.proofs.Pressed.{issued_P, by_administrator, Press, ComesOut, DirectPress, DirectComesOut}
+use Rattle.bl.proofs.Pressed.{by_administrator, Press, ComesOut, DirectPress, DirectComesOut}
 
 -- What a lab writes: March is from 1000 to 2000, June from 5000 to 6000.
 abbrev lab_buffer : List ℕ
@@ -32,7 +32,7 @@ lab =
     by_administrator (Moment 5000) (Moment 6000) 4 31 ∷
     by_administrator MinusInfinity PlusInfinity 35 35 ∷
     by_administrator (Moment 1000) (Moment 2000) 70 8 ∷
-    record { principal = 5; number = 0; from = Moment 1000; to = Moment 2000; start = 0; length = 4 } ∷
+    record { principal = 5; from = Moment 1000; to = Moment 2000; start = 0; length = 4 } ∷
     by_administrator MinusInfinity PlusInfinity 78 17 ∷
     []
 
@@ -44,10 +44,10 @@ presses =
     record { records = lab; proof = 0x2a ∷ 0x26 ∷ 0x21 ∷ 0x02 ∷ 0x28 ∷ 0x21 ∷ 0x00 ∷ 0x04 ∷ 0x04 ∷ []; number = 5; place = 0; procap = empty_procap }
     ∷
     -- By a rule for all time it shows it in March: both comparisons are with ctime, and narrow the procap.
-    record { records = lab; proof = 0x2a ∷ 0x26 ∷ 0x21 ∷ 0x01 ∷ 0x28 ∷ 0x21 ∷ 0x00 ∷ 0x04 ∷ 0x04 ∷ []; number = 0; place = 0; procap = issued_P 1000 2000 [] }
+    record { records = lab; proof = 0x2a ∷ 0x26 ∷ 0x21 ∷ 0x01 ∷ 0x28 ∷ 0x21 ∷ 0x00 ∷ 0x04 ∷ 0x04 ∷ []; number = 0; place = 0; procap = procap_of request_P 1000 2000 [] }
     ∷
     -- An inner says_in on [1200,1800] sets the view to that; the 28 inside of it leaves it so.
-    record { records = lab; proof = 0x2a ∷ 0x26 ∷ 0x21 ∷ 0x03 ∷ 0x2a ∷ 0x28 ∷ 0x21 ∷ 0x00 ∷ 0x01 ∷ 0x00 ∷ 0x00 ∷ 0x00 ∷ 0x04 ∷ 0xb0 ∷ 0x01 ∷ 0x00 ∷ 0x00 ∷ 0x00 ∷ 0x07 ∷ 0x08 ∷ []; number = 0; place = 0; procap = issued_P 1200 1800 [] }
+    record { records = lab; proof = 0x2a ∷ 0x26 ∷ 0x21 ∷ 0x03 ∷ 0x2a ∷ 0x28 ∷ 0x21 ∷ 0x00 ∷ 0x01 ∷ 0x00 ∷ 0x00 ∷ 0x00 ∷ 0x04 ∷ 0xb0 ∷ 0x01 ∷ 0x00 ∷ 0x00 ∷ 0x00 ∷ 0x07 ∷ 0x08 ∷ []; number = 0; place = 0; procap = procap_of request_P 1200 1800 [] }
     ∷
     -- On [500,1500] the view starts before the certificate does, though the goal of the 28 does not.
     record { records = lab; proof = 0x2a ∷ 0x26 ∷ 0x21 ∷ 0x03 ∷ 0x2a ∷ 0x28 ∷ 0x21 ∷ 0x00 ∷ 0x01 ∷ 0x00 ∷ 0x00 ∷ 0x00 ∷ 0x01 ∷ 0xf4 ∷ 0x01 ∷ 0x00 ∷ 0x00 ∷ 0x00 ∷ 0x05 ∷ 0xdc ∷ []; number = 4; place = 6; procap = empty_procap }
@@ -65,7 +65,7 @@ presses =
     record { records = lab; proof = 0x21 ∷ 0x00 ∷ []; number = 3; place = 0; procap = empty_procap }
     ∷
     -- A claim is used where the view lies in its interval,
-    record { records = lab; proof = 0x2a ∷ 0x2b ∷ 0x21 ∷ 0x04 ∷ 0x26 ∷ 0x21 ∷ 0x03 ∷ 0x2a ∷ 0x28 ∷ 0x20 ∷ 0x00 ∷ 0x01 ∷ 0x00 ∷ 0x00 ∷ 0x00 ∷ 0x04 ∷ 0xb0 ∷ 0x01 ∷ 0x00 ∷ 0x00 ∷ 0x00 ∷ 0x07 ∷ 0x08 ∷ []; number = 0; place = 0; procap = issued_P 1200 1800 [] }
+    record { records = lab; proof = 0x2a ∷ 0x2b ∷ 0x21 ∷ 0x04 ∷ 0x26 ∷ 0x21 ∷ 0x03 ∷ 0x2a ∷ 0x28 ∷ 0x20 ∷ 0x00 ∷ 0x01 ∷ 0x00 ∷ 0x00 ∷ 0x00 ∷ 0x04 ∷ 0xb0 ∷ 0x01 ∷ 0x00 ∷ 0x00 ∷ 0x00 ∷ 0x07 ∷ 0x08 ∷ []; number = 0; place = 0; procap = procap_of request_P 1200 1800 [] }
     ∷
     -- not where the view starts too early,
     record { records = lab; proof = 0x2a ∷ 0x2b ∷ 0x21 ∷ 0x04 ∷ 0x26 ∷ 0x21 ∷ 0x03 ∷ 0x2a ∷ 0x28 ∷ 0x20 ∷ 0x00 ∷ 0x01 ∷ 0x00 ∷ 0x00 ∷ 0x00 ∷ 0x01 ∷ 0xf4 ∷ 0x01 ∷ 0x00 ∷ 0x00 ∷ 0x00 ∷ 0x05 ∷ 0xdc ∷ []; number = 4; place = 9; procap = empty_procap }
@@ -74,7 +74,7 @@ presses =
     record { records = lab; proof = 0x2a ∷ 0x2b ∷ 0x21 ∷ 0x04 ∷ 0x26 ∷ 0x21 ∷ 0x03 ∷ 0x2a ∷ 0x28 ∷ 0x20 ∷ 0x00 ∷ 0x01 ∷ 0x00 ∷ 0x00 ∷ 0x00 ∷ 0x05 ∷ 0xdc ∷ 0x01 ∷ 0x00 ∷ 0x00 ∷ 0x00 ∷ 0x09 ∷ 0xc4 ∷ []; number = 4; place = 9; procap = empty_procap }
     ∷
     -- A plain assumption on [1000,2000] is used in any view.
-    record { records = lab; proof = 0x2a ∷ 0x29 ∷ 0x21 ∷ 0x06 ∷ 0x26 ∷ 0x21 ∷ 0x01 ∷ 0x28 ∷ 0x20 ∷ 0x00 ∷ 0x04 ∷ 0x04 ∷ []; number = 0; place = 0; procap = issued_P earliest latest [] }
+    record { records = lab; proof = 0x2a ∷ 0x29 ∷ 0x21 ∷ 0x06 ∷ 0x26 ∷ 0x21 ∷ 0x01 ∷ 0x28 ∷ 0x20 ∷ 0x00 ∷ 0x04 ∷ 0x04 ∷ []; number = 0; place = 0; procap = procap_of request_P earliest latest [] }
     ∷
     []
 

@@ -4,11 +4,11 @@ use mathlib.Core.Path.{◌≡◌, refl}
 use mathlib.Core.List.{List}
 use native.Mathlib.Omega.{arith}
 use lib.ListN.{length}
-use Rattle.procap.specs.Writable.{InForm}
+use Rattle.procap.specs.Writable.{Writable}
 use Rattle.procap.specs.Outcome.{Outcome, granted, refused}
-use Rattle.procap.specs.Procaps.{Paper}
-use Rattle.text.specs.Text.{most_text}
-use Rattle.text.proofs.Longest.{at_most_1584, refusal_at_most_38}
+use Rattle.procap.specs.declared.procap.Procap.{Procap}
+use Rattle.text.specs.Buffers.{most_text}
+use Rattle.text.proofs.Longest.{at_most_1223, refusal_at_most_38}
 use Rattle.text.proofs.Written.{fits}
 use Rattle.cases.specs.Case.{Case, case_in}
 use Rattle.cases.specs.Calls.{printed_of, printed, answering}
@@ -16,9 +16,9 @@ use Rattle.cases.proofs.Printables.{verified_of, issued_is_writable}
 use Rattle.cases.proofs.CasesAnswered.{no_case_printed, case_printed}
 
 -- What is printed for an outcome is short, where a procap that it grants can be written.
-short_of : (o : Outcome Paper) → ((p : Paper) → o ≡ granted p → InForm p) → length (printed_of o) ≤ most_text
+short_of : (o : Outcome Procap) → ((p : Procap) → o ≡ granted p → Writable p) → length (printed_of o) ≤ most_text
 unfolding printed_of
-short_of (granted p) writable = at_most_1584 p (writable p refl)
+short_of (granted p) writable = at_most_1223 p (writable p refl)
 short_of (refused answer) writable = omega (arith, refusal_at_most_38 answer)
 
 -- No more is printed than the longest text has.

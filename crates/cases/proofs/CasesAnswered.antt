@@ -9,7 +9,7 @@ use lib.ListN.{length}
 use Rattle.procap.specs.Outcome.{Outcome, granted, refused, go_on}
 use Rattle.procap.specs.declared.answer.Answer.{Answer}
 use Rattle.procap.specs.declared.answer.Answer.TheVariants.{InputMalformed}
-use Rattle.procap.specs.Procaps.{Paper}
+use Rattle.procap.specs.declared.procap.Procap.{Procap}
 use Rattle.procap.proofs.Granted.{goes_on, is_so, is_not_so}
 use Rattle.text.specs.Text.{refusal_text}
 use Rattle.text.specs.Calls.{fitting}
@@ -56,12 +56,12 @@ module _ (input : List ℕ) where
   -- ── What is printed ──
 
   -- What is printed is the text of what it comes to.
-  printed_by : (o : Outcome Paper) → checked input ≡ o → printed input ≡ printed_of o
+  printed_by : (o : Outcome Procap) → checked input ≡ o → printed input ≡ printed_of o
   unfolding printed
   printed_by o e = ap printed_of e
 
   -- And so it is where a room is given.
-  answered_by : (room : ℕ) (o : Outcome Paper) → checked input ≡ o → answering input room ≡ fitting (printed_of o) room
+  answered_by : (room : ℕ) (o : Outcome Procap) → checked input ≡ o → answering input room ≡ fitting (printed_of o) room
   unfolding answering
   answered_by room o e = ap (λ text. fitting text room) (printed_by o e)
 

@@ -14,6 +14,6 @@ use Rattle.cases.proofs.Printables.{verified_of}
 module _ (o : Outcome (Case × ℕ × ℕ)) (r : CaseRead) (bytes : List ℕ) where
   -- What verify hands over for what was read is what it comes to for the case.
   pub hands_over_case : (f : CaseFound o r bytes) (v : Verified)
-      → HandsOver (verified r.version r.request (kept_records r.certificates) (take r.split bytes) [] (take (r.end - r.split) (drop r.split bytes))) v
+      → HandsOver (verified r.request (kept_records r.certificates) (take r.split bytes) [] (take (r.end - r.split) (drop r.split bytes))) v
       → HandsOver (verified_of f.found) v
-  hands_over_case f v h = rw (f.its_version, f.its_request, f.its_records, f.its_buffer, f.its_proof) at h
+  hands_over_case f v h = rw (f.its_request, f.its_records, f.its_buffer, f.its_proof) at h

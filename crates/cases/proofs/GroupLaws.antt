@@ -1,4 +1,4 @@
--- Laws of groups: what a group is from its heading, its line of hex and its number, and groups of which some are read and the rest is still to be read.
+-- Laws of groups: what a group is from its heading and its line of hex, and groups of which some are read and the rest is still to be read.
 use Prim.Native.Nat.{ℕ, suc, ◌+◌, ◌-◌, ◌*◌, ◌≤◌}
 use mathlib.Core.Bool.{true}
 use mathlib.Core.Path.{◌≡◌, refl, sym, ap, ◌∙◌}
@@ -9,65 +9,57 @@ use Rattle.procap.specs.Outcome.{Outcome, granted, refused, go_on}
 use Rattle.procap.specs.declared.answer.Answer.{Answer}
 use Rattle.procap.specs.declared.answer.Answer.TheVariants.{InputMalformed}
 use Rattle.procap.specs.declared.time.Time.{Time}
-use Rattle.procap.specs.declared.procap.Version.{Version}
-use Rattle.lines.specs.Words.{bytes_of}
-use Rattle.lines.specs.declared.line.Form.TheVariants.{Kept}
+use Rattle.text.specs.Words.{bytes_of}
+use Rattle.text.specs.declared.line.Form.TheVariants.{Kept}
 use Rattle.cases.specs.CaseLines.{hex_line}
-use Rattle.cases.specs.Case.{Group, group_lines, heading, group_number, group, groups}
-use Rattle.cases.specs.Found.{HexFound, number_there, GroupFound}
-use Rattle.cases.proofs.GroupNumbers.{number_read, number_breaks, number_wide}
+use Rattle.cases.specs.Case.{Group, heading, group, groups}
+use Rattle.cases.specs.Found.{HexFound, GroupFound}
 use Rattle.cases.proofs.InARow.{line_reads, line_breaks, lines_read, lines_break}
 
 -- ── One group ──
 
-module _ (input : List ℕ) (v : Version) (line at : ℕ) where
+module _ (input : List ℕ) (line at : ℕ) where
   -- A line of the heading that breaks the form does so of the group.
-  pub heading_breaks : (answer : Answer) → heading input line at ≡ refused answer → group input v line at ≡ refused answer
+  pub heading_breaks : (answer : Answer) → heading input line at ≡ refused answer → group input line at ≡ refused answer
   unfolding group
   heading_breaks answer e = lines_break _ line at (heading input) answer e
 
   module _ (by : ℕ) (from to : Time) (next : ℕ) (h : heading input line at ≡ granted ((by, from, to), line + 3, next)) where
-    -- After its heading a group breaks the form in its fourth line, or in its fifth where that should have its number, or is read.
-    pub formula_breaks : hex_line input (bytes_of "says=") next ≡ none → group input v line at ≡ refused (InputMalformed (line + 3))
+    -- After its heading a group breaks the form in its fourth line, or is read.
+    pub formula_breaks : hex_line input (bytes_of "says=") next ≡ none → group input line at ≡ refused (InputMalformed (line + 3))
     unfolding group
     formula_breaks e =
         lines_read _ line at (heading input) (by, from, to) (line + 3) next h
         ∙ line_breaks _ (line + 3) next (hex_line input (bytes_of "says=")) e
 
-    module _ (says : List ℕ) (place : ℕ) (e : hex_line input (bytes_of "says=") next ≡ some (says, place)) where
-      pub number_missing : number_there input v place ≡ none → group input v line at ≡ refused (InputMalformed (line + 4))
-      unfolding group
-      number_missing f =
-          lines_read _ line at (heading input) (by, from, to) (line + 3) next h
-          ∙ line_reads _ (line + 3) next (hex_line input (bytes_of "says=")) says place e
-          ∙ lines_break _ (suc (line + 3)) place (group_number input v) _ (number_breaks input v line place f)
-
-      group_reads : (number end : ℕ) → number_there input v place ≡ some (number, end)
-          → group input v line at ≡ granted (record { by = by; number = number; from = from; to = to; says = says }, line + group_lines v, end)
-      unfolding group
-      group_reads number end f =
-          lines_read _ line at (heading input) (by, from, to) (line + 3) next h
-          ∙ line_reads _ (line + 3) next (hex_line input (bytes_of "says=")) says place e
-          ∙ lines_read _ (suc (line + 3)) place (group_number input v) number (line + group_lines v) end (number_read input v line place number end f)
+    group_reads : (says : List ℕ) (end : ℕ) → hex_line input (bytes_of "says=") next ≡ some (says, end)
+        → group input line at ≡ granted (record { by = by; from = from; to = to; says = says }, line + 4, end)
+    unfolding group
+    group_reads says end e =
+        lines_read _ line at (heading input) (by, from, to) (line + 3) next h
+        ∙ line_reads _ (line + 3) next (hex_line input (bytes_of "says=")) says end e
+        ∙ ap (λ l. granted (record { by = by; from = from; to = to; says = says }, l, end)) four
+      where
+        four : suc (line + 3) ≡ line + 4
+        four = omega arith
 
     -- The group with its record and its formula in the buffer. The formula's bytes end behind half of what is passed of the input.
     pub group_found : (start : ℕ) (before : List ℕ) (place end : ℕ) (after : List ℕ) → 2 * start ≤ next
         → HexFound (hex_line input (bytes_of "says=") next) next start before true place end after
-        → (number last : ℕ) → number_there input v place ≡ some (number, last)
-        → GroupFound v (group input v line at) line start before
+        → GroupFound (group input line at) line start before
         (record {
           form = Kept;
-          certificate = record { principal = by; number = number; from = from; to = to; start = start; length = end - start };
-          next = last;
+          certificate = record { principal = by; from = from; to = to; start = start; length = end - start };
+          next = place;
           end = end;
         })
         after
-    group_found start before place end after behind (says, reads, twice, ends, put) number last there = record {
-      found = record { by = by; number = number; from = from; to = to; says = says };
-      reads = group_reads says place reads number last there;
-      its_record = ap (λ n. record { principal = by; number = number; from = from; to = to; start = start; length = n }) (omega arith);
+    group_found start before place end after behind (says, reads, twice, ends, put) = record {
+      found = record { by = by; from = from; to = to; says = says };
+      reads = group_reads says place reads;
+      its_record = ap (λ n. record { principal = by; from = from; to = to; start = start; length = n }) (omega arith);
       end = ends;
-      behind = omega (arith, (number_wide input v place number last there).1);
+      behind = omega arith;
       put = put;
     }
 
@@ -112,19 +104,19 @@ module _ (gs : List Group) {whole : Outcome (List Group × ℕ × ℕ)} (rest : 
 
 -- ── So many groups ──
 
-module _ (input : List ℕ) (v : Version) (k line at : ℕ) where
+module _ (input : List ℕ) (k line at : ℕ) where
   -- Of so many groups one, and then n more; where the first breaks the form, so do they.
   module _ (n : ℕ) (more : k ≡ suc n) where
-    pub groups_one : (g : Group) (line' next : ℕ) → group input v line at ≡ granted (g, line', next)
-        → groups input v k line at ≡ led_by (g ∷ []) (groups input v n line' next)
+    pub groups_one : (g : Group) (line' next : ℕ) → group input line at ≡ granted (g, line', next)
+        → groups input k line at ≡ led_by (g ∷ []) (groups input n line' next)
     unfolding groups go_on
-    groups_one g line' next e = rw (more, e) (led_by_one g (groups input v n line' next))
+    groups_one g line' next e = rw (more, e) (led_by_one g (groups input n line' next))
 
-    pub groups_break : (answer : Answer) → group input v line at ≡ refused answer → groups input v k line at ≡ refused answer
+    pub groups_break : (answer : Answer) → group input line at ≡ refused answer → groups input k line at ≡ refused answer
     unfolding groups go_on
     groups_break answer e = rw (more, e)
 
   -- Of no groups nothing is left to be read.
-  pub groups_end : k ≡ 0 → groups input v k line at ≡ granted ([], line, at)
+  pub groups_end : k ≡ 0 → groups input k line at ≡ granted ([], line, at)
   unfolding groups
   groups_end e = rw e

@@ -7,40 +7,42 @@ use lib.ListN.{length, set, length-append}
 use Rattle.procap.specs.Lists.{pad}
 use Rattle.procap.specs.Outcome.{granted, refused}
 use Rattle.procap.specs.declared.answer.Answer.{Answer}
-use Rattle.procap.specs.declared.procap.Version.{Version}
 use Rattle.bl.specs.Certificates.{most_certificates}
 use Rattle.bl.specs.declared.Certificate.{Certificate}
 use Rattle.verifier.specs.Verifying.{no_record}
-use Rattle.lines.specs.declared.line.Form.TheVariants.{Kept}
-use Rattle.lines.proofs.Putting.{Put, put_none, put_both}
-use Rattle.cases.specs.Case.{Group, first_group_line, group_lines, group, groups, buffer_of, records_from}
+use Rattle.text.proofs.Putting.{Put, put_none, put_both}
+use Rattle.text.specs.declared.line.Form.TheVariants.{Kept}
+use Rattle.cases.specs.Case.{Group, first_group_line, group, groups, buffer_of, records_from}
 use Rattle.cases.specs.Found.{GroupFound, GroupsFound}
 use Rattle.cases.specs.declared.groups.GroupRead.{GroupRead}
-use Rattle.cases.proofs.GroupNumbers.{group_line, first_line, next_group_line}
 use Rattle.cases.proofs.GroupLaws.{led_by, led_by_nothing, led_more, led_breaks, led_all, groups_one, groups_break, groups_end}
 use Rattle.cases.proofs.Records.{buffer_more, record_stored, records_kept}
 
+-- The number of the line at which the i-th group begins.
+abbrev pub group_line : ℕ → ℕ
+group_line i = first_group_line + 4 * i
+
 -- So many groups are read of those from a place on, up to the next place; their formulas end at `end` of the buffer `bytes`, which was `before`.
-pub record GroupsSoFar (input : List ℕ) (v : Version) (at count : ℕ) (before bytes : List ℕ) (records : List Certificate) (next end i : ℕ) : Type 0 where
+pub record GroupsSoFar (input : List ℕ) (at count : ℕ) (before bytes : List ℕ) (records : List Certificate) (next end i : ℕ) : Type 0 where
   pub found : List Group
   pub counted : length found ≡ i
   pub few : i ≤ count
-  pub reads : groups input v count first_group_line at ≡ led_by found (groups input v (count - i) (group_line v i) next)
+  pub reads : groups input count first_group_line at ≡ led_by found (groups input (count - i) (group_line i) next)
   pub kept : records ≡ pad most_certificates no_record (records_from 0 found)
   pub put : Put 0 (buffer_of found) before bytes end
   pub same_length : length bytes ≡ length before
   pub behind : 2 * end ≤ next
 
-module _ {input : List ℕ} {v : Version} {at count : ℕ} {before : List ℕ} where
+module _ {input : List ℕ} {at count : ℕ} {before : List ℕ} where
   -- Nothing yet.
   pub no_groups_yet : (records : List Certificate) → records ≡ pad most_certificates no_record []
-      → GroupsSoFar input v at count before before records at 0 0
+      → GroupsSoFar input at count before before records at 0 0
   unfolding buffer_of records_from
   no_groups_yet records e = record {
     found = [];
     counted = refl;
     few = omega arith;
-    reads = led_by_nothing _ ∙ ap₂ (λ k l. led_by [] (groups input v k l at)) (omega arith) (first_line v);
+    reads = led_by_nothing _ ∙ ap (λ k. led_by [] (groups input k first_group_line at)) (omega arith);
     kept = e;
     put = put_none 0 before;
     same_length = refl;
@@ -48,35 +50,35 @@ module _ {input : List ℕ} {v : Version} {at count : ℕ} {before : List ℕ} w
   }
 
   module _ {bytes : List ℕ} {records : List Certificate} {next end i : ℕ}
-      (h : GroupsSoFar input v at count before bytes records next end i) where
+      (h : GroupsSoFar input at count before bytes records next end i) where
     module _ (l : i < count) where
       -- Where the next group breaks the form, so do all.
-      pub next_breaks : (answer : Answer) → group input v (group_line v i) next ≡ refused answer
-          → groups input v count first_group_line at ≡ refused answer
+      pub next_breaks : (answer : Answer) → group input (group_line i) next ≡ refused answer
+          → groups input count first_group_line at ≡ refused answer
       next_breaks answer e =
-          led_breaks h.found (groups input v (count - i) (group_line v i) next) h.reads answer
-          (groups_break input v (count - i) (group_line v i) next (count - (i + 1)) (omega arith) answer e)
+          led_breaks h.found (groups input (count - i) (group_line i) next) h.reads answer
+          (groups_break input (count - i) (group_line i) next (count - (i + 1)) (omega arith) answer e)
 
       -- One group more.
       pub one_group_more : (r : GroupRead) (after : List ℕ) → count ≤ most_certificates → length after ≡ length bytes
-          → GroupFound v (group input v (group_line v i) next) (group_line v i) end bytes r after
-          → GroupsSoFar input v at count before after (set records i r.certificate) r.next r.end (i + 1)
+          → GroupFound (group input (group_line i) next) (group_line i) end bytes r after
+          → GroupsSoFar input at count before after (set records i r.certificate) r.next r.end (i + 1)
       one_group_more r after most same g = record {
         found = h.found ++ (g.found ∷ []);
         counted = simp length-append (omega (arith, h.counted));
         few = omega arith;
-        reads = led_more h.found (groups input v (count - i) (group_line v i) next) h.reads g.found _ rest;
+        reads = led_more h.found (groups input (count - i) (group_line i) next) h.reads g.found _ rest;
         kept = stored;
         put = both;
         same_length = same ∙ h.same_length;
         behind = g.behind;
       }
         where
-          rest : groups input v (count - i) (group_line v i) next
-              ≡ led_by (g.found ∷ []) (groups input v (count - (i + 1)) (group_line v (i + 1)) r.next)
+          rest : groups input (count - i) (group_line i) next
+              ≡ led_by (g.found ∷ []) (groups input (count - (i + 1)) (group_line (i + 1)) r.next)
           rest =
-              groups_one input v (count - i) (group_line v i) next (count - (i + 1)) (omega arith) g.found (group_line v i + group_lines v) r.next g.reads
-              ∙ ap (λ k. led_by (g.found ∷ []) (groups input v (count - (i + 1)) k r.next)) (next_group_line v i)
+              groups_one input (count - i) (group_line i) next (count - (i + 1)) (omega arith) g.found (group_line i + 4) r.next g.reads
+              ∙ ap (λ k. led_by (g.found ∷ []) (groups input (count - (i + 1)) k r.next)) (omega arith)
 
           stored : set records i r.certificate ≡ pad most_certificates no_record (records_from 0 (h.found ++ (g.found ∷ [])))
           stored =
@@ -90,14 +92,14 @@ module _ {input : List ℕ} {v : Version} {at count : ℕ} {before : List ℕ} w
 
     -- All of them.
     pub all_groups_read : count ≤ most_certificates → count ≤ i
-        → GroupsFound v (groups input v count first_group_line at) count before
+        → GroupsFound (groups input count first_group_line at) count before
         (record { form = Kept; certificates = record { count = count; records = records }; next = next; end = end })
         bytes
     all_groups_read most l = record {
       found = h.found;
       reads =
-          led_all h.found (groups input v (count - i) (group_line v i) next) h.reads (group_line v count) next
-          (groups_end input v (count - i) (group_line v i) next (omega arith) ∙ ap (λ k. granted ([], group_line v k, next)) all);
+          led_all h.found (groups input (count - i) (group_line i) next) h.reads (group_line count) next
+          (groups_end input (count - i) (group_line i) next (omega arith) ∙ ap (λ k. granted ([], group_line k, next)) all);
       few = most;
       their_records = records_kept most_certificates _ h.found (h.counted ∙ all) h.kept;
       end = omega (arith, h.put.0);

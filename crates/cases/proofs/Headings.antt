@@ -10,10 +10,10 @@ use Rattle.procap.specs.Writable.{largest_name}
 use Rattle.procap.specs.declared.answer.Answer.TheVariants.{InputMalformed}
 use Rattle.procap.specs.declared.time.Time.{Time}
 use Rattle.procap.proofs.Readers.{so_read}
-use Rattle.lines.specs.Words.{bytes_of}
-use Rattle.lines.specs.Line.{line_to}
-use Rattle.lines.specs.LinesInARow.{at_line}
-use Rattle.lines.proofs.Spellings.{line_read}
+use Rattle.text.specs.Words.{bytes_of}
+use Rattle.text.specs.Line.{line_to}
+use Rattle.text.proofs.Spellings.{line_read}
+use Rattle.text.specs.LinesInARow.{at_line}
 use Rattle.cases.specs.CaseLines.{time_line}
 use Rattle.cases.specs.Case.{heading}
 use Rattle.cases.proofs.Times.{time_line_ends}

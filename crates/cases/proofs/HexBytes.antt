@@ -6,7 +6,7 @@ use lib.ListN.{drop}
 use Rattle.procap.specs.Lists.{All}
 use Rattle.procap.proofs.Readers.{IfRead, read, then_read, ensure_read, any_read}
 use Rattle.bl.specs.Accepting.{AreBytes}
-use Rattle.lines.specs.Line.{literal}
+use Rattle.text.specs.Line.{literal}
 use Rattle.cases.specs.Hex.{paired}
 use Rattle.cases.specs.CaseLines.{hex_digits, hex_line}
 use Rattle.cases.proofs.HexDigits.{IsHex, hex_value_below, leading_are_hex}

@@ -11,7 +11,7 @@ use lib.Dec.{leb}
 use borrow.Author.Tests.{leb-true, le-leb, lt-leb}
 use Rattle.procap.specs.Tells.{pick}
 use Rattle.procap.specs.Lists.{All}
-use Rattle.lines.specs.Numbers.{is_digit, while_digit}
+use Rattle.text.specs.Numbers.{is_digit, while_digit}
 use Rattle.cases.specs.Hex.{is_letter, is_hex, hex_value, leading_hex}
 use Rattle.cases.specs.Found.{DigitSays, DigitReads}
 use Rattle.cases.specs.declared.hex.HexDigit.{HexDigit}

@@ -10,10 +10,10 @@ use lib.ListN.{length, drop, length-append}
 use borrow.Author.Tests.{eq-eqb, ne_eqb, not-true, not-false}
 use Rattle.procap.specs.Bytes.{then, ensure}
 use Rattle.procap.proofs.Readers.{so_read}
-use Rattle.lines.specs.Numbers.{is_digit}
-use Rattle.lines.specs.Words.{bytes_of}
-use Rattle.lines.specs.Line.{literal}
-use Rattle.lines.proofs.Readers.{Takes, literal_read}
+use Rattle.text.specs.Numbers.{is_digit}
+use Rattle.text.specs.Words.{bytes_of}
+use Rattle.text.specs.Line.{literal}
+use Rattle.text.proofs.Readers.{Takes, literal_read}
 use Rattle.cases.specs.Hex.{is_letter, is_hex, leading_hex, in_pairs, paired}
 use Rattle.cases.specs.CaseLines.{hex_digits, hex_line}
 use Rattle.cases.specs.Found.{PairsPut, HexReads, HexFound}

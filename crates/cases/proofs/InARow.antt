@@ -7,7 +7,7 @@ use Rattle.procap.specs.Outcome.{granted, refused, go_on}
 use Rattle.procap.specs.Bytes.{Reader}
 use Rattle.procap.specs.declared.answer.Answer.{Answer}
 use Rattle.procap.specs.declared.answer.Answer.TheVariants.{InputMalformed}
-use Rattle.lines.specs.LinesInARow.{Lines, ◌>>=◌, at_line, one_line}
+use Rattle.text.specs.LinesInARow.{Lines, ◌>>=◌, at_line, one_line}
 
 module _ {A B : Type 0} (f : A → Lines B) (line at : ℕ) where
   -- From a line that reads one goes on with the next one.

@@ -6,8 +6,6 @@ pub mod HexLines
 pub mod HexBytes
 pub mod Times
 pub mod Headings
-pub mod PastLines
-pub mod GroupNumbers
 pub mod GroupLaws
 pub mod Records
 pub mod GroupsSoFar

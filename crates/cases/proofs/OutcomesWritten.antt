@@ -7,10 +7,8 @@ use native.Mathlib.Omega.{arith}
 use lib.ListN.{length}
 use Rattle.procap.specs.Answers.{number_of}
 use Rattle.procap.specs.Outcome.{Outcome, granted, refused, answer_of, procap_handed}
-use Rattle.procap.specs.Procaps.{Paper, procap_of}
-use Rattle.procap.proofs.Listed.{paper_back}
-use Rattle.procap.proofs.Rebuilt.{made_writable}
-use Rattle.text.specs.Text.{text_of, refusal_text}
+use Rattle.procap.specs.declared.procap.Procap.{Procap}
+use Rattle.text.specs.Text.{refusal_text}
 use Rattle.text.specs.Calls.{fitting, writing, Wrote}
 use Rattle.text.specs.declared.writer.WrittenText.{WrittenText}
 use Rattle.text.proofs.Written.{can_be_written}
@@ -22,12 +20,11 @@ use Rattle.cases.specs.Printing.{Printable}
 module _ (v : Verified) (before : List ℕ) (r : WrittenText) (after : List ℕ) where
   -- With the number 0 a procap is handed over, and its text is what is to be printed.
   pub text_is_printed : number_of v.answer ≡ 0 → Wrote (writing v.procap (length before)) before r after
-      → (o : Outcome Paper) → HandsOver o v → Printable o → Wrote (fitting (printed_of o) (length before)) before r after
+      → (o : Outcome Procap) → HandsOver o v → Printable o → Wrote (fitting (printed_of o) (length before)) before r after
   unfolding answer_of procap_handed printed_of
   text_is_printed zero written (granted p) hands writable =
       let same : writing v.procap (length before) ≡ fitting (printed_of (granted p)) (length before) =
-      ap (λ q. writing q (length before)) hands.procap ∙ can_be_written (procap_of p) (length before) (made_writable p writable)
-      ∙ ap (λ q. fitting (text_of q) (length before)) (paper_back p) in
+      ap (λ q. writing q (length before)) hands.procap ∙ can_be_written p (length before) writable in
       rw same at written
   text_is_printed zero written (refused answer) hands refuses =
       let same : number_of v.answer ≡ number_of answer = ap number_of hands.answer in
@@ -35,7 +32,7 @@ module _ (v : Verified) (before : List ℕ) (r : WrittenText) (after : List ℕ)
 
   -- With another number it is a refusal, and its two lines are what is to be printed.
   pub refusal_is_printed : (number_of v.answer ≡ 0 → ⊥) → Wrote (fitting (refusal_text v.answer) (length before)) before r after
-      → (o : Outcome Paper) → HandsOver o v → Printable o → Wrote (fitting (printed_of o) (length before)) before r after
+      → (o : Outcome Procap) → HandsOver o v → Printable o → Wrote (fitting (printed_of o) (length before)) before r after
   unfolding answer_of printed_of
   refusal_is_printed other written (granted p) hands writable = absurd (other (ap number_of hands.answer))
   refusal_is_printed other written (refused answer) hands refuses = rw hands.answer at written

@@ -4,7 +4,7 @@ use mathlib.Core.Path.{◌≡◌, refl, sym, ap, ap₂, ◌∙◌}
 use mathlib.Core.List.{List, [], ◌∷◌, ◌++◌, append_assoc}
 use native.Mathlib.Omega.{arith}
 use lib.ListN.{length, drop, set, length-append}
-use Rattle.lines.proofs.Putting.{Put, put_none, put_byte, put_both}
+use Rattle.text.proofs.Putting.{Put, put_none, put_byte, put_both}
 use Rattle.cases.specs.Hex.{hex_value, leading_hex, paired}
 use Rattle.cases.specs.Found.{DigitReads, PairsPut}
 use Rattle.cases.specs.declared.hex.HexDigit.TheVariants.{Value, NoDigit}

@@ -2,9 +2,9 @@
 use Prim.Native.Nat.{ℕ}
 use mathlib.Core.Path.{◌≡◌, refl}
 use mathlib.Core.List.{List, []}
-use Rattle.procap.specs.Writable.{InForm}
+use Rattle.procap.specs.Writable.{Writable}
 use Rattle.procap.specs.Outcome.{Outcome, granted, refused}
-use Rattle.procap.specs.Procaps.{Paper}
+use Rattle.procap.specs.declared.procap.Procap.{Procap}
 use Rattle.procap.proofs.Refused.{IfRefused}
 use Rattle.bl.specs.Calls.{verified}
 use Rattle.bl.proofs.Theorems.{issued_can_be_written}
@@ -14,17 +14,17 @@ use Rattle.cases.proofs.Refusals.{Refuses, verified_refuses}
 use Rattle.cases.proofs.CasesInForm.{case_in_form}
 
 -- What verify comes to for what a case says.
-abbrev pub verified_of : Case → Outcome Paper
-verified_of c = verified c.version c.request (records_from 0 c.groups) (buffer_of c.groups) [] c.proof
+abbrev pub verified_of : Case → Outcome Procap
+verified_of c = verified c.request (records_from 0 c.groups) (buffer_of c.groups) [] c.proof
 
 -- A procap that verify issues for a case that was read can be written.
-pub issued_is_writable : (input : List ℕ) (c : Case) → case_in input ≡ granted c → (p : Paper) → verified_of c ≡ granted p → InForm p
+pub issued_is_writable : (input : List ℕ) (c : Case) → case_in input ≡ granted c → (p : Procap) → verified_of c ≡ granted p → Writable p
 issued_is_writable input c reads =
-    let (names, numbers, in_bytes, proof_in_bytes) = case_in_form input c reads in
-    issued_can_be_written c.request (records_from 0 c.groups) (buffer_of c.groups) [] c.proof names numbers in_bytes proof_in_bytes c.version
+    let (names, in_bytes, proof_in_bytes) = case_in_form input c reads in
+    issued_can_be_written c.request (records_from 0 c.groups) (buffer_of c.groups) [] c.proof names in_bytes proof_in_bytes
 
 -- An outcome can be printed where a procap that it grants can be written, and where its refusals are such.
-printable_by : (o : Outcome Paper) → ((p : Paper) → o ≡ granted p → InForm p) → IfRefused Refuses o → Printable o
+printable_by : (o : Outcome Procap) → ((p : Procap) → o ≡ granted p → Writable p) → IfRefused Refuses o → Printable o
 printable_by (granted p) writable refuses = writable p refl
 printable_by (refused answer) writable refuses = refuses
 
@@ -32,4 +32,4 @@ printable_by (refused answer) writable refuses = refuses
 pub case_is_printable : (input : List ℕ) (c : Case) → case_in input ≡ granted c → Printable (verified_of c)
 case_is_printable input c reads =
     printable_by (verified_of c) (issued_is_writable input c reads)
-    (verified_refuses c.version c.request (records_from 0 c.groups) (buffer_of c.groups) [] c.proof)
+    (verified_refuses c.request (records_from 0 c.groups) (buffer_of c.groups) [] c.proof)

@@ -7,24 +7,20 @@ use native.Mathlib.Omega.{arith}
 use lib.ListN.{length}
 use Rattle.procap.specs.Answers.{number_of}
 use Rattle.procap.specs.Deciding.{writable?}
-use Rattle.procap.specs.Procaps.{paper_of}
 use Rattle.procap.specs.declared.answer.Answer.{Answer}
 use Rattle.procap.specs.declared.answer.Answer.TheVariants.{ProcapMalformed, BufferShort, InputMalformed}
-use Rattle.procap.specs.declared.procap.Version.{Version}
-use Rattle.procap.specs.declared.procap.Version.TheVariants.{One, Two}
 use Rattle.procap.specs.declared.procap.Request.{Request}
 use Rattle.procap.specs.declared.procap.Procap.{Procap}
 use Rattle.procap.proofs.Refused.{IfRefused, go_on_refused, require_refused, or_else_refused}
 use Rattle.bl.specs.declared.Certificate.{Certificate}
 use Rattle.bl.specs.Calls.{verified}
-use Rattle.bl.specs.Named.{used}
 use Rattle.bl.proofs.CallRefusals.{case_refused, run_refused, issue_refused}
-use Rattle.lines.specs.LinesInARow.{at_line}
-use Rattle.lines.specs.RequestLines.{request_lines}
 use Rattle.text.specs.Text.{text_of}
 use Rattle.text.specs.Reader.{text_in}
+use Rattle.text.specs.LinesInARow.{at_line}
+use Rattle.text.specs.RequestLines.{request_lines}
 use Rattle.text.specs.Calls.{reading, fitting, writing}
-use Rattle.cases.specs.Case.{most_input, heading, group_number, group, groups, case_with, case_lines, case_in, buffer_of, records_from}
+use Rattle.cases.specs.Case.{most_input, heading, group, groups, case_with, case_lines, case_in, buffer_of, records_from}
 use Rattle.cases.specs.Calls.{checked}
 
 -- An answer of a refusal: its number is not 0.
@@ -32,12 +28,12 @@ abbrev pub Refuses : Answer → Type 0
 Refuses answer = 0 < number_of answer
 
 -- Where verify is refused, it is so with the answer of a refusal.
-pub verified_refuses : (v : Version) (r : Request) (records : List Certificate) (buffer pairs proof : List ℕ) → IfRefused Refuses (verified v r records buffer pairs proof)
+pub verified_refuses : (r : Request) (records : List Certificate) (buffer pairs proof : List ℕ) → IfRefused Refuses (verified r records buffer pairs proof)
 unfolding verified
-verified_refuses v r records buffer pairs proof =
+verified_refuses r records buffer pairs proof =
     go_on_refused Refuses _ _ (case_refused Refuses (λ i. omega arith) (omega arith) (omega arith) records buffer pairs proof) λ x _.
     go_on_refused Refuses _ _ (run_refused Refuses (λ q. omega arith) (λ q. omega arith) (λ q. omega arith) _ _ _) λ w _.
-    issue_refused Refuses (omega arith) v r (used x.0 x.1) w.1
+    issue_refused Refuses (omega arith) r w.1
 
 -- ── Texts ──
 
@@ -49,7 +45,7 @@ pub writing_refuses : (p : Procap) (room : ℕ) → IfRefused Refuses (writing p
 unfolding writing fitting
 writing_refuses p room =
     go_on_refused Refuses _ _ (require_refused Refuses ProcapMalformed (writable? p) (omega arith)) λ _ _.
-    go_on_refused Refuses _ _ (require_refused Refuses BufferShort (dec_le (length (text_of (paper_of p))) room) (omega arith)) λ _ _.
+    go_on_refused Refuses _ _ (require_refused Refuses BufferShort (dec_le (length (text_of p)) room) (omega arith)) λ _ _.
     tt
 
 -- ── A case: a line that breaks the form is 14, and what comes after is for verify to answer ──
@@ -69,35 +65,28 @@ module _ (bytes : List ℕ) where
       go_on_refused Refuses _ _ (line_refuses b.1 _) λ c _.
       tt
 
-  number_refuses : (v : Version) (line at : ℕ) → IfRefused Refuses (group_number bytes v line at)
-  unfolding group_number
-  number_refuses One line at = tt
-  number_refuses Two line at = line_refuses line _
-
-  group_refuses : (v : Version) (line at : ℕ) → IfRefused Refuses (group bytes v line at)
+  group_refuses : (line at : ℕ) → IfRefused Refuses (group bytes line at)
   unfolding group heading
-  group_refuses v line at =
+  group_refuses line at =
       go_on_refused Refuses _ _
       (go_on_refused Refuses _ _ (line_refuses line _) λ a _.
       go_on_refused Refuses _ _ (line_refuses a.1 _) λ b _.
       go_on_refused Refuses _ _ (line_refuses b.1 _) λ c _. tt) λ h _.
       go_on_refused Refuses _ _ (line_refuses h.1 _) λ s _.
-      go_on_refused Refuses _ _ (number_refuses v s.1 s.2) λ n _.
       tt
 
-  groups_refuse : (v : Version) (n line at : ℕ) → IfRefused Refuses (groups bytes v n line at)
+  groups_refuse : (n line at : ℕ) → IfRefused Refuses (groups bytes n line at)
   unfolding groups
-  groups_refuse v zero line at = tt
-  groups_refuse v (suc n) line at =
-      go_on_refused Refuses _ _ (group_refuses v line at) λ g _.
-      go_on_refused Refuses _ _ (groups_refuse v n g.1 g.2) λ gs _.
+  groups_refuse zero line at = tt
+  groups_refuse (suc n) line at =
+      go_on_refused Refuses _ _ (group_refuses line at) λ g _.
+      go_on_refused Refuses _ _ (groups_refuse n g.1 g.2) λ gs _.
       tt
 
   case_refuses : (r : Request) (n line at : ℕ) → IfRefused Refuses (case_with bytes r n line at)
   unfolding case_with
   case_refuses r n line at =
-      go_on_refused Refuses _ _ tt λ v _.
-      go_on_refused Refuses _ _ (groups_refuse v.0 n v.1 v.2) λ gs _.
+      go_on_refused Refuses _ _ (groups_refuse n line at) λ gs _.
       go_on_refused Refuses _ _ (line_refuses gs.1 _) λ p _.
       go_on_refused Refuses _ _ (line_refuses p.1 _) λ e _.
       tt
@@ -115,4 +104,4 @@ module _ (bytes : List ℕ) where
 pub checked_refuses : (input : List ℕ) → IfRefused Refuses (checked input)
 unfolding checked
 checked_refuses input =
-    go_on_refused Refuses _ _ (input_refuses input) λ c _. verified_refuses c.version c.request (records_from 0 c.groups) (buffer_of c.groups) [] c.proof
+    go_on_refused Refuses _ _ (input_refuses input) λ c _. verified_refuses c.request (records_from 0 c.groups) (buffer_of c.groups) [] c.proof

@@ -1,5 +1,4 @@
--- Cases, and what is printed for them, computed from their bytes: case P in both versions, each number that is given, and each way to
--- break the form.
+-- Cases, and what is printed for them, computed from their bytes: case P, each number that is given, and each way to break the form.
 use Prim.Native.String.{String}
 use mathlib.Core.Path.{◌≡◌, refl}
 use mathlib.Core.List.{List, [], ◌∷◌}
@@ -7,16 +6,13 @@ use Rattle.procap.specs.Lists.{All}
 use Rattle.procap.specs.Facts.{spelled}
 use Rattle.procap.specs.Procaps.{listed}
 use Rattle.bl.proofs.CaseP.{computes as calls-compute}
-use Rattle.lines.specs.Words.{bytes_of}
-use Rattle.lines.specs.Numbers.{digits_of, decimal}
-use Rattle.lines.specs.Line.{line, in_a_row}
-use Rattle.lines.specs.HeadLines.{head_text}
-use Rattle.lines.specs.NumberLines.{numbers_text}
-use Rattle.text.specs.Text.{term_text, fact_text, listing_text, text_of, refusal_text}
+use Rattle.text.specs.Words.{bytes_of}
+use Rattle.text.specs.Numbers.{digits_of, decimal}
+use Rattle.text.specs.Text.{line, term_text, terms_text, fact_text, facts_text, text_of, refusal_text}
 use Rattle.text.proofs.Samples.{computes as texts-compute}
 use Rattle.cases.specs.Hex.{is_letter, is_hex, hex_value, leading_hex, in_pairs, paired}
-use Rattle.cases.specs.CaseLines.{first_of, sign, moment, case_time, time_line, hex_digits, hex_line, nothing_more, lines_length, if_numbered}
-use Rattle.cases.specs.Case.{heading, group_number, group, groups, asked_version, case_with, case_lines, case_in, buffer_of, records_from}
+use Rattle.cases.specs.CaseLines.{first_of, sign, moment, case_time, time_line, hex_digits, hex_line, nothing_more}
+use Rattle.cases.specs.Case.{heading, group, groups, case_with, case_lines, case_in, buffer_of, records_from}
 use Rattle.cases.specs.Calls.{checked, printed_of, printed}
 
 -- A case, and what is printed for it.
@@ -153,46 +149,8 @@ samples =
       prints = "refused=14\nplace=10\n";
     }
     ∷
-    -- Case P with a number, and with a certificate before it that its proof does not name.
-    record {
-      input = "who=2\nwhat=7\nright=9\ncerts=1\nby=1\nfrom=1000\nto=2000\nsays=13121800c801000007170064030500000007000009\nnum=300\nproof=2a262700000221002c0404\n";
-      prints = "procap=2\nwho=2\nwhat=7\nright=9\nfrom=1000\nto=2000\ncerts=1\ncert=300\nfacts=1\nfact=200 n7\n";
-    }
-    ∷
-    record {
-      input = "who=2\nwhat=7\nright=9\ncerts=2\nby=1\nfrom=1000\nto=2000\nsays=10\nnum=7\nby=1\nfrom=1000\nto=2000\nsays=13121800c801000007170064030500000007000009\nnum=65535\nproof=2a262700000221012c0404\n";
-      prints = "procap=2\nwho=2\nwhat=7\nright=9\nfrom=1000\nto=2000\ncerts=1\ncert=65535\nfacts=1\nfact=200 n7\n";
-    }
-    ∷
-    -- A number that is missing in the second group, and one that the second group has alone.
-    record {
-      input = "who=2\nwhat=7\nright=9\ncerts=2\nby=1\nfrom=1000\nto=2000\nsays=13121800c801000007170064030500000007000009\nnum=300\nby=1\nfrom=1000\nto=2000\nsays=10\nproof=2a262700000221002c0404\n";
-      prints = "refused=14\nplace=14\n";
-    }
-    ∷
-    record {
-      input = "who=2\nwhat=7\nright=9\ncerts=2\nby=1\nfrom=1000\nto=2000\nsays=13121800c801000007170064030500000007000009\nby=1\nfrom=1000\nto=2000\nsays=10\nnum=300\nproof=2a262700000221002c0404\n";
-      prints = "refused=14\nplace=13\n";
-    }
-    ∷
-    -- A number above the largest, one of the second group with a zero in front, and one where there is no group.
-    record {
-      input = "who=2\nwhat=7\nright=9\ncerts=1\nby=1\nfrom=1000\nto=2000\nsays=13121800c801000007170064030500000007000009\nnum=65536\nproof=2a262700000221002c0404\n";
-      prints = "refused=14\nplace=9\n";
-    }
-    ∷
-    record {
-      input = "who=2\nwhat=7\nright=9\ncerts=2\nby=1\nfrom=1000\nto=2000\nsays=13121800c801000007170064030500000007000009\nnum=300\nby=1\nfrom=1000\nto=2000\nsays=10\nnum=07\nproof=2a262700000221002c0404\n";
-      prints = "refused=14\nplace=14\n";
-    }
-    ∷
-    record {
-      input = "who=2\nwhat=7\nright=9\ncerts=0\nnum=300\nproof=2a262700000221002c0404\n";
-      prints = "refused=14\nplace=5\n";
-    }
-    ∷
     []
 
 pub samples_come_out : All ComesOut samples
-unfolding calls-compute texts-compute spelled listed digits_of decimal line term_text fact_text in_a_row listing_text numbers_text head_text text_of refusal_text is_letter is_hex hex_value leading_hex in_pairs paired first_of sign moment case_time time_line hex_digits hex_line nothing_more heading lines_length if_numbered group_number group groups asked_version case_with case_lines case_in buffer_of records_from checked printed_of printed
-samples_come_out = (refl, (refl, (refl, (refl, (refl, (refl, (refl, (refl, (refl, (refl, (refl, (refl, (refl, (refl, (refl, (refl, (refl, (refl, (refl, (refl, (refl, (refl, (refl, (refl, (refl, (refl, (refl, (refl, (refl, tt)))))))))))))))))))))))))))))
+unfolding calls-compute texts-compute spelled listed digits_of decimal line term_text terms_text fact_text facts_text text_of refusal_text is_letter is_hex hex_value leading_hex in_pairs paired first_of sign moment case_time time_line hex_digits hex_line nothing_more heading group groups case_with case_lines case_in buffer_of records_from checked printed_of printed
+samples_come_out = (refl, (refl, (refl, (refl, (refl, (refl, (refl, (refl, (refl, (refl, (refl, (refl, (refl, (refl, (refl, (refl, (refl, (refl, (refl, (refl, (refl, (refl, tt))))))))))))))))))))))

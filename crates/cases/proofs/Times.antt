@@ -10,12 +10,12 @@ use Rattle.procap.specs.Bytes.{then}
 use Rattle.procap.specs.declared.time.Time.{Time}
 use Rattle.procap.specs.declared.time.Time.TheVariants.{Moment, MinusInfinity, PlusInfinity}
 use Rattle.procap.proofs.Readers.{IfRead, unread, read, then_read, Ends}
-use Rattle.lines.specs.Words.{bytes_of}
-use Rattle.lines.specs.Line.{literal, number_to}
-use Rattle.lines.proofs.Readers.{literal_read, number_read}
+use Rattle.text.specs.Words.{bytes_of}
+use Rattle.text.specs.Line.{literal, number_to}
+use Rattle.text.proofs.Readers.{literal_read, number_read}
 use Rattle.cases.specs.CaseLines.{first_of, sign, moment, case_time, time_line}
 use Rattle.cases.specs.Found.{TimeReads}
-use Rattle.cases.specs.declared.time_lines.TimeRead.{TimeRead}
+use Rattle.cases.specs.declared.lines.TimeRead.{TimeRead}
 
 -- What was handed back as a time, or as none, is so read.
 pub time_told : (o : Option (Time × ℕ)) {r s : TimeRead} → r ≡ s → TimeReads o r → TimeReads o s

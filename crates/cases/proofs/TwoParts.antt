@@ -5,8 +5,8 @@ use mathlib.Core.List.{List, ◌++◌, append_assoc}
 use native.Mathlib.Omega.{arith}
 use lib.ListN.{length, take, drop, length-append}
 use lib.Seq.{take_at, drop_at}
-use Rattle.lines.specs.Buffers.{put_at}
-use Rattle.lines.proofs.Putting.{put_front, put_both}
+use Rattle.text.specs.Buffers.{put_at}
+use Rattle.text.proofs.Putting.{put_front, put_both}
 
 module _ (front back before between after : List ℕ) (split end : ℕ) (s : split ≡ length front) (e : end ≡ split + length back)
     (one : between ≡ put_at 0 front before) (two : after ≡ put_at split back between) where

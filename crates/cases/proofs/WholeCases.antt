@@ -5,55 +5,50 @@ use mathlib.Core.List.{List}
 use mathlib.Core.Option.{some, none}
 use lib.ListN.{length}
 use borrow.Author.Tests.{eq-eqb, ne_eqb}
-use Rattle.procap.specs.Outcome.{granted, refused, go_on}
+use Rattle.procap.specs.Outcome.{granted, refused}
 use Rattle.procap.specs.Bytes.{ensure}
 use Rattle.procap.specs.declared.answer.Answer.TheVariants.{InputMalformed}
-use Rattle.procap.specs.declared.procap.Version.{Version}
 use Rattle.procap.specs.declared.procap.Request.{Request}
 use Rattle.bl.specs.Certificates.{most_certificates}
-use Rattle.lines.specs.Words.{bytes_of}
-use Rattle.lines.specs.Line.{line_to}
-use Rattle.lines.specs.RequestLines.{request_lines}
+use Rattle.text.specs.Words.{bytes_of}
+use Rattle.text.specs.Line.{line_to}
+use Rattle.text.specs.RequestLines.{request_lines}
 use Rattle.cases.specs.CaseLines.{hex_line, nothing_more}
-use Rattle.cases.specs.Case.{Group, groups, asked_version, case_with, case_lines}
+use Rattle.cases.specs.Case.{Group, groups, case_with, case_lines}
 use Rattle.cases.proofs.InARow.{line_reads, line_breaks, lines_read, lines_break}
 
 -- ── From the groups on ──
 
 module _ (bytes : List ℕ) (r : Request) (count line at : ℕ) where
-  -- The version that the groups ask for is found without reading a line.
-  abbrev v : Version
-  v = asked_version bytes count at
-
   -- Where a line breaks the groups, it breaks the case.
-  pub groups_broken : (broken : ℕ) → groups bytes v count line at ≡ refused (InputMalformed broken)
+  pub groups_broken : (broken : ℕ) → groups bytes count line at ≡ refused (InputMalformed broken)
       → case_with bytes r count line at ≡ refused (InputMalformed broken)
-  unfolding case_with go_on
-  groups_broken broken e = lines_break _ line at (groups bytes v count) (InputMalformed broken) e
+  unfolding case_with
+  groups_broken broken e = lines_break _ line at (groups bytes count) (InputMalformed broken) e
 
-  module _ (gs : List Group) (proof_line next : ℕ) (e : groups bytes v count line at ≡ granted (gs, proof_line, next)) where
+  module _ (gs : List Group) (proof_line next : ℕ) (e : groups bytes count line at ≡ granted (gs, proof_line, next)) where
     -- Without the proof's line the case is broken there.
     pub no_proof : hex_line bytes (bytes_of "proof=") next ≡ none → case_with bytes r count line at ≡ refused (InputMalformed proof_line)
-    unfolding case_with go_on
+    unfolding case_with
     no_proof f =
-        lines_read _ line at (groups bytes v count) gs proof_line next e
+        lines_read _ line at (groups bytes count) gs proof_line next e
         ∙ line_breaks _ proof_line next (hex_line bytes (bytes_of "proof=")) f
 
     module _ (proof : List ℕ) (end : ℕ) (f : hex_line bytes (bytes_of "proof=") next ≡ some (proof, end)) where
       -- Where something stands after the proof's line, the next line breaks the case.
       pub something_more : (end ≡ length bytes → ⊥) → case_with bytes r count line at ≡ refused (InputMalformed (suc proof_line))
-      unfolding case_with go_on nothing_more ensure
+      unfolding case_with nothing_more ensure
       something_more n =
-          lines_read _ line at (groups bytes v count) gs proof_line next e
+          lines_read _ line at (groups bytes count) gs proof_line next e
           ∙ line_reads _ proof_line next (hex_line bytes (bytes_of "proof=")) proof end f
           ∙ line_breaks _ (suc proof_line) end (nothing_more bytes) (rw (ne_eqb end (length bytes) n) refl)
 
       -- Where nothing does, the case is read.
       pub case_here : end ≡ length bytes
-          → case_with bytes r count line at ≡ granted (record { version = v; request = r; groups = gs; proof = proof }, suc (suc proof_line), end)
-      unfolding case_with go_on nothing_more ensure
+          → case_with bytes r count line at ≡ granted (record { request = r; groups = gs; proof = proof }, suc (suc proof_line), end)
+      unfolding case_with nothing_more ensure
       case_here l =
-          lines_read _ line at (groups bytes v count) gs proof_line next e
+          lines_read _ line at (groups bytes count) gs proof_line next e
           ∙ line_reads _ proof_line next (hex_line bytes (bytes_of "proof=")) proof end f
           ∙ line_reads _ (suc proof_line) end (nothing_more bytes) tt end (rw (eq-eqb end (length bytes) l) refl)
 

@@ -1,20 +1,20 @@
 -- [Program] What the program prints for its input.
 use Rattle.std.specs.Prelude.{ℕ, List, []}
 use Rattle.procap.specs.Outcome.{Outcome, granted, refused, go_on}
-use Rattle.procap.specs.Procaps.{Paper}
+use Rattle.procap.specs.declared.procap.Procap.{Procap}
 use Rattle.bl.specs.Calls.{verified}
 use Rattle.text.specs.Text.{text_of, refusal_text}
 use Rattle.text.specs.Calls.{fitting}
 use Rattle.cases.specs.Case.{case_in, buffer_of, records_from}
 
 -- [Program; D61] What a case comes to: 14 where the input is no case, and else what verify answers to what it says.
-unfoldable pub checked : List ℕ → Outcome Paper
+unfoldable pub checked : List ℕ → Outcome Procap
 checked input =
     go_on (case_in input) λ c.
-    verified c.version c.request (records_from 0 c.groups) (buffer_of c.groups) [] c.proof
+    verified c.request (records_from 0 c.groups) (buffer_of c.groups) [] c.proof
 
 -- [Program] The text of the procap, or the refusal's number and place.
-unfoldable pub printed_of : Outcome Paper → List ℕ
+unfoldable pub printed_of : Outcome Procap → List ℕ
 printed_of (granted p) = text_of p
 printed_of (refused answer) = refusal_text answer
 

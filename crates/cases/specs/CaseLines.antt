@@ -1,18 +1,12 @@
 -- [Program] What a single line of a case may hold besides a number: a time, bytes, or nothing more at all.
-use Rattle.std.specs.Prelude.{ℕ, zero, suc, ◌+◌, List, [], ◌∷◌, length, drop, eqb}
-use Prim.Native.Char.{code}
+use Rattle.std.specs.Prelude.{ℕ, ◌+◌, List, length, drop, eqb}
 use Rattle.std.proofs.Math.Option.{Option, some, none}
-use Rattle.procap.specs.Tells.{pick}
 use Rattle.procap.specs.Times.{latest}
-use Rattle.procap.specs.Outcome.{granted}
 use Rattle.procap.specs.Bytes.{Reader, ◌>>=◌, give, ensure}
 use Rattle.procap.specs.declared.time.Time.{Time}
 use Rattle.procap.specs.declared.time.Time.TheVariants.{Moment, MinusInfinity, PlusInfinity}
-use Rattle.procap.specs.declared.procap.Version.{Version}
-use Rattle.procap.specs.declared.procap.Version.TheVariants.{One, Two}
-use Rattle.lines.specs.Words.{bytes_of}
-use Rattle.lines.specs.LinesInARow.{Lines}
-use Rattle.lines.specs.Line.{literal, number_to}
+use Rattle.text.specs.Words.{bytes_of}
+use Rattle.text.specs.Line.{literal, number_to}
 use Rattle.cases.specs.Hex.{leading_hex, in_pairs, paired}
 
 -- What the first reader finds, or else what the second does.
@@ -20,26 +14,7 @@ unfoldable pub first_of : {A : Type 0} → Option (A × ℕ) → Option (A × �
 first_of (some r) o = some r
 first_of none o = o
 
--- How many bytes so many lines take, each with the line feed that ends it.
-unfoldable pub lines_length : List ℕ → ℕ → ℕ
-lines_length [] n = 0
-lines_length (b ∷ bs) zero = 0
-lines_length (b ∷ bs) (suc n) = suc (lines_length bs (pick (eqb b (code "\n")) n (suc n)))
-
--- [Program] Version 2 where a line with a number is found, else 1.
-unfoldable pub if_numbered : Option (Unit {0} × ℕ) → Version
-if_numbered (some r) = Two
-if_numbered none = One
-
--- What a place alone tells, without reading a line.
-abbrev pub without_lines : {A : Type 0} → (ℕ → A) → Lines A
-without_lines f = λ line at. granted (f at, line, at)
-
 module _ (bytes : List ℕ) where
-  -- The place so many lines further on.
-  abbrev pub past_lines : ℕ → ℕ → ℕ
-  past_lines n at = at + lines_length (drop at bytes) n
-
   -- A sign that stands for a time.
   unfoldable pub sign : List ℕ → Time → Reader Time
   sign word t = do

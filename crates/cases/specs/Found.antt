@@ -4,26 +4,20 @@ use Rattle.std.proofs.Math.Option.{Option, some, none}
 use Rattle.procap.specs.Outcome.{Outcome, granted}
 use Rattle.procap.specs.declared.time.Time.{Time}
 use Rattle.procap.specs.declared.procap.Request.{Request}
-use Rattle.procap.specs.declared.procap.Version.{Version}
-use Rattle.procap.specs.declared.procap.Version.TheVariants.{One, Two}
-use Rattle.procap.specs.Bytes.{Reader, give}
-use Rattle.procap.specs.Writable.{largest_name}
-use Rattle.lines.specs.Words.{bytes_of}
-use Rattle.lines.specs.Line.{line_to}
-use Rattle.procap.specs.Procaps.{Paper}
-use Rattle.lines.specs.Places.{Reads}
-use Rattle.lines.specs.Buffers.{put_at}
+use Rattle.procap.specs.declared.procap.Procap.{Procap}
+use Rattle.text.specs.Places.{Reads}
+use Rattle.text.specs.Buffers.{put_at}
 use Rattle.bl.specs.Certificates.{most_certificates}
 use Rattle.bl.specs.Calls.{verified}
 use Rattle.bl.specs.declared.Certificate.{Certificate}
 use Rattle.cases.specs.Hex.{is_hex, hex_value, leading_hex, paired}
-use Rattle.cases.specs.Case.{Group, Case, first_group_line, group_lines, buffer_of, record_at, records_from}
+use Rattle.cases.specs.Case.{Group, Case, first_group_line, buffer_of, record_at, records_from}
 use Rattle.cases.specs.declared.hex.HexDigit.{HexDigit}
 use Rattle.cases.specs.declared.hex.HexDigit.TheVariants.{Value, NoDigit}
 use Rattle.cases.specs.declared.hex.PairsRead.{PairsRead}
 use Rattle.cases.specs.declared.hex.HexRead.{HexRead}
-use Rattle.cases.specs.declared.time_lines.TimeRead.{TimeRead}
-use Rattle.cases.specs.declared.time_lines.TimeRead.TheVariants.{Found, NoTime}
+use Rattle.cases.specs.declared.lines.TimeRead.{TimeRead}
+use Rattle.cases.specs.declared.lines.TimeRead.TheVariants.{Found, NoTime}
 use Rattle.cases.specs.declared.groups.Records.{Records}
 use Rattle.cases.specs.declared.groups.HeadingRead.{HeadingRead}
 use Rattle.cases.specs.declared.groups.GroupRead.{GroupRead}
@@ -77,39 +71,34 @@ TimeReads o NoTime = o ≡ none
 abbrev pub HeadingReads : Outcome ((ℕ × Time × Time) × ℕ × ℕ) → ℕ → ℕ → HeadingRead → Type 0
 HeadingReads o line at r = Reads o r.form ((o ≡ granted ((r.by, r.from, r.to), line + 3, r.next)) × (at ≤ r.next))
 
--- A group's number, as a reader of it finds it: in version 1 that is no line, and 0.
-unfoldable pub number_there : List ℕ → Version → Reader ℕ
-number_there bytes One = give 0
-number_there bytes Two = line_to bytes (bytes_of "num=") largest_name
-
 -- The group, its record, and its formula in the buffer.
-pub record GroupFound (v : Version) (o : Outcome (Group × ℕ × ℕ)) (line start : ℕ) (before : List ℕ) (r : GroupRead) (after : List ℕ) : Type 0 where
+pub record GroupFound (o : Outcome (Group × ℕ × ℕ)) (line start : ℕ) (before : List ℕ) (r : GroupRead) (after : List ℕ) : Type 0 where
   pub found : Group
-  pub reads : o ≡ granted (found, line + group_lines v, r.next)
+  pub reads : o ≡ granted (found, line + 4, r.next)
   pub its_record : r.certificate ≡ record_at start found
   pub end : r.end ≡ start + length found.says
   pub behind : 2 * r.end ≤ r.next
   pub put : after ≡ put_at start found.says before
 
-abbrev pub GroupReads : Version → Outcome (Group × ℕ × ℕ) → ℕ → ℕ → List ℕ → GroupRead → List ℕ → Type 0
-GroupReads v o line start before r after = Reads o r.form (GroupFound v o line start before r after)
+abbrev pub GroupReads : Outcome (Group × ℕ × ℕ) → ℕ → ℕ → List ℕ → GroupRead → List ℕ → Type 0
+GroupReads o line start before r after = Reads o r.form (GroupFound o line start before r after)
 
 -- The records that are kept: the first of the array, as many as their count says.
 abbrev pub kept_records : Records → List Certificate
 kept_records rs = take rs.count rs.records
 
 -- The groups, their records, and their formulas in the buffer.
-pub record GroupsFound (v : Version) (o : Outcome (List Group × ℕ × ℕ)) (count : ℕ) (before : List ℕ) (r : GroupsRead) (after : List ℕ) : Type 0 where
+pub record GroupsFound (o : Outcome (List Group × ℕ × ℕ)) (count : ℕ) (before : List ℕ) (r : GroupsRead) (after : List ℕ) : Type 0 where
   pub found : List Group
-  pub reads : o ≡ granted (found, first_group_line + group_lines v * count, r.next)
+  pub reads : o ≡ granted (found, first_group_line + 4 * count, r.next)
   pub few : r.certificates.count ≤ most_certificates
   pub their_records : kept_records r.certificates ≡ records_from 0 found
   pub end : r.end ≡ length (buffer_of found)
   pub behind : 2 * r.end ≤ r.next
   pub put : after ≡ put_at 0 (buffer_of found) before
 
-abbrev pub GroupsReads : Version → Outcome (List Group × ℕ × ℕ) → ℕ → List ℕ → GroupsRead → List ℕ → Type 0
-GroupsReads v o count before r after = Reads o r.form (GroupsFound v o count before r after)
+abbrev pub GroupsReads : Outcome (List Group × ℕ × ℕ) → ℕ → List ℕ → GroupsRead → List ℕ → Type 0
+GroupsReads o count before r after = Reads o r.form (GroupsFound o count before r after)
 
 -- The case, its records, and in the buffer its formulas and its proof.
 pub record CaseFound (o : Outcome (Case × ℕ × ℕ)) (r : CaseRead) (bytes : List ℕ) : Type 0 where
@@ -117,7 +106,6 @@ pub record CaseFound (o : Outcome (Case × ℕ × ℕ)) (r : CaseRead) (bytes : 
   pub line : ℕ
   pub next : ℕ
   pub reads : o ≡ granted (found, line, next)
-  pub its_version : r.version ≡ found.version
   pub its_request : r.request ≡ found.request
   pub few : r.certificates.count ≤ most_certificates
   pub its_records : kept_records r.certificates ≡ records_from 0 found.groups
@@ -129,7 +117,7 @@ pub record CaseFound (o : Outcome (Case × ℕ × ℕ)) (r : CaseRead) (bytes : 
 abbrev pub CaseReads : Outcome (Case × ℕ × ℕ) → CaseRead → List ℕ → Type 0
 CaseReads o r bytes = Reads o r.form (CaseFound o r bytes)
 
--- What verify comes to for a version, a request, its records, and the formulas and the proof in a buffer: the one ends at `split`, the other at `end`.
-abbrev pub verified_in : List ℕ → Version → Request → Records → ℕ → ℕ → Outcome Paper
-verified_in bytes version request certificates split end =
-    verified version request (kept_records certificates) (take split bytes) [] (take (end - split) (drop split bytes))
+-- What verify comes to for a request, its records, and the formulas and the proof in a buffer: the one ends at `split`, the other at `end`.
+abbrev pub verified_in : List ℕ → Request → Records → ℕ → ℕ → Outcome Procap
+verified_in bytes request certificates split end =
+    verified request (kept_records certificates) (take split bytes) [] (take (end - split) (drop split bytes))

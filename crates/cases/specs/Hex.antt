@@ -2,7 +2,7 @@
 use Rattle.std.specs.Prelude.{ℕ, ◌+◌, ◌-◌, ◌*◌, ◌%◌, Bool, ◌&&◌, ◌||◌, List, [], ◌∷◌, length, leb, eqb}
 use Prim.Native.Char.{code}
 use Rattle.procap.specs.Tells.{pick}
-use Rattle.lines.specs.Numbers.{digit_zero, is_digit, while_digit}
+use Rattle.text.specs.Numbers.{digit_zero, is_digit, while_digit}
 
 -- [Program; D59] The byte is one of a to f: capitals are no digits.
 unfoldable pub is_letter : ℕ → Bool

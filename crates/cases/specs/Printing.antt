@@ -2,9 +2,9 @@
 use Rattle.std.specs.Prelude.{◌<◌, length}
 use Rattle.procap.specs.Lent.{Lent}
 use Rattle.procap.specs.Answers.{number_of}
-use Rattle.procap.specs.Writable.{InForm}
+use Rattle.procap.specs.Writable.{Writable}
 use Rattle.procap.specs.Outcome.{Outcome, granted, refused}
-use Rattle.procap.specs.Procaps.{Paper}
+use Rattle.procap.specs.declared.procap.Procap.{Procap}
 use Rattle.text.specs.Calls.{fitting, Wrote}
 use Rattle.text.specs.declared.writer.WrittenText.{WrittenText}
 use Rattle.verifier.specs.Verifying.{HandsOver}
@@ -12,12 +12,12 @@ use Rattle.verifier.specs.declared.verify.Verified.{Verified}
 use Rattle.cases.specs.Calls.{printed_of}
 
 -- A procap that can be written, or a refusal that has a number other than 0.
-abbrev pub Printable : Outcome Paper → Type 0
-Printable (granted p) = InForm p
+abbrev pub Printable : Outcome Procap → Type 0
+Printable (granted p) = Writable p
 Printable (refused answer) = 0 < number_of answer
 
 -- The call writes what is printed for what verify hands over.
 abbrev pub Prints : Verified → Lent → WrittenText → Type 0
 Prints v out r =
-    (o : Outcome Paper) → HandsOver o v → Printable o
+    (o : Outcome Procap) → HandsOver o v → Printable o
     → Wrote (fitting (printed_of o) (length out.entry.now)) out.entry.now r out.exit.now

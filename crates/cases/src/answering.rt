@@ -11,9 +11,9 @@ ghost use Rattle.cases.specs.Printing.{Prints};
 use crate::case::case_at;
 use crate::groups::Records;
 use bl::Certificate;
-use lines::line::Form;
 use procap::answer::Answer;
-use procap::procap::{Request, Version};
+use procap::procap::Request;
+use text::line::Form;
 use text::writer::{WrittenText, write_refusal, write_text};
 use verifier::certificates::MOST_CERTIFICATES;
 use verifier::verify::{Verified, verify};
@@ -36,18 +36,16 @@ pub fn answer_case(input: &[u8], out: &mut [u8]) -> WrittenText
     if let Form::BrokenAt(line) = form {
         return write_refusal(Answer::InputMalformed(line), out);
     }
-    let version = case.version;
     let request = case.request;
     let certificates = case.certificates;
     let split = case.split;
     let end = case.end;
-    let verified = verify_parts(version, request, certificates, &bytes, split, end);
+    let verified = verify_parts(request, certificates, &bytes, split, end);
     write_verified(verified, out)
 }
 
 // What verify answers for the formulas and the proof that stand in the buffer, one after the other. A case has no pairs.
 fn verify_parts(
-    version: Version,
     request: Request,
     certificates: Records,
     bytes: &[u8],
@@ -57,7 +55,7 @@ fn verify_parts(
     requires few { certificates.count ≤ most_certificates }
     requires order { split ≤ end }
     requires inside { end ≤ length bytes.now }
-    ensures { HandsOver (verified_in bytes.now version request certificates split end) result }
+    ensures { HandsOver (verified_in bytes.now request certificates split end) result }
 {
     let count = certificates.count;
     let records = certificates.records;
@@ -69,7 +67,6 @@ fn verify_parts(
         &bytes[..split],
         &no_pairs,
         &bytes[split..end],
-        version,
     )
 }
 
@@ -81,12 +78,11 @@ fn verify_lent(
     buffer: &[u8],
     pairs: &[u32],
     proof: &[u8],
-    version: Version,
 ) -> Verified
     requires { count ≤ most_certificates }
-    ensures { HandsOver (verified version request (take count records) buffer.now pairs.now proof.now) result }
+    ensures { HandsOver (verified request (take count records) buffer.now pairs.now proof.now) result }
 {
-    verify(request, &records[..count], buffer, pairs, proof, version)
+    verify(request, &records[..count], buffer, pairs, proof)
 }
 
 // Puts what is printed for what verify answers at the front of the buffer.

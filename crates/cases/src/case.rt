@@ -4,20 +4,18 @@ ghost use Rattle.bl.specs.Certificates.{most_certificates};
 ghost use Rattle.cases.specs.Case.{first_group_line, case_with, case_lines};
 ghost use Rattle.cases.specs.Found.{CaseReads};
 
-use crate::groups::{FIRST_GROUP_LINE, Records, group_lines, groups_at, no_certificates};
+use crate::groups::{FIRST_GROUP_LINE, GROUP_LINES, Records, groups_at, no_certificates};
 use crate::hex::hex_line;
-use crate::version::version_at;
-use lines::line::{Form, line};
-use lines::request::request_at;
 use procap::bytes::NumberRead;
-use procap::procap::{Request, Version};
+use procap::procap::Request;
+use text::line::{Form, line};
+use text::request::request_at;
 use verifier::certificates::MOST_CERTIFICATES;
 
 // Whether a case was read, and what it asks. In the buffer the certificates' bytes end at `split`, and the proof's at `end`.
 #[derive(Drop)]
 pub struct CaseRead {
     pub form: Form,
-    pub version: Version,
     pub request: Request,
     pub certificates: Records,
     pub split: usize,
@@ -52,13 +50,12 @@ fn case_with(input: &[u8], at: usize, request: Request, count: usize, bytes: &mu
     requires few { count ≤ most_certificates }
     ensures { CaseReads (case_with input.now request count first_group_line at) result bytes.new }
 {
-    let version = version_at(input, at, count);
-    let groups = groups_at(input, at, count, version, bytes);
+    let groups = groups_at(input, at, count, bytes);
     let form = groups.form;
     if let Form::BrokenAt(broken) = form {
         return no_case(broken);
     }
-    let proof_line = (FIRST_GROUP_LINE + group_lines(version) * count as u16) as usize;
+    let proof_line = (FIRST_GROUP_LINE + GROUP_LINES * count as u16) as usize;
     let split = groups.end;
     let proof = hex_line(input, groups.next, b"proof=", bytes, split);
     if !proof.found {
@@ -70,7 +67,6 @@ fn case_with(input: &[u8], at: usize, request: Request, count: usize, bytes: &mu
     let certificates = groups.certificates;
     CaseRead {
         form: Form::Kept,
-        version: version,
         request: request,
         certificates: certificates,
         split: split,
@@ -86,7 +82,6 @@ fn no_case(broken: usize) -> CaseRead
     let certificates = no_certificates();
     CaseRead {
         form: Form::BrokenAt(broken),
-        version: Version::One,
         request: request,
         certificates: certificates,
         split: 0,

@@ -2,23 +2,22 @@
 ghost use Rattle.std.specs.Prelude.{◌≡◌, ◌*◌, ◌≤◌, length};
 ghost use Rattle.bl.specs.Certificates.{most_certificates};
 ghost use Rattle.verifier.specs.Verifying.{no_record};
-ghost use Rattle.cases.specs.Case.{first_group_line, group_lines, heading, group, groups};
-ghost use Rattle.procap.specs.Writable.{largest_name};
-ghost use Rattle.procap.specs.Reading.{NumberReads, AtMostRead};
-ghost use Rattle.cases.specs.Found.{HeadingReads, number_there, GroupReads, GroupsReads};
+ghost use Rattle.cases.specs.Case.{first_group_line, heading, group, groups};
+ghost use Rattle.cases.specs.Found.{HeadingReads, GroupReads, GroupsReads};
 
 use crate::hex::hex_line;
-use crate::time_lines::{TimeRead, time_line};
+use crate::lines::{TimeRead, time_line};
 use bl::Certificate;
-use lines::line::Form;
 use procap::bytes::NumberRead;
-use procap::procap::Version;
 use procap::time::Time;
 use procap::writable::LARGEST_NAME;
+use text::line::Form;
 use verifier::certificates::MOST_CERTIFICATES;
 
 // The number of the first group's first line.
 pub const FIRST_GROUP_LINE: u16 = 5;
+// How many lines a group has.
+pub const GROUP_LINES: u16 = 4;
 
 // The records of the groups that were read: the first `count` of them.
 #[derive(Drop)]
@@ -56,18 +55,11 @@ pub struct GroupsRead {
 }
 
 // So many groups from a place on; the bytes of their formulas are put at the front of the buffer, one after another.
-pub(crate) fn groups_at(
-    input: &[u8],
-    at: usize,
-    count: usize,
-    version: Version,
-    bytes: &mut [u8],
-) -> GroupsRead
+pub(crate) fn groups_at(input: &[u8], at: usize, count: usize, bytes: &mut [u8]) -> GroupsRead
     requires room { length input.now ≤ 2 * length bytes.old }
     requires few { count ≤ most_certificates }
-    ensures { GroupsReads version (groups input.now version count first_group_line at) count bytes.old result bytes.new }
+    ensures { GroupsReads (groups input.now count first_group_line at) count bytes.old result bytes.new }
 {
-    let lines = group_lines(version);
     let none = no_record();
     let mut records = [none; MOST_CERTIFICATES];
     let mut next = at;
@@ -77,8 +69,7 @@ pub(crate) fn groups_at(
         let read = group_at(
             input,
             next,
-            FIRST_GROUP_LINE + lines * i as u16,
-            version,
+            FIRST_GROUP_LINE + GROUP_LINES * i as u16,
             bytes,
             end,
         );
@@ -118,17 +109,10 @@ fn no_groups(broken: usize) -> GroupsRead
 }
 
 // The group whose first line has this number; the bytes of its formula are put into the buffer from `start` on.
-fn group_at(
-    input: &[u8],
-    at: usize,
-    line: u16,
-    version: Version,
-    bytes: &mut [u8],
-    start: usize,
-) -> GroupRead
+fn group_at(input: &[u8], at: usize, line: u16, bytes: &mut [u8], start: usize) -> GroupRead
     requires room { length input.now ≤ 2 * length bytes.old }
     requires behind { 2 * start ≤ at }
-    ensures { GroupReads version (group input.now version line at) line start bytes.old result bytes.new }
+    ensures { GroupReads (group input.now line at) line start bytes.old result bytes.new }
 {
     let heading = heading_at(input, at, line);
     let form = heading.form;
@@ -139,14 +123,10 @@ fn group_at(
     if !says.found {
         return no_group(line as usize + 3);
     }
-    let NumberRead::Number(number, next) = number_at(input, says.next, version) else {
-        return no_group(line as usize + 4);
-    };
     let from = heading.from;
     let to = heading.to;
     let certificate = Certificate {
         principal: heading.by,
-        number: number as u16,
         from: from,
         to: to,
         start: start,
@@ -155,29 +135,8 @@ fn group_at(
     GroupRead {
         form: Form::Kept,
         certificate: certificate,
-        next: next,
+        next: says.next,
         end: says.end,
-    }
-}
-
-// A group's number: from version 2 on it has a line, and in version 1 there is none, and 0 stands for it.
-fn number_at(input: &[u8], at: usize, version: Version) -> NumberRead
-    ensures reads { NumberReads (number_there input.now version at) result }
-    ensures bound { AtMostRead largest_name result }
-{
-    match version {
-        Version::One => NumberRead::Number(0, at),
-        Version::Two => lines::line::line(input, at, b"num=", LARGEST_NAME),
-    }
-}
-
-// How many lines a group has.
-pub(crate) fn group_lines(version: Version) -> u16
-    ensures { result ≡ group_lines version }
-{
-    match version {
-        Version::One => 4,
-        Version::Two => 5,
     }
 }
 
@@ -198,7 +157,7 @@ fn no_group(broken: usize) -> GroupRead
 fn heading_at(input: &[u8], at: usize, line: u16) -> HeadingRead
     ensures { HeadingReads (heading input.now line at) line at result }
 {
-    let NumberRead::Number(by, after_by) = lines::line::line(input, at, b"by=", LARGEST_NAME) else {
+    let NumberRead::Number(by, after_by) = text::line::line(input, at, b"by=", LARGEST_NAME) else {
         return no_heading(line as usize);
     };
     let TimeRead::Found(from, after_from) = time_line(input, after_by, b"from=") else {
@@ -246,7 +205,6 @@ fn no_record() -> Certificate
 {
     Certificate {
         principal: 0,
-        number: 0,
         from: Time::Moment(0),
         to: Time::Moment(0),
         start: 0,

@@ -3,7 +3,7 @@ ghost use Rattle.std.specs.Prelude.{Bool, ◌≡◌, ◌*◌, ◌≤◌, length}
 ghost use Rattle.cases.specs.CaseLines.{hex_line};
 ghost use Rattle.cases.specs.Found.{DigitSays, DigitReads, PairsPut, HexReads};
 
-use lines::line::{Place, after};
+use text::line::{Place, after};
 
 // A hex digit, by its value, or none.
 #[derive(Drop)]

@@ -3,5 +3,4 @@ pub mod answering; // the whole way, from a case to what is printed
 mod case; // all lines of a case
 mod groups; // the groups of a case: its certificates
 mod hex; // bytes in hex
-mod time_lines; // lines that hold a time
-mod version; // which version a case asks for
+mod lines; // lines that hold a time

@@ -1,52 +1,37 @@
 -- What a caller takes out of the number that is handed to C tells what the call came to: 0 is a grant, whose text stands in front of the
 -- buffer; with any other number nothing was written.
-use Prim.Native.Nat.{ℕ, zero as None-more, suc, ◌+◌, ◌≤◌}
+use Prim.Native.Nat.{ℕ, ◌≤◌}
 use mathlib.Core.Bool.{Bool, true, false}
 use mathlib.Core.Path.{◌≡◌, refl, sym, ap, ◌∙◌}
 use mathlib.Core.List.{List}
-use mathlib.Core.Option.{Option, some, none}
 use mathlib.Core.Logic.{◌↔◌}
 use native.Mathlib.Omega.{arith}
 use lib.ListN.{length, take, drop}
-use lib.Dec.{leb, eqb}
+use lib.Dec.{eqb}
 use lib.Seq.{take-append_seam}
 use Rattle.procap.specs.Answers.{number_of}
 use Rattle.procap.specs.Tells.{pick}
 use Rattle.procap.specs.Outcome.{Outcome, granted, refused, answer_of}
 use Rattle.procap.specs.Deciding.{writable?}
 use Rattle.procap.specs.declared.answer.Answer.TheVariants.{ProcapMalformed}
-use Rattle.procap.specs.Lists.{All}
-use Rattle.procap.specs.Procaps.{Paper, procap_of, paper_of}
-use Rattle.procap.specs.Writable.{largest_name, TermInForm}
-use Rattle.procap.specs.Bytes.{then, number, term_by}
-use Rattle.procap.specs.declared.fact.Term.TheVariants.{Name}
-use Rattle.procap.specs.declared.tag.TermTag.TheVariants.{NameTag}
-use Rattle.procap.specs.declared.procap.Version.{Version}
-use Rattle.procap.specs.declared.procap.Version.TheVariants.{One, Two}
 use Rattle.procap.specs.declared.procap.Request.{Request}
 use Rattle.procap.specs.declared.procap.Procap.{Procap}
 use Rattle.procap.proofs.AnswerNumbers.{zero_exactly_when_granted}
-use Rattle.procap.proofs.Listed.{paper_back}
-use Rattle.procap.proofs.Readers.{so_read}
 use Rattle.procap.proofs.Granted.{went_on, was_there, was_so}
 use Rattle.procap.proofs.Refused.{IfRefused, go_on_refused}
 use Rattle.bl.specs.Calls.{verified, directly}
-use Rattle.bl.specs.Accepting.{AreBytes, InTwoBytes}
-use Rattle.bl.proofs.BytesInForm.{term_by_yields}
-use Rattle.text.specs.Text.{most_text}
+use Rattle.text.specs.Buffers.{most_text}
 use Rattle.text.specs.Reader.{text_in}
 use Rattle.text.specs.Calls.{reading, writing, length_given, buffer_left}
-use Rattle.text.proofs.Longest.{at_most_1584}
+use Rattle.text.proofs.Longest.{at_most_1223}
 use Rattle.text.proofs.Written.{fitted}
 use Rattle.text.proofs.Theorems.{one_text_each, written_is_read}
 use Rattle.cases.proofs.Refusals.{Refuses, verified_refuses, reading_refuses, writing_refuses}
-use Rattle.from_c.specs.Numbers.{or_zero, two}
-use Rattle.from_c.specs.InARow.{in_a_row}
-use Rattle.from_c.specs.Records.{record_bytes, whole_record, no_record, record_at, records_in}
+use Rattle.from_c.specs.Records.{records_in}
 use Rattle.from_c.specs.Pairs.{pair_numbers}
 use Rattle.from_c.specs.Packing.{packed, HandsBack, number_in, length_in}
 use Rattle.from_c.specs.Values.{value_bytes, value_of, value_in}
-use Rattle.from_c.specs.Calls.{version_in, verifying, rewriting, value_writing}
+use Rattle.from_c.specs.Calls.{verifying, rewriting, value_writing}
 use Rattle.from_c.proofs.Unpacking.{unpacked_number, unpacked_length}
 use Rattle.demands.specs.Gives.{OfficeDirectGives}
 use Rattle.demands.proofs.Telling.{granted_answer, answer_granted, left_of_refusal, directly_refuses}
@@ -97,15 +82,14 @@ module _ (o : Outcome (List ℕ)) (before : List ℕ) (number : ℕ) (after : Li
 -- What is written is a procap's text, and no longer than the longest.
 pub written_is_short : (p : Procap) (room : ℕ) (text : List ℕ) → writing p room ≡ granted text → length text ≤ most_text
 unfolding writing
-written_is_short p room text e =
-    went_on _ _ _ e λ u can fit. rw (← fitted _ room text fit) (at_most_1584 (paper_of p) (was_so ProcapMalformed (writable? p) u can).in_form)
+written_is_short p room text e = went_on _ _ _ e λ u can fit. rw (← fitted _ room text fit) (at_most_1223 p (was_so ProcapMalformed (writable? p) u can))
 
 -- ── Texts ──
 
 -- No refusal of the calls for C has the answer 0.
 pub rewriting_refuses : (text : List ℕ) (room : ℕ) → IfRefused Refuses (rewriting text room)
 unfolding rewriting
-rewriting_refuses text room = go_on_refused Refuses _ _ (reading_refuses text) λ p _. writing_refuses (procap_of p) room
+rewriting_refuses text room = go_on_refused Refuses _ _ (reading_refuses text) λ p _. writing_refuses p room
 
 value_refuses : (value : List ℕ) → IfRefused Refuses (value_in value)
 unfolding value_in
@@ -121,16 +105,16 @@ value_writing_refuses value room = go_on_refused Refuses _ _ (value_refuses valu
 
 -- A text that is rewritten is the one that was read, and is written of the procap that it says.
 pub rewritten_from : {C : Type 0} (text : List ℕ) (room : ℕ) (again : List ℕ) → rewriting text room ≡ granted again
-    → ((p : Paper) → again ≡ text → writing (procap_of p) room ≡ granted again → C) → C
+    → ((p : Procap) → again ≡ text → writing p room ≡ granted again → C) → C
 unfolding rewriting reading
 rewritten_from text room again e k =
     went_on _ _ _ e λ p reads writes.
     let says = was_there ProcapMalformed (text_in text) p reads in
-    let back = was_there ProcapMalformed (text_in again) p (written_is_read (procap_of p) room again writes ∙ ap granted (paper_back p)) in
+    let back = was_there ProcapMalformed (text_in again) p (written_is_read p room again writes) in
     k p (one_text_each again text p back says) writes
 
 pub rewriting_is_short : (text : List ℕ) (room : ℕ) (again : List ℕ) → rewriting text room ≡ granted again → length again ≤ most_text
-rewriting_is_short text room again e = rewritten_from text room again e λ p _ writes. written_is_short (procap_of p) room again writes
+rewriting_is_short text room again e = rewritten_from text room again e λ p _ writes. written_is_short p room again writes
 
 -- A text that is written of a value is written of the procap that its bytes are.
 pub value_written_from : {C : Type 0} (value : List ℕ) (room : ℕ) (text : List ℕ) → value_writing value room ≡ granted text
@@ -143,63 +127,20 @@ value_writing_is_short value room text e = value_written_from value room text e 
 
 -- ── The office ──
 
--- A version that there is not is refused with 12.
-version_refuses : (n : ℕ) → IfRefused Refuses (version_in n)
-unfolding version_in
-version_refuses n = by (eqb n 1) (eqb n 2)
-  where
-    by : (one two : Bool) → IfRefused Refuses (pick one (granted One) (pick two (granted Two) (refused ProcapMalformed)))
-    by true two = tt
-    by false true = tt
-    by false false = omega arith
-
-module _ (version : ℕ) (r : Request) (records buffer pairs proof : List ℕ) where
-  pub verifying_refuses : (room : ℕ) → IfRefused Refuses (verifying version r records buffer pairs proof room)
-  unfolding verifying
-  verifying_refuses room =
-      go_on_refused Refuses _ _ (version_refuses version) λ v _.
-      go_on_refused Refuses _ _ (verified_refuses v r (records_in records) buffer (pair_numbers pairs) proof) λ p _. writing_refuses (procap_of p) room
-
-  -- A text that verify's call gives is the one that is written of the procap that it issues, of the version that was asked for.
-  pub issued_for : {C : Type 0} (room : ℕ) (text : List ℕ) → verifying version r records buffer pairs proof room ≡ granted text
-      → ((v : Version) → version_in version ≡ granted v → (p : Paper) → verified v r (records_in records) buffer (pair_numbers pairs) proof ≡ granted p
-      → writing (procap_of p) room ≡ granted text → C) → C
-  unfolding verifying
-  issued_for room text e k = went_on _ _ _ e λ v asks e₁. went_on _ _ _ e₁ λ p issued writes. k v asks p issued writes
-
-  pub verifying_is_short : (room : ℕ) (text : List ℕ) → verifying version r records buffer pairs proof room ≡ granted text → length text ≤ most_text
-  verifying_is_short room text e = issued_for room text e λ _ _ p _ writes. written_is_short (procap_of p) room text writes
-
--- ── Records in bytes ──
-
--- A number of two bytes is two bytes wide.
-two_wide : (bytes : List ℕ) → AreBytes bytes → (at : ℕ) → two bytes at ≤ largest_name
-unfolding or_zero term_by then TermInForm
-two_wide bytes are at = by (number bytes 2 at) refl
-  where
-    by : (o : Option (ℕ × ℕ)) → number bytes 2 at ≡ o → or_zero o ≤ largest_name
-    by none e = omega arith
-    by (some x) e =
-        let named : term_by bytes NameTag at ≡ some (Name x.0, x.1) = rw e refl in
-        so_read (term_by bytes NameTag at) named (term_by_yields bytes are NameTag at)
-
--- So the records that bytes say have numbers of two bytes.
-each_in_a_row : {A : Type 0} (P : A → Type 0) (value : ℕ → A) (step : ℕ) → ((at : ℕ) → P (value at)) → (n at : ℕ) → All P (in_a_row value step n at)
-unfolding in_a_row All
-each_in_a_row P value step each None-more at = tt
-each_in_a_row P value step each (suc n) at = (each at, each_in_a_row P value step each n (at + step))
-
-pub records_in_two_bytes : (bytes : List ℕ) → AreBytes bytes → InTwoBytes (records_in bytes)
-unfolding records_in record_at
-records_in_two_bytes bytes are = each_in_a_row _ (record_at bytes) record_bytes (λ at. by at (leb (at + record_bytes) (length bytes))) _ 0
-  where
-    by : (at : ℕ) (b : Bool) → (pick b (whole_record bytes at) no_record).number ≤ largest_name
-    by at true = two_wide bytes are (at + 2)
-    by at false = omega arith
-
--- ── The direct check ──
-
 module _ (r : Request) (records buffer pairs proof : List ℕ) where
+  pub verifying_refuses : (room : ℕ) → IfRefused Refuses (verifying r records buffer pairs proof room)
+  unfolding verifying
+  verifying_refuses room = go_on_refused Refuses _ _ (verified_refuses r (records_in records) buffer (pair_numbers pairs) proof) λ p _. writing_refuses p room
+
+  -- A text that verify's call gives is the one that is written of the procap that it issues.
+  pub issued_for : {C : Type 0} (room : ℕ) (text : List ℕ) → verifying r records buffer pairs proof room ≡ granted text
+      → ((p : Procap) → verified r (records_in records) buffer (pair_numbers pairs) proof ≡ granted p → writing p room ≡ granted text → C) → C
+  unfolding verifying
+  issued_for room text e k = went_on _ _ _ e k
+
+  pub verifying_is_short : (room : ℕ) (text : List ℕ) → verifying r records buffer pairs proof room ≡ granted text → length text ≤ most_text
+  verifying_is_short room text e = issued_for room text e λ p _ writes. written_is_short p room text writes
+
   -- The direct check's number is 0 exactly where it accepts.
   pub zero_exactly_when_accepted : (m : ℕ) (state : List ℕ) (number : ℕ) → OfficeDirectGives r records buffer pairs proof m state number
       → (number_in number ≡ 0) ↔ (directly r (records_in records) buffer (pair_numbers pairs) proof m state ≡ granted tt)

@@ -5,21 +5,20 @@ use Prim.Native.String.{String}
 use mathlib.Core.Path.{◌≡◌, refl}
 use mathlib.Core.List.{List, [], ◌∷◌}
 use Rattle.procap.specs.Lists.{All}
-use Rattle.procap.specs.Procaps.{request_of, empty_procap}
+use Rattle.procap.specs.Facts.{spelled}
+use Rattle.procap.specs.Procaps.{listed, request_of, empty_procap}
 use Rattle.procap.specs.Answers.{number_of, place_of}
 use Rattle.procap.specs.Outcome.{answer_of, procap_handed}
-use Rattle.procap.specs.Deciding.{told, all?, in?, rising?, request?, none_withdrawn?}
-use Rattle.procap.specs.Withdrawn.{and_others, two_by_two, if_a_list, withdrawn_in}
-use Rattle.procap.specs.Desk.{read_desk}
-use Rattle.procap.specs.declared.procap.Version.TheVariants.{One}
+use Rattle.procap.specs.Writable.{TermInForm}
+use Rattle.procap.specs.Deciding.{all?, distinct?, arguments?, facts?, in_range?, term_in_form?, fact_in_form?, request?, request_in_form?, writable?}
 use Rattle.procap.specs.declared.procap.Request.{Request}
 use Rattle.procap.specs.declared.procap.Procap.{Procap}
 use Rattle.bl.specs.Calls.{verified}
 use Rattle.bl.proofs.CaseP.{request_P, records_P, buffer_P, proof_P, computes as calls-compute}
-use Rattle.lines.specs.Words.{bytes_of}
+use Rattle.text.specs.Words.{bytes_of}
 use Rattle.text.specs.Calls.{reading}
 use Rattle.text.proofs.Samples.{computes as texts-compute}
-use Rattle.door.specs.Door.{each_holds, before_facts, pressing, opening_text}
+use Rattle.door.specs.Door.{each_holds, before_facts, opening, opening_text}
 
 -- Case P's text.
 abbrev pub text_P : String
@@ -41,10 +40,10 @@ pub data Press : Type 0 where
 
 abbrev pub ComesOut : Press → Type 0
 ComesOut (office proof number place procap) =
-    let out = verified One request_P records_P buffer_P [] proof in
+    let out = verified request_P records_P buffer_P [] proof in
     (number_of (answer_of out) ≡ number) × (place_of (answer_of out) ≡ place) × (procap_handed out ≡ procap)
 ComesOut (desk request moment state number place) =
-    let out = opening_text (bytes_of text_P) request moment state [] in
+    let out = opening_text (bytes_of text_P) request moment state in
     (number_of (answer_of out) ≡ number) × (place_of (answer_of out) ≡ place)
 
 abbrev pub fifteen_presses : List Press
@@ -96,7 +95,7 @@ fifteen_presses =
     []
 
 pub fifteen_presses_come_out : All ComesOut fifteen_presses
-unfolding calls-compute texts-compute request? all? rising? in? reading none_withdrawn? told two_by_two and_others if_a_list withdrawn_in read_desk each_holds before_facts pressing opening_text
+unfolding calls-compute texts-compute spelled listed TermInForm all? distinct? arguments? facts? in_range? term_in_form? fact_in_form? request? request_in_form? writable? reading each_holds before_facts opening opening_text
 fifteen_presses_come_out = (
   (refl, refl, refl),
   (

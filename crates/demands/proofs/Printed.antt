@@ -1,5 +1,5 @@
--- What is printed for a case, shown at the door: the text of an issued procap opens where the proof is accepted and no number that it lists is
--- withdrawn; a refusal is no text and opens nothing, and where verify refuses, no press is accepted.
+-- What is printed for a case, shown at the door: the text of an issued procap opens where the proof is accepted; a refusal is no text and
+-- opens nothing, and where verify refuses, no press is accepted.
 use Prim.Native.Nat.{ℕ, ◌≤◌}
 use mathlib.Core.Path.{◌≡◌, refl, sym, ap, ◌∙◌}
 use mathlib.Core.List.{List, []}
@@ -15,15 +15,13 @@ use Rattle.procap.specs.States.{stated}
 use Rattle.procap.specs.declared.answer.Answer.{Answer}
 use Rattle.procap.specs.declared.answer.Answer.TheVariants.{ProcapMalformed}
 use Rattle.procap.specs.declared.procap.Request.{Request}
-use Rattle.procap.specs.Procaps.{Paper}
-use Rattle.procap.specs.Withdrawn.{withdrawn_in}
+use Rattle.procap.specs.declared.procap.Procap.{Procap}
 use Rattle.procap.proofs.Granted.{no_grant, went_on, was_there}
 use Rattle.bl.specs.Calls.{directly}
 use Rattle.bl.specs.Accepting.{AreBytes}
 use Rattle.bl.proofs.Theorems.{issued_exactly_where_some_press_is_accepted}
-use Rattle.lines.specs.Line.{line}
-use Rattle.lines.specs.HeadLines.{head_text}
-use Rattle.text.specs.Text.{text_of, refusal_text, most_text}
+use Rattle.text.specs.Text.{line, text_of, refusal_text}
+use Rattle.text.specs.Buffers.{most_text}
 use Rattle.text.specs.Reader.{text_in}
 use Rattle.text.specs.Calls.{reading}
 use Rattle.text.proofs.Theorems.{what_reads_is_written}
@@ -33,53 +31,48 @@ use Rattle.cases.specs.Calls.{printed_of, printed}
 use Rattle.cases.proofs.CasesInForm.{case_in_form}
 use Rattle.cases.proofs.Printables.{verified_of}
 use Rattle.cases.proofs.CasesAnswered.{case_printed}
-use Rattle.demands.specs.Gives.{NoneTakenBack}
 use Rattle.demands.proofs.Telling.{accepted_there}
-use Rattle.demands.proofs.Opening.{issued_is_written, its_text_opens_the_door_exactly}
+use Rattle.demands.proofs.Opening.{issued_is_written, its_text_opens_the_door_exactly_where_direct_accepts}
 
 -- A refusal's two lines are no procap text: every text is what is written of its procap, and begins with another letter.
-refusal_is_no_text : (answer : Answer) (p : Paper) → text_in (refusal_text answer) ≡ some p → ⊥
-unfolding text_of head_text refusal_text line
+refusal_is_no_text : (answer : Answer) (p : Procap) → text_in (refusal_text answer) ≡ some p → ⊥
+unfolding text_of refusal_text line
 refusal_is_no_text answer p e =
     let letters : code "p" ≡ code "r" = ap (λ bytes. get_or bytes 0 0) (what_reads_is_written (refusal_text answer) p e).1 in
     omega arith
 
 -- So it opens nothing.
-refusal_stays_shut : (answer : Answer) (r : Request) (m : ℕ) (state withdrawn : List ℕ) → opening_text (refusal_text answer) r m state withdrawn ≡ granted tt → ⊥
+refusal_stays_shut : (answer : Answer) (r : Request) (m : ℕ) (state : List ℕ) → opening_text (refusal_text answer) r m state ≡ granted tt → ⊥
 unfolding opening_text reading
-refusal_stays_shut answer r m state withdrawn e =
+refusal_stays_shut answer r m state e =
     went_on _ _ _ e λ p reads _. refusal_is_no_text answer p (was_there ProcapMalformed (text_in (refusal_text answer)) p reads)
 
 module _ (input : List ℕ) (c : Case) (reads : case_in input ≡ granted c) (m : ℕ) (in_range : m ≤ latest) (state : List ℕ) (in_bytes : AreBytes state)
-    (σ : List Spelled) (states : stated state ≡ some σ) (withdrawn ns : List ℕ) (list : withdrawn_in withdrawn ≡ some ns) where
+    (σ : List Spelled) (states : stated state ≡ some σ) where
   -- What is accepted of the case, where it is checked at the desk.
   abbrev Accepted : Type 0
   Accepted = directly c.request (records_from 0 c.groups) (buffer_of c.groups) [] c.proof m state ≡ granted tt
 
-  -- None of the numbers that a procap of the case lists is withdrawn.
-  abbrev NoneBack : Type 0
-  NoneBack = NoneTakenBack c.version ns (records_from 0 c.groups) (buffer_of c.groups) [] c.proof
-
   -- A case that verify refuses is accepted nowhere.
   refused_is_accepted_nowhere : (answer : Answer) → verified_of c ≡ refused answer → Accepted → ⊥
   refused_is_accepted_nowhere answer e accepted =
-      let (_, _, formulas-in-bytes, proof_in_bytes) = case_in_form input c reads in
-      let somewhere = issued_exactly_where_some_press_is_accepted _ _ _ _ _ c.version formulas-in-bytes proof_in_bytes in
+      let (_, formulas-in-bytes, proof_in_bytes) = case_in_form input c reads in
+      let somewhere = issued_exactly_where_some_press_is_accepted _ _ _ _ _ formulas-in-bytes proof_in_bytes in
       let (p, issued) = somewhere.1 (accepted_there _ _ _ _ _ m state in_bytes accepted) in
       no_grant (sym e ∙ issued)
 
   -- What is printed of what verify comes to opens the door exactly where the case is accepted.
-  opens_exactly : (o : Outcome Paper) → verified_of c ≡ o → (opening_text (printed_of o) c.request m state withdrawn ≡ granted tt) ↔ (Accepted × NoneBack)
+  opens_exactly : (o : Outcome Procap) → verified_of c ≡ o → (opening_text (printed_of o) c.request m state ≡ granted tt) ↔ Accepted
   unfolding printed_of
   opens_exactly (granted p) e =
-      let (names, numbers, formulas-in-bytes, proof_in_bytes) = case_in_form input c reads in
-      let written = issued_is_written _ _ _ _ _ names numbers formulas-in-bytes proof_in_bytes c.version p e most_text (omega arith) in
-      its_text_opens_the_door_exactly _ _ _ _ _ names numbers formulas-in-bytes proof_in_bytes c.version p e most_text (text_of p) written
-      m state withdrawn ns list in_range σ states
+      let (names, formulas-in-bytes, proof_in_bytes) = case_in_form input c reads in
+      let written = issued_is_written _ _ _ _ _ names formulas-in-bytes proof_in_bytes p e most_text (omega arith) in
+      its_text_opens_the_door_exactly_where_direct_accepts _ _ _ _ _ names formulas-in-bytes proof_in_bytes p e most_text (text_of p) written
+      m in_range state σ states
   opens_exactly (refused answer) e = (
-    λ opens. absurd (refusal_stays_shut answer c.request m state withdrawn opens),
-    λ (accepted, _). absurd (refused_is_accepted_nowhere answer e accepted),
+    λ opens. absurd (refusal_stays_shut answer c.request m state opens),
+    λ accepted. absurd (refused_is_accepted_nowhere answer e accepted),
   )
 
-  pub printed_opens_exactly : (opening_text (printed input) c.request m state withdrawn ≡ granted tt) ↔ (Accepted × NoneBack)
+  pub printed_opens_exactly : (opening_text (printed input) c.request m state ≡ granted tt) ↔ Accepted
   printed_opens_exactly = rw (case_printed input c reads) (opens_exactly (verified_of c) refl)

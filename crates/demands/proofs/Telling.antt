@@ -7,13 +7,12 @@ use mathlib.Core.Logic.{◌↔◌}
 use native.Mathlib.Omega.{arith}
 use lib.ListN.{length, take, drop}
 use lib.Seq.{take-append_seam}
-use Rattle.procap.specs.Procaps.{Paper, empty_procap, procap_of}
-use Rattle.procap.specs.Writable.{InForm}
+use Rattle.procap.specs.Procaps.{empty_procap}
+use Rattle.procap.specs.Writable.{Writable}
 use Rattle.procap.specs.Answers.{number_of}
-use Rattle.procap.specs.Outcome.{Outcome, granted, refused, or_else, answer_of, procap_handed}
+use Rattle.procap.specs.Outcome.{Outcome, granted, refused, answer_of, procap_handed}
 use Rattle.procap.specs.declared.answer.Answer.{Answer}
 use Rattle.procap.specs.declared.answer.Answer.TheVariants.{Granted}
-use Rattle.procap.specs.declared.procap.Version.{Version}
 use Rattle.procap.specs.declared.procap.Request.{Request}
 use Rattle.procap.specs.declared.procap.Procap.{Procap}
 use Rattle.procap.proofs.Granted.{goes_on}
@@ -27,10 +26,10 @@ use Rattle.text.specs.Text.{text_of}
 use Rattle.text.specs.Calls.{reading, writing, length_given, buffer_left, Wrote}
 use Rattle.text.specs.declared.reader.ReadText.{ReadText}
 use Rattle.text.specs.declared.writer.WrittenText.{WrittenText}
-use Rattle.text.proofs.Theorems.{written_reads_back}
-use Rattle.door.specs.Door.{pressing, opening_text, packed}
+use Rattle.text.proofs.Written.{is_written}
+use Rattle.text.proofs.Theorems.{written_is_read}
+use Rattle.door.specs.Door.{opening, opening_text, packed}
 use Rattle.door.proofs.Answering.{zero_exactly_when_open}
-use Rattle.door.proofs.Texts.{value_pressed}
 use Rattle.verifier.specs.declared.verify.Verified.{Verified}
 use Rattle.cases.proofs.Refusals.{Refuses, verified_refuses, reading_refuses, writing_refuses}
 use Rattle.demands.specs.Gives.{VerifyGives, DirectGives, OpenGives, DoorGives, ReadGives, WriteGives, AnsweredSomewhere}
@@ -48,11 +47,11 @@ unfolding answer_of
 answer_granted o a e = ap answer_of e
 
 -- A grant hands over its procap, and a refusal the empty one.
-pub handed_of_grant : (o : Outcome Paper) (p : Paper) → o ≡ granted p → procap_handed o ≡ procap_of p
+pub handed_of_grant : (o : Outcome Procap) (p : Procap) → o ≡ granted p → procap_handed o ≡ p
 unfolding procap_handed
 handed_of_grant o p e = ap procap_handed e
 
-pub handed_of_refusal : (o : Outcome Paper) → (answer_of o ≡ Granted → ⊥) → procap_handed o ≡ empty_procap
+pub handed_of_refusal : (o : Outcome Procap) → (answer_of o ≡ Granted → ⊥) → procap_handed o ≡ empty_procap
 unfolding answer_of procap_handed
 handed_of_refusal (granted p) n = absurd (n refl)
 handed_of_refusal (refused answer) n = refl
@@ -74,20 +73,12 @@ answer_tells : (o : Outcome (Unit {0})) → IfRefused Refuses o → (answer : An
     → (answer ≡ Granted) ↔ (o ≡ granted tt)
 answer_tells o h answer told = (λ e. (granted_answer o h (sym told ∙ e)).1, λ e. told ∙ answer_granted o tt e)
 
--- What is granted is a procap on paper, and what is handed over is its value.
-abbrev pub Grants : Outcome Paper → Procap → Type 0
-Grants o value = (p : Paper) × (o ≡ granted p) × (value ≡ procap_of p)
-
-procap_tells : (o : Outcome Paper) → IfRefused Refuses o → (answer : Answer) (value : Procap) → answer ≡ answer_of o → value ≡ procap_handed o
-    → (answer ≡ Granted) ↔ Grants o value
-procap_tells o h answer value told handed = (
-  λ e. let (p, grant) = granted_answer o h (sym told ∙ e) in (p, grant, handed ∙ handed_of_grant o p grant),
-  λ (p, grant, _). told ∙ answer_granted o p grant,
+procap_tells : (o : Outcome Procap) → IfRefused Refuses o → (answer : Answer) (p : Procap) → answer ≡ answer_of o → p ≡ procap_handed o
+    → (answer ≡ Granted) ↔ (o ≡ granted p)
+procap_tells o h answer p told handed = (
+  λ e. let (q, grant) = granted_answer o h (sym told ∙ e) in rw (handed ∙ handed_of_grant o q grant) grant,
+  λ e. told ∙ answer_granted o p e,
 )
-
--- What is so of one half is so beside another.
-pub beside : {P Q R : Type 0} → P ↔ Q → (P × R) ↔ (Q × R)
-beside same = (λ (p, r). (same.0 p, r), λ (q, r). (same.1 q, r))
 
 -- ── The office ──
 
@@ -136,10 +127,10 @@ module _ (r : Request) (certificates : List Certificate) (buffer pairs proof : L
   accepts_exactly m state answer gives = answer_tells _ (directly_refuses r certificates buffer pairs proof m state) answer gives
 
   -- Verify answers 0 exactly when it issues the procap that it hands over.
-  pub issues_exactly : (version : Version) (v : Verified) → VerifyGives version r certificates buffer pairs proof v
-      → (v.answer ≡ Granted) ↔ Grants (verified version r certificates buffer pairs proof) v.procap
-  issues_exactly version v gives =
-      procap_tells _ (verified_refuses version r certificates buffer pairs proof) v.answer v.procap gives.answer gives.procap
+  pub issues_exactly : (v : Verified) → VerifyGives r certificates buffer pairs proof v
+      → (v.answer ≡ Granted) ↔ (verified r certificates buffer pairs proof ≡ granted v.procap)
+  issues_exactly v gives =
+      procap_tells _ (verified_refuses r certificates buffer pairs proof) v.answer v.procap gives.answer gives.procap
 
   -- A press that is accepted is one at which the direct check answers 0.
   pub somewhere_exactly : AcceptedSomewhere r certificates buffer pairs proof ↔ AnsweredSomewhere r certificates buffer pairs proof
@@ -151,7 +142,7 @@ module _ (r : Request) (certificates : List Certificate) (buffer pairs proof : L
 -- ── Texts ──
 
 -- The reader answers 0 exactly when the text says the procap that it hands over.
-pub reads_exactly : (text : List ℕ) (v : ReadText) → ReadGives text v → (v.answer ≡ Granted) ↔ Grants (reading text) v.procap
+pub reads_exactly : (text : List ℕ) (v : ReadText) → ReadGives text v → (v.answer ≡ Granted) ↔ (reading text ≡ granted v.procap)
 reads_exactly text v gives = procap_tells _ (reading_refuses text) v.answer v.procap gives.answer gives.procap
 
 module _ (p : Procap) (before : List ℕ) (w : WrittenText) (after : List ℕ) (gives : WriteGives p before w after) where
@@ -166,20 +157,17 @@ module _ (p : Procap) (before : List ℕ) (w : WrittenText) (after : List ℕ) (
 
 -- ── The door ──
 
-module _ (r : Request) (m : ℕ) (state withdrawn : List ℕ) where
-  -- To the value of a procap in form the door answers 0 exactly when the procap is let in: what it answers to the procap's text, it answers
-  -- to the value.
-  pub opens_exactly : (p : Paper) → InForm p → (answer : Answer) → OpenGives (procap_of p) r m state withdrawn answer
-      → (answer ≡ Granted) ↔ (pressing p r m state withdrawn ≡ granted tt)
-  unfolding opening_text reading or_else
-  opens_exactly p form answer gives =
-      let says : reading (text_of p) ≡ granted p = rw (written_reads_back p form) refl in
-      let same = goes_on (reading (text_of p)) (λ q. pressing q r m state withdrawn) p says in
-      let zero = rw same at (zero_exactly_when_open r m state withdrawn (text_of p)) in
-      let told : answer ≡ answer_of (pressing p r m state withdrawn) = gives ∙ ap answer_of (value_pressed r m state withdrawn p form) in
-      (λ e. zero.0 (ap packed (sym told ∙ e)), λ e. told ∙ answer_granted _ tt e)
+-- To a procap that can be written the door answers 0 exactly when it opens: what it answers to the procap's text, it answers to the procap.
+pub opens_exactly : (p : Procap) → Writable p → (r : Request) (m : ℕ) (state : List ℕ) (answer : Answer) → OpenGives p r m state answer
+    → (answer ≡ Granted) ↔ (opening p r m state ≡ granted tt)
+unfolding opening_text
+opens_exactly p w r m state answer gives =
+    let says = written_is_read p _ (text_of p) (is_written p (length (text_of p)) w (omega arith)) in
+    let same = goes_on (reading (text_of p)) (λ q. opening q r m state) p says in
+    let zero = rw same at (zero_exactly_when_open (text_of p) r m state) in
+    (λ e. zero.0 (ap packed (sym gives ∙ e)), λ e. gives ∙ answer_granted _ tt e)
 
-  -- The firmware sees 0 exactly when the door opens to the text.
-  pub lets_in_exactly : (text : List ℕ) (number : ℕ) → DoorGives text r m state withdrawn number
-      → (number ≡ 0) ↔ (opening_text text r m state withdrawn ≡ granted tt)
-  lets_in_exactly text number gives = rw gives (zero_exactly_when_open r m state withdrawn text)
+-- The firmware sees 0 exactly when the door opens to the text.
+pub lets_in_exactly : (text : List ℕ) (r : Request) (m : ℕ) (state : List ℕ) (number : ℕ) → DoorGives text r m state number
+    → (number ≡ 0) ↔ (opening_text text r m state ≡ granted tt)
+lets_in_exactly text r m state number gives = rw gives (zero_exactly_when_open text r m state)

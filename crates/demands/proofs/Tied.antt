@@ -12,7 +12,7 @@ use contract.Notation.{connectives}
 use contract.Lifetimes.{Lfts}
 use denote.Triple.Entry.{Args, Res}
 use denote.Triple.Clauses.{Ended, ClausesAt, AtExit}
-use Rattle.procap.specs.Procaps.{Paper, request_of}
+use Rattle.procap.specs.Procaps.{request_of}
 use Rattle.procap.specs.Outcome.{Outcome, answer_of, procap_handed}
 use Rattle.procap.specs.declared.answer.Answer.{Answer}
 use Rattle.procap.specs.declared.procap.Procap.{Procap}
@@ -34,7 +34,7 @@ use Rattle.from_c.specs.contracts.desk.desk_presses as desk-presses
 use Rattle.demands.specs.Gives.{GivesProcap, VerifyGives, DirectGives, OpenGives, DoorGives, ReadGives, WriteGives, WriteRefusalGives, PrintGives, OfficeVerifyGives, OfficeDirectGives, OfficePrintGives, OfficeRewriteGives, OfficeWriteGives, DeskOpenGives, DeskPressesGives}
 
 -- An answer and a procap, in two clauses, are what is handed over; and two clauses may be the two halves of what is promised.
-both_handed_over : {o : Outcome Paper} {answer : Answer} {procap : Procap}
+both_handed_over : {o : Outcome Procap} {answer : Answer} {procap : Procap}
     → ((answer ≡ answer_of o) × (procap ≡ procap_handed o)) ↔ GivesProcap o answer procap
 both_handed_over = (λ both. record { answer = both.0; procap = both.1 }, λ hands. (hands.answer, hands.procap))
 
@@ -57,7 +57,7 @@ module _ {M : Type 1} {𝓤 : Ura M} (𝓛 : Logic 𝓤) (mem : Memory → SProp
   -- ── The office ──
 
   pub verify_tied : (κs : Lfts 4) (a : Args verify.signature κs)
-      → PromisesBoth (verify.clauses 𝓛 mem run κs a) λ v _. VerifyGives a.1.1.1.1.1.0 a.0 a.1.0.now a.1.1.0.now a.1.1.1.0.now a.1.1.1.1.0.now v
+      → PromisesBoth (verify.clauses 𝓛 mem run κs a) λ v _. VerifyGives a.0 a.1.0.now a.1.1.0.now a.1.1.1.0.now a.1.1.1.1.0.now v
   verify_tied κs a = record { one = _; other = _; asks_nothing = refl; promises = refl; both = λ _ _. both_handed_over }
 
   pub direct_tied : (κs : Lfts 5) (a : Args direct.signature κs)
@@ -84,21 +84,21 @@ module _ {M : Type 1} {𝓤 : Ura M} (𝓛 : Logic 𝓤) (mem : Memory → SProp
 
   -- ── The door ──
 
-  pub open_tied : (κs : Lfts 2) (a : Args open-value.signature κs)
-      → Promises (open-value.clauses 𝓛 mem run κs a) λ answer _. OpenGives a.0 a.1.0 a.1.1.0 a.1.1.1.0.now a.1.1.1.1.0.now answer
+  pub open_tied : (κs : Lfts 1) (a : Args open-value.signature κs)
+      → Promises (open-value.clauses 𝓛 mem run κs a) λ answer _. OpenGives a.0 a.1.0 a.1.1.0 a.1.1.1.0.now answer
   open_tied κs a = (refl, refl)
 
-  pub door_tied : (κs : Lfts 3) (a : Args door.signature κs)
+  pub door_tied : (κs : Lfts 2) (a : Args door.signature κs)
       → Promises (door.clauses 𝓛 mem run κs a) λ number _.
-      DoorGives a.0.now (request_of a.1.0 a.1.1.0 a.1.1.1.0) a.1.1.1.1.0 a.1.1.1.1.1.0.now a.1.1.1.1.1.1.0.now number
+      DoorGives a.0.now (request_of a.1.0 a.1.1.0 a.1.1.1.0) a.1.1.1.1.0 a.1.1.1.1.1.0.now number
   door_tied κs a = (refl, refl)
 
   -- ── The calls for C ──
 
   pub office_verify_tied : (κs : Lfts 5) (a : Args office-verify.signature κs)
       → PromisesBoth (office-verify.clauses 𝓛 mem run κs a) λ number left.
-      OfficeVerifyGives a.0 (request_of a.1.0 a.1.1.0 a.1.1.1.0) a.1.1.1.1.0.now a.1.1.1.1.1.0.now a.1.1.1.1.1.1.0.now
-      a.1.1.1.1.1.1.1.0.now a.1.1.1.1.1.1.1.1.0.now number left.1.1.1.1.1.1.1.1.0.now
+      OfficeVerifyGives (request_of a.0 a.1.0 a.1.1.0) a.1.1.1.0.now a.1.1.1.1.0.now a.1.1.1.1.1.0.now
+      a.1.1.1.1.1.1.0.now a.1.1.1.1.1.1.1.0.now number left.1.1.1.1.1.1.1.0.now
   office_verify_tied κs a = record { one = _; other = _; asks_nothing = refl; promises = refl; both = λ _ _. halves }
 
   pub office_direct_tied : (κs : Lfts 5) (a : Args office-direct.signature κs)
@@ -119,13 +119,13 @@ module _ {M : Type 1} {𝓤 : Ura M} (𝓛 : Logic 𝓤) (mem : Memory → SProp
       → PromisesBoth (office-write.clauses 𝓛 mem run κs a) λ number left. OfficeWriteGives a.0.now a.1.0.now number left.1.0.now
   office_write_tied κs a = record { one = _; other = _; asks_nothing = refl; promises = refl; both = λ _ _. halves }
 
-  pub desk_door_on_value_tied : (κs : Lfts 3) (a : Args desk-door-on-value.signature κs)
+  pub desk_door_on_value_tied : (κs : Lfts 2) (a : Args desk-door-on-value.signature κs)
       → Promises (desk-door-on-value.clauses 𝓛 mem run κs a) λ number _.
-      DeskOpenGives a.0.now (request_of a.1.0 a.1.1.0 a.1.1.1.0) a.1.1.1.1.0 a.1.1.1.1.1.0.now a.1.1.1.1.1.1.0.now number
+      DeskOpenGives a.0.now (request_of a.1.0 a.1.1.0 a.1.1.1.0) a.1.1.1.1.0 a.1.1.1.1.1.0.now number
   desk_door_on_value_tied κs a = (refl, refl)
 
-  pub desk_presses_tied : (κs : Lfts 3) (a : Args desk-presses.signature κs)
+  pub desk_presses_tied : (κs : Lfts 2) (a : Args desk-presses.signature κs)
       → Promises (desk-presses.clauses 𝓛 mem run κs a) λ opened _.
       DeskPressesGives a.0.now (request_of a.1.0 a.1.1.0 a.1.1.1.0) a.1.1.1.1.0 a.1.1.1.1.1.0.now
-      a.1.1.1.1.1.1.0.now a.1.1.1.1.1.1.1.0 opened
+      a.1.1.1.1.1.1.0 opened
   desk_presses_tied κs a = (refl, refl)

@@ -3,12 +3,10 @@ use Rattle.std.specs.Prelude.{ℕ, ◌≡◌, List, length}
 use Rattle.procap.specs.Outcome.{Outcome, answer_of, procap_handed}
 use Rattle.procap.specs.declared.answer.Answer.{Answer}
 use Rattle.procap.specs.declared.answer.Answer.TheVariants.{Granted}
-use Rattle.procap.specs.Procaps.{Paper, version_number, NoneWithdrawn}
-use Rattle.procap.specs.declared.procap.Version.{Version}
 use Rattle.procap.specs.declared.procap.Request.{Request}
 use Rattle.procap.specs.declared.procap.Procap.{Procap}
 use Rattle.bl.specs.declared.Certificate.{Certificate}
-use Rattle.bl.specs.Calls.{carried, verified, used_by, directly}
+use Rattle.bl.specs.Calls.{verified, directly}
 use Rattle.bl.specs.Accepting.{Somewhere}
 use Rattle.text.specs.Text.{refusal_text}
 use Rattle.text.specs.Calls.{reading, fitting, writing, Wrote}
@@ -23,25 +21,25 @@ use Rattle.from_c.specs.Packing.{HandsBack, number_in, packed as handed-to-c}
 use Rattle.from_c.specs.Calls.{verifying, rewriting, value_writing, value_opening, opened_of}
 
 -- A call that hands over a procap gives the answer and the procap of what it came to.
-pub record GivesProcap (o : Outcome Paper) (given : Answer) (handed : Procap) : Type 0 where
+pub record GivesProcap (o : Outcome Procap) (given : Answer) (handed : Procap) : Type 0 where
   pub answer : given ≡ answer_of o
   pub procap : handed ≡ procap_handed o
 
--- `verify`, told a version, gives an answer and a procap.
-abbrev pub VerifyGives : Version → Request → List Certificate → List ℕ → List ℕ → List ℕ → Verified → Type 0
-VerifyGives version r certificates buffer pairs proof v = GivesProcap (verified version r certificates buffer pairs proof) v.answer v.procap
+-- `verify` gives an answer and a procap.
+abbrev pub VerifyGives : Request → List Certificate → List ℕ → List ℕ → List ℕ → Verified → Type 0
+VerifyGives r certificates buffer pairs proof v = GivesProcap (verified r certificates buffer pairs proof) v.answer v.procap
 
 -- `direct` gives an answer, at a moment in a state.
 abbrev pub DirectGives : Request → List Certificate → List ℕ → List ℕ → List ℕ → ℕ → List ℕ → Answer → Type 0
 DirectGives r certificates buffer pairs proof m state answer = answer ≡ answer_of (directly r certificates buffer pairs proof m state)
 
--- `open`, the door on a value, gives an answer, in a state and with a list of withdrawn numbers.
-abbrev pub OpenGives : Procap → Request → ℕ → List ℕ → List ℕ → Answer → Type 0
-OpenGives p r m state withdrawn answer = answer ≡ answer_of (opening p r m state withdrawn)
+-- `open`, the door on a value, gives an answer.
+abbrev pub OpenGives : Procap → Request → ℕ → List ℕ → Answer → Type 0
+OpenGives p r m state answer = answer ≡ answer_of (opening p r m state)
 
 -- `procap_door`, the door on a text, gives a number.
-abbrev pub DoorGives : List ℕ → Request → ℕ → List ℕ → List ℕ → ℕ → Type 0
-DoorGives text r m state withdrawn number = number ≡ packed (answer_of (opening_text text r m state withdrawn))
+abbrev pub DoorGives : List ℕ → Request → ℕ → List ℕ → ℕ → Type 0
+DoorGives text r m state number = number ≡ packed (answer_of (opening_text text r m state))
 
 -- `read_text` gives an answer and a procap.
 abbrev pub ReadGives : List ℕ → ReadText → Type 0
@@ -61,9 +59,9 @@ PrintGives input before w after = Wrote (answering input (length before)) before
 
 -- ── The calls for C ──
 
--- `office_verify`, told a version by its number, hands back a number, and leaves the procap's text in the buffer.
-abbrev pub OfficeVerifyGives : ℕ → Request → List ℕ → List ℕ → List ℕ → List ℕ → List ℕ → ℕ → List ℕ → Type 0
-OfficeVerifyGives version r records buffer pairs proof before number after = HandsBack (verifying version r records buffer pairs proof (length before)) before number after
+-- `office_verify` hands back a number, and leaves the procap's text in the buffer.
+abbrev pub OfficeVerifyGives : Request → List ℕ → List ℕ → List ℕ → List ℕ → List ℕ → ℕ → List ℕ → Type 0
+OfficeVerifyGives r records buffer pairs proof before number after = HandsBack (verifying r records buffer pairs proof (length before)) before number after
 
 -- `office_direct` hands back a number.
 abbrev pub OfficeDirectGives : Request → List ℕ → List ℕ → List ℕ → List ℕ → ℕ → List ℕ → ℕ → Type 0
@@ -82,18 +80,12 @@ abbrev pub OfficeWriteGives : List ℕ → List ℕ → ℕ → List ℕ → Typ
 OfficeWriteGives value before number after = HandsBack (value_writing value (length before)) before number after
 
 -- `desk_door_on_value` hands back a number.
-abbrev pub DeskOpenGives : List ℕ → Request → ℕ → List ℕ → List ℕ → ℕ → Type 0
-DeskOpenGives value r m state withdrawn number = number ≡ handed-to-c (answer_of (value_opening value r m state withdrawn)) 0
+abbrev pub DeskOpenGives : List ℕ → Request → ℕ → List ℕ → ℕ → Type 0
+DeskOpenGives value r m state number = number ≡ handed-to-c (answer_of (value_opening value r m state)) 0
 
 -- `desk_presses` hands back how many of so many presses went through.
-abbrev pub DeskPressesGives : List ℕ → Request → ℕ → List ℕ → List ℕ → ℕ → ℕ → Type 0
-DeskPressesGives text r m state withdrawn presses opened = opened ≡ opened_of (opening_text text r m state withdrawn) presses
-
--- ── Numbers that are taken back ──
-
--- Of the numbers that the proof used, none that a procap of the version lists is among the withdrawn ones.
-abbrev pub NoneTakenBack : Version → List ℕ → List Certificate → List ℕ → List ℕ → List ℕ → Type 0
-NoneTakenBack version withdrawn certificates buffer pairs proof = NoneWithdrawn withdrawn (carried (version_number version) (used_by certificates buffer pairs proof))
+abbrev pub DeskPressesGives : List ℕ → Request → ℕ → List ℕ → ℕ → ℕ → Type 0
+DeskPressesGives text r m state presses opened = opened ≡ opened_of (opening_text text r m state) presses
 
 -- ── A press that is accepted ──
 

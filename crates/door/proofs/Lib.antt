@@ -1,5 +1,4 @@
 -- What is proved of the door: what it answers, when it opens, and what is handed to C.
-pub mod Desks
 pub mod Refusals
 pub mod Answering
 pub mod BeforeFacts
@@ -8,5 +7,3 @@ pub mod NoneBefore
 pub mod Missing
 pub mod Opening
 pub mod Texts
-pub mod Withdrawing
-pub mod Samples

@@ -1,5 +1,4 @@
--- What the door answers before the facts, test by test: a test that is passed leaves the answer to the next, and the first that is not
--- gives it.
+-- What the door answers before the facts, test by test: a test that is passed leaves the answer to the next, and the first that is not gives it.
 use Prim.Native.Nat.{ℕ, ◌≤◌, ◌<◌}
 use mathlib.Core.Path.{◌≡◌, refl}
 use mathlib.Core.List.{List}
@@ -7,91 +6,70 @@ use mathlib.Core.Option.{Option, some, none}
 use native.Mathlib.Decide.{dec_le}
 use native.Mathlib.Omega.{arith}
 use Rattle.procap.specs.Times.{latest}
-use Rattle.procap.specs.Procaps.{Paper, NoneWithdrawn}
+use Rattle.procap.specs.Facts.{Spelled}
 use Rattle.procap.specs.Writable.{Writable}
-use Rattle.procap.specs.Outcome.{granted, go_on, or_else, require, answer_of}
+use Rattle.procap.specs.Outcome.{go_on, or_else, answer_of}
 use Rattle.procap.specs.States.{stated}
-use Rattle.procap.specs.Withdrawn.{withdrawn_in}
-use Rattle.procap.specs.Desk.{read_press, read_desk}
-use Rattle.procap.specs.Deciding.{writable?, request?, none_withdrawn?}
-use Rattle.procap.specs.declared.answer.Answer.TheVariants.{Granted, StateMalformed, RequestDiffers, MomentOutside, MomentAboveLatest, ProcapMalformed, NumberWithdrawn, ListMalformed}
+use Rattle.procap.specs.Desk.{read_press}
+use Rattle.procap.specs.Deciding.{writable?, request?}
+use Rattle.procap.specs.declared.answer.Answer.TheVariants.{Granted, StateMalformed, RequestDiffers, MomentOutside, MomentAboveLatest, ProcapMalformed}
 use Rattle.procap.specs.declared.procap.Request.{Request}
 use Rattle.procap.specs.declared.procap.Procap.{Procap}
 use Rattle.procap.proofs.Granted.{is_so, is_not_so, reads_press}
 use Rattle.state.specs.Standing.{WellFormed}
-use Rattle.withdrawn.specs.WithdrawnLists.{IsList}
 use Rattle.door.specs.Door.{before_facts, opening}
-use Rattle.door.proofs.Desks.{reads_desk}
 use Rattle.door.proofs.BeforeFacts.{is_passed}
 
--- What says nothing is nothing.
-says_nothing : {A : Type 0} (o : Option A) → ((a : A) × (o ≡ some a) → ⊥) → o ≡ none
-says_nothing none n = refl
-says_nothing (some a) n = absurd (n (a, refl))
+-- Bytes that are no state say nothing.
+says_nothing : (state : List ℕ) → (WellFormed state → ⊥) → stated state ≡ none
+says_nothing state n = by (stated state) refl
+  where
+    by : (o : Option (List Spelled)) → stated state ≡ o → stated state ≡ none
+    by none e = e
+    by (some σ) e = absurd (n (σ, e))
 
 -- 12
-pub unwritable : (v : Procap) (r : Request) (m : ℕ) (state withdrawn : List ℕ) → (Writable v → ⊥)
-    → ProcapMalformed ≡ answer_of (opening v r m state withdrawn)
+pub unwritable : (p : Procap) (r : Request) (m : ℕ) (state : List ℕ) → (Writable p → ⊥) → ProcapMalformed ≡ answer_of (opening p r m state)
 unfolding opening go_on answer_of
-unwritable v r m state withdrawn n = rw (is_not_so ProcapMalformed (writable? v) n) refl
+unwritable p r m state n = rw (is_not_so ProcapMalformed (writable? p) n) refl
 
-module _ (p : Paper) (r : Request) (m : ℕ) (state withdrawn : List ℕ) where
+module _ (asked : Request) (from to : ℕ) (r : Request) (m : ℕ) (state : List ℕ) where
   -- 11
-  pub above_latest : latest < m → MomentAboveLatest ≡ answer_of (before_facts p r m state withdrawn)
-  unfolding before_facts read_desk read_press go_on answer_of
+  pub above_latest : latest < m → MomentAboveLatest ≡ answer_of (before_facts asked from to r m state)
+  unfolding before_facts read_press go_on answer_of
   above_latest l = rw (is_not_so MomentAboveLatest (dec_le m latest) (λ h. omega arith)) refl
 
   module _ (in_range : m ≤ latest) where
     -- 7
-    pub state_malformed : (WellFormed state → ⊥) → StateMalformed ≡ answer_of (before_facts p r m state withdrawn)
-    unfolding before_facts read_desk read_press go_on or_else answer_of
-    state_malformed n = rw (is_so MomentAboveLatest (dec_le m latest) in_range) (rw (says_nothing (stated state) n) refl)
+    pub state_malformed : (WellFormed state → ⊥) → StateMalformed ≡ answer_of (before_facts asked from to r m state)
+    unfolding before_facts read_press go_on or_else answer_of
+    state_malformed n = rw (is_so MomentAboveLatest (dec_le m latest) in_range) (rw (says_nothing state n) refl)
 
     module _ (formed : WellFormed state) where
-      -- 16
-      pub list_malformed : (IsList withdrawn → ⊥) → ListMalformed ≡ answer_of (before_facts p r m state withdrawn)
-      unfolding before_facts read_desk go_on or_else answer_of
-      list_malformed n =
-          rw (reads_press m state formed.0 in_range formed.1) (rw (says_nothing (withdrawn_in withdrawn) n) refl)
+      -- 8
+      pub request_differs : (r ≡ asked → ⊥) → RequestDiffers ≡ answer_of (before_facts asked from to r m state)
+      unfolding before_facts go_on answer_of
+      request_differs n =
+          rw (reads_press m state formed.0 in_range formed.1) (rw (is_not_so RequestDiffers (request? r asked) n) refl)
 
-      module _ (list : IsList withdrawn) where
-        desk : read_desk m state withdrawn ≡ granted (formed.0, list.0)
-        desk = reads_desk m state withdrawn formed.0 list.0 in_range formed.1 list.1
-
-        -- 8
-        pub request_differs : (r ≡ p.request → ⊥) → RequestDiffers ≡ answer_of (before_facts p r m state withdrawn)
+      module _ (own : r ≡ asked) where
+        -- 9, by the one moment
+        pub too_early : m < from → MomentOutside ≡ answer_of (before_facts asked from to r m state)
         unfolding before_facts go_on answer_of
-        request_differs n = rw (desk, is_not_so RequestDiffers (request? r p.request) n) refl
+        too_early l =
+            rw (reads_press m state formed.0 in_range formed.1)
+            (rw (is_so RequestDiffers (request? r asked) own) (rw (is_not_so MomentOutside (dec_le from m) (λ h. omega arith)) refl))
 
-        module _ (own : r ≡ p.request) where
-          for_it : require RequestDiffers (request? r p.request) ≡ granted tt
-          for_it = is_so RequestDiffers (request? r p.request) own
-
-          -- 15
-          pub number_withdrawn : (NoneWithdrawn list.0 p.used → ⊥) → NumberWithdrawn ≡ answer_of (before_facts p r m state withdrawn)
+        module _ (since : from ≤ m) where
+          -- 9, by the other
+          pub too_late : to < m → MomentOutside ≡ answer_of (before_facts asked from to r m state)
           unfolding before_facts go_on answer_of
-          number_withdrawn n = rw (desk, for_it, is_not_so NumberWithdrawn (none_withdrawn? list.0 p.used) n) refl
+          too_late l =
+              rw (reads_press m state formed.0 in_range formed.1)
+              (rw (is_so RequestDiffers (request? r asked) own)
+              (rw (is_so MomentOutside (dec_le from m) since) (rw (is_not_so MomentOutside (dec_le m to) (λ h. omega arith)) refl)))
 
-          module _ (none : NoneWithdrawn list.0 p.used) where
-            still_good : require NumberWithdrawn (none_withdrawn? list.0 p.used) ≡ granted tt
-            still_good = is_so NumberWithdrawn (none_withdrawn? list.0 p.used) none
-
-            -- 9, by the one moment
-            pub too_early : m < p.from → MomentOutside ≡ answer_of (before_facts p r m state withdrawn)
-            unfolding before_facts go_on answer_of
-            too_early l = rw (desk, for_it, still_good, is_not_so MomentOutside (dec_le p.from m) (λ h. omega arith)) refl
-
-            module _ (since : p.from ≤ m) where
-              -- 9, by the other
-              pub too_late : p.to < m → MomentOutside ≡ answer_of (before_facts p r m state withdrawn)
-              unfolding before_facts go_on answer_of
-              too_late l =
-                  rw
-                  (desk, for_it, still_good, is_so MomentOutside (dec_le p.from m) since, is_not_so MomentOutside (dec_le m p.to) (λ h. omega arith))
-                  refl
-
-              -- None of these
-              pub left_to_the_facts : m ≤ p.to → Granted ≡ answer_of (before_facts p r m state withdrawn)
-              unfolding answer_of
-              left_to_the_facts until =
-                  rw (is_passed p r m state withdrawn formed.0 list.0 in_range formed.1 list.1 own none since until) refl
+          -- None of these
+          pub left_to_the_facts : m ≤ to → Granted ≡ answer_of (before_facts asked from to r m state)
+          unfolding answer_of
+          left_to_the_facts until = rw (is_passed asked from to r m state formed.0 in_range formed.1 own since until) refl

@@ -2,4 +2,3 @@
 pub mod Holding
 pub mod Door
 pub mod Opens
-pub mod Asking

@@ -3,18 +3,16 @@ ghost use Rattle.std.specs.Prelude.{◌≡◌, ◌≤◌, ◌<◌};
 ghost use Rattle.procap.specs.Procaps.{most_facts, request_of};
 ghost use Rattle.procap.specs.Answers.{place_of};
 ghost use Rattle.procap.specs.Outcome.{answer_of};
-ghost use Rattle.door.specs.Door.{opening_text, packed};
-ghost use Rattle.door.specs.Asking.{NamesMissingOn};
+ghost use Rattle.door.specs.Door.{opening_text, NamesMissingOn, packed};
 
-use crate::decide::{Asked, Heading, before_facts};
+use crate::decide::before_facts;
 use crate::holding::holds_at;
 use procap::answer::Answer;
 use procap::procap::MOST_FACTS;
 use text::facts::fact_at;
 use text::reader::look_over;
 
-// [D6, D7] What the door answers, as 256 times the number plus the place. 12 comes first, for bytes that are no text; a number that is no
-// name is in no request.
+// [D6, D7] What the door answers, as 256 times the number plus the place. 12 comes first, for bytes that are no text; a number that is no name is in no request.
 #[unsafe(no_mangle)]
 pub extern "C" fn procap_door(
     text: &[u8],
@@ -23,29 +21,15 @@ pub extern "C" fn procap_door(
     right: u64,
     moment: u64,
     state: &[u8],
-    withdrawn: &[u8],
 ) -> u64
-    ensures { result ≡ packed (answer_of (opening_text text.now (request_of who what right) moment state.now withdrawn.now)) }
+    ensures { result ≡ packed (answer_of (opening_text text.now (request_of who what right) moment state.now)) }
 {
     let seen = look_over(text);
     if !seen.found {
         return as_number(Answer::ProcapMalformed);
     }
-    let asked = Asked {
-        who: who,
-        what: what,
-        right: right,
-        moment: moment,
-    };
     let request = seen.request;
-    let used = seen.used;
-    let heading = Heading {
-        request: request,
-        from: seen.from,
-        to: seen.to,
-        used: used,
-    };
-    let early = before_facts(heading, asked, state, withdrawn);
+    let early = before_facts(request, seen.from, seen.to, who, what, right, moment, state);
     if early.number() != 0 {
         return as_number(early);
     }

@@ -1,11 +1,9 @@
--- What a call that writes hands back to C, and how the number of an answer tells whether it goes on: 0 is that of a grant, and no refusal
--- has it.
+-- What a call that writes hands back to C, and how the number of an answer tells whether it goes on: 0 is that of a grant, and no refusal has it.
 use Prim.Native.Nat.{ℕ}
 use mathlib.Core.Path.{◌≡◌, refl, sym, ap, ◌∙◌}
 use mathlib.Core.List.{List}
 use native.Mathlib.Omega.{arith}
 use Rattle.procap.specs.Answers.{number_of}
-use Rattle.procap.specs.Procaps.{Paper, procap_of}
 use Rattle.procap.specs.Outcome.{Outcome, granted, refused, go_on, answer_of, procap_handed}
 use Rattle.procap.specs.declared.answer.Answer.{Answer}
 use Rattle.procap.specs.declared.procap.Procap.{Procap}
@@ -31,21 +29,21 @@ module _ (o : Outcome (List ℕ)) (before : List ℕ) (number : ℕ) where
   unfolding answer_of length_given buffer_left
   hands_back_refused answer packs refuses = rw refuses (packs, refl)
 
-module _ (o : Outcome Paper) (answer : Answer) (given : answer ≡ answer_of o) (f : Procap → Outcome (List ℕ)) where
+module _ (o : Outcome Procap) (answer : Answer) (given : answer ≡ answer_of o) (f : Procap → Outcome (List ℕ)) where
   -- With another number than 0 the outcome is a refusal, and nothing goes on from it.
-  pub stops_there : (number_of answer ≡ 0 → ⊥) → go_on o (λ p. f (procap_of p)) ≡ refused answer
+  pub stops_there : (number_of answer ≡ 0 → ⊥) → go_on o f ≡ refused answer
   unfolding answer_of go_on
   stops_there other = by o given
     where
-      by : (x : Outcome Paper) → answer ≡ answer_of x → go_on x (λ p. f (procap_of p)) ≡ refused answer
+      by : (x : Outcome Procap) → answer ≡ answer_of x → go_on x f ≡ refused answer
       by (granted p) same = absurd (other (ap number_of same))
       by (refused a) same = ap refused (sym same)
 
   -- With the number 0 it goes on with the procap that is handed over.
-  pub goes_on_with : IfRefused Refuses o → number_of answer ≡ 0 → (p : Procap) → p ≡ procap_handed o → go_on o (λ p. f (procap_of p)) ≡ f p
+  pub goes_on_with : IfRefused Refuses o → number_of answer ≡ 0 → (p : Procap) → p ≡ procap_handed o → go_on o f ≡ f p
   unfolding answer_of go_on procap_handed
   goes_on_with refuses zero p handed = by o given refuses handed
     where
-      by : (x : Outcome Paper) → answer ≡ answer_of x → IfRefused Refuses x → p ≡ procap_handed x → go_on x (λ p. f (procap_of p)) ≡ f p
+      by : (x : Outcome Procap) → answer ≡ answer_of x → IfRefused Refuses x → p ≡ procap_handed x → go_on x f ≡ f p
       by (granted q) same no_zero is = ap f (sym is)
       by (refused a) same no_zero is = let numbers = ap number_of same in absurd (omega (arith, no_zero))

@@ -37,29 +37,29 @@ no_more (granted u) n m k = absurd (k refl)
 no_more (refused answer) n m k = refl
 
 -- What the reader answers to a text, and presses with that text.
-module _ (text : List ℕ) (answer : Answer) (given : answer ≡ answer_of (reading text)) (r : Request) (m : ℕ) (state withdrawn : List ℕ) where
+module _ (text : List ℕ) (answer : Answer) (given : answer ≡ answer_of (reading text)) (r : Request) (m : ℕ) (state : List ℕ) where
   -- With a text that does not read none goes through.
-  pub unread_presses : (number_of answer ≡ 0 → ⊥) → (n : ℕ) → 0 ≡ opened_of (opening_text text r m state withdrawn) n
+  pub unread_presses : (number_of answer ≡ 0 → ⊥) → (n : ℕ) → 0 ≡ opened_of (opening_text text r m state) n
   unread_presses k n =
-      let same = unread text answer given r m state withdrawn k in
-      none_pressed _ ∙ no_more (opening_text text r m state withdrawn) 0 n (λ e. k (ap number_of same ∙ e))
+      let same = unread text answer given r m state k in
+      none_pressed _ ∙ no_more (opening_text text r m state) 0 n (λ e. k (ap number_of same ∙ e))
 
   -- With one that does, each press comes to what the door answers to the procap that it says.
   module _ (p : Procap) (handed : p ≡ procap_handed (reading text)) (zero : number_of answer ≡ 0)
-      (pressed : Answer) (told : pressed ≡ answer_of (opening p r m state withdrawn)) (n opened : ℕ)
-      (so_far : opened ≡ opened_of (opening_text text r m state withdrawn) n) where
-    same : pressed ≡ answer_of (opening_text text r m state withdrawn)
-    same = told ∙ ap answer_of (sym (read_opens text answer given p handed zero r m state withdrawn))
+      (pressed : Answer) (told : pressed ≡ answer_of (opening p r m state)) (n opened : ℕ)
+      (so_far : opened ≡ opened_of (opening_text text r m state) n) where
+    same : pressed ≡ answer_of (opening_text text r m state)
+    same = told ∙ ap answer_of (sym (read_opens text answer given p handed zero r m state))
 
-    press_opens : number_of pressed ≡ 0 → opened + 1 ≡ opened_of (opening_text text r m state withdrawn) (n + 1)
+    press_opens : number_of pressed ≡ 0 → opened + 1 ≡ opened_of (opening_text text r m state) (n + 1)
     press_opens e =
-        let opens = (zero_exactly_when_open r m state withdrawn text).0 (ap packed (sym same ∙ (zero_exactly_when_granted pressed).0 e)) in
-        ap (λ k. k + 1) so_far ∙ one_more (opening_text text r m state withdrawn) n opens
+        let opens = (zero_exactly_when_open text r m state).0 (ap packed (sym same ∙ (zero_exactly_when_granted pressed).0 e)) in
+        ap (λ k. k + 1) so_far ∙ one_more (opening_text text r m state) n opens
 
-    press_refused : (number_of pressed ≡ 0 → ⊥) → opened ≡ opened_of (opening_text text r m state withdrawn) (n + 1)
-    press_refused k = so_far ∙ no_more (opening_text text r m state withdrawn) n (n + 1) (λ e. k (ap number_of same ∙ e))
+    press_refused : (number_of pressed ≡ 0 → ⊥) → opened ≡ opened_of (opening_text text r m state) (n + 1)
+    press_refused k = so_far ∙ no_more (opening_text text r m state) n (n + 1) (λ e. k (ap number_of same ∙ e))
 
     -- So a press that has the answer 0 is one more that goes through, and any other is none.
-    pub press_counts : (number_of pressed ≡ 0 → opened + 1 ≡ opened_of (opening_text text r m state withdrawn) (n + 1))
-        × ((number_of pressed ≡ 0 → ⊥) → opened ≡ opened_of (opening_text text r m state withdrawn) (n + 1))
+    pub press_counts : (number_of pressed ≡ 0 → opened + 1 ≡ opened_of (opening_text text r m state) (n + 1))
+        × ((number_of pressed ≡ 0 → ⊥) → opened ≡ opened_of (opening_text text r m state) (n + 1))
     press_counts = (press_opens, press_refused)

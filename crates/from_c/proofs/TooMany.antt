@@ -11,7 +11,6 @@ use lib.Seq.{length-take-le, take_all}
 use borrow.Author.Tests.{lt-leb}
 use Rattle.procap.specs.Outcome.{refused, go_on}
 use Rattle.procap.specs.declared.answer.Answer.TheVariants.{CertificateMalformed}
-use Rattle.procap.specs.declared.procap.Version.{Version}
 use Rattle.procap.specs.declared.procap.Request.{Request}
 use Rattle.bl.specs.declared.Certificate.{Certificate}
 use Rattle.bl.specs.Certificates.{most_certificates, statements}
@@ -48,10 +47,9 @@ module _ (buffer pairs proof : List ℕ) where
         (lent_the_same (λ rs. read_case rs buffer pairs proof) most_certificates _ too_many records)
 
     -- So verify answers them as it answers all.
-    pub verifies_the_same : (v : Version) (r : Request)
-        → verified v r (take lent_at_most records) buffer (take pairs_at_most pairs) proof ≡ verified v r records buffer pairs proof
+    pub verifies_the_same : (r : Request) → verified r (take lent_at_most records) buffer (take pairs_at_most pairs) proof ≡ verified r records buffer pairs proof
     unfolding verified
-    verifies_the_same v r = rw reads_the_same refl
+    verifies_the_same r = rw reads_the_same refl
 
     -- And so does the direct check.
     pub checks_the_same : (r : Request) (m : ℕ) (state : List ℕ)

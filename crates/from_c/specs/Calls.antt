@@ -1,12 +1,8 @@
 -- What the calls for C come to, in the words of the calls that they pass on.
-use Rattle.std.specs.Prelude.{ℕ, List, length, eqb}
+use Rattle.std.specs.Prelude.{ℕ, List, length}
 use Rattle.procap.specs.Lent.{Lent}
-use Rattle.procap.specs.Tells.{pick}
-use Rattle.procap.specs.Procaps.{request_of, procap_of}
+use Rattle.procap.specs.Procaps.{request_of}
 use Rattle.procap.specs.Outcome.{Outcome, granted, refused, go_on}
-use Rattle.procap.specs.declared.answer.Answer.TheVariants.{ProcapMalformed}
-use Rattle.procap.specs.declared.procap.Version.{Version}
-use Rattle.procap.specs.declared.procap.Version.TheVariants.{One, Two}
 use Rattle.procap.specs.declared.procap.Request.{Request}
 use Rattle.bl.specs.Calls.{verified, directly}
 use Rattle.text.specs.Calls.{reading, writing}
@@ -15,28 +11,14 @@ use Rattle.from_c.specs.Records.{records_in}
 use Rattle.from_c.specs.Pairs.{pair_numbers}
 use Rattle.from_c.specs.Values.{value_in}
 
--- The version that a number asks for: 12 for a number of none.
-unfoldable pub version_in : ℕ → Outcome Version
-version_in number = pick (eqb number 1) (granted One) (pick (eqb number 2) (granted Two) (refused ProcapMalformed))
+-- Verify, and then the text of the procap into a buffer with so much room.
+unfoldable pub verifying : Request → List ℕ → List ℕ → List ℕ → List ℕ → ℕ → Outcome (List ℕ)
+verifying r records buffer pairs proof room = go_on (verified r (records_in records) buffer (pair_numbers pairs) proof) λ p. writing p room
 
--- Verify for a version, and then the text of the procap into a buffer with so much room.
-abbrev pub verifying_for : Version → Request → List ℕ → List ℕ → List ℕ → List ℕ → ℕ → Outcome (List ℕ)
-verifying_for v r records buffer pairs proof room =
-    go_on (verified v r (records_in records) buffer (pair_numbers pairs) proof) λ p.
-    writing (procap_of p) room
-
--- The same for the version that a number asks for, which is looked at before all else.
-unfoldable pub verifying : ℕ → Request → List ℕ → List ℕ → List ℕ → List ℕ → ℕ → Outcome (List ℕ)
-verifying version r records buffer pairs proof room = go_on (version_in version) λ v. verifying_for v r records buffer pairs proof room
-
--- Both over what is lent, the second for the request of three numbers; and the direct check.
-abbrev pub verifying_for_over : Version → Request → Lent → Lent → Lent → Lent → Lent → Outcome (List ℕ)
-verifying_for_over v r records buffer pairs proof out =
-    verifying_for v r records.entry.now buffer.entry.now pairs.entry.now proof.entry.now (length out.entry.now)
-
-abbrev pub verifying_over : ℕ → ℕ → ℕ → ℕ → Lent → Lent → Lent → Lent → Lent → Outcome (List ℕ)
-verifying_over version who what right records buffer pairs proof out =
-    verifying version (request_of who what right) records.entry.now buffer.entry.now pairs.entry.now proof.entry.now (length out.entry.now)
+-- The same for the request of three numbers, over what is lent; and the direct check.
+abbrev pub verifying_over : ℕ → ℕ → ℕ → Lent → Lent → Lent → Lent → Lent → Outcome (List ℕ)
+verifying_over who what right records buffer pairs proof out =
+    verifying (request_of who what right) records.entry.now buffer.entry.now pairs.entry.now proof.entry.now (length out.entry.now)
 
 abbrev pub checking_over : ℕ → ℕ → ℕ → Lent → Lent → Lent → Lent → ℕ → Lent → Outcome (Unit {0})
 checking_over who what right records buffer pairs proof moment state =
@@ -44,7 +26,7 @@ checking_over who what right records buffer pairs proof moment state =
 
 -- A text is read, and the procap that it says is written again.
 unfoldable pub rewriting : List ℕ → ℕ → Outcome (List ℕ)
-rewriting text room = go_on (reading text) λ p. writing (procap_of p) room
+rewriting text room = go_on (reading text) λ p. writing p room
 
 -- The text of a value.
 unfoldable pub value_writing : List ℕ → ℕ → Outcome (List ℕ)
@@ -55,13 +37,12 @@ abbrev pub value_writing_over : Lent → Lent → Outcome (List ℕ)
 value_writing_over value out = value_writing value.entry.now (length out.entry.now)
 
 -- The door on a value.
-unfoldable pub value_opening : List ℕ → Request → ℕ → List ℕ → List ℕ → Outcome (Unit {0})
-value_opening value r m state withdrawn = go_on (value_in value) λ p. opening p r m state withdrawn
+unfoldable pub value_opening : List ℕ → Request → ℕ → List ℕ → Outcome (Unit {0})
+value_opening value r m state = go_on (value_in value) λ p. opening p r m state
 
 -- The same for the request of three numbers, over what is lent.
-abbrev pub value_opening_over : Lent → ℕ → ℕ → ℕ → ℕ → Lent → Lent → Outcome (Unit {0})
-value_opening_over value who what right moment state withdrawn =
-    value_opening value.entry.now (request_of who what right) moment state.entry.now withdrawn.entry.now
+abbrev pub value_opening_over : Lent → ℕ → ℕ → ℕ → ℕ → Lent → Outcome (Unit {0})
+value_opening_over value who what right moment state = value_opening value.entry.now (request_of who what right) moment state.entry.now
 
 -- How many of so many presses go through, if one such press comes to this.
 unfoldable pub opened_of : Outcome (Unit {0}) → ℕ → ℕ

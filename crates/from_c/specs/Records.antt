@@ -1,5 +1,4 @@
--- Certificate records in bytes, as a caller in C hands them over: principal, number (2 bytes each), from, to (9 each), start,
--- length (8 each).
+-- Certificate records in bytes, as a caller in C hands them over: principal (2 bytes), from, to (9 each), start, length (8 each).
 use Rattle.std.specs.Prelude.{ℕ, ◌+◌, List, length, leb}
 use Rattle.procap.specs.Tells.{pick}
 use Rattle.procap.specs.declared.time.Time.{Time}
@@ -12,7 +11,7 @@ use Rattle.from_c.specs.InARow.{in_a_row, how_many}
 
 -- How many bytes a record takes.
 abbrev pub record_bytes : ℕ
-record_bytes = 38
+record_bytes = 36
 
 -- How many records are lent on at the most: one more than are taken, so that too many stay too many.
 abbrev pub lent_at_most : ℕ
@@ -26,18 +25,11 @@ time_of (Name n) = Ctime
 -- The record at a place where all its bytes are there.
 abbrev pub whole_record : List ℕ → ℕ → Certificate
 whole_record bytes at =
-    record {
-      principal = two bytes at;
-      number = two bytes (at + 2);
-      from = time_of (wide_term bytes (at + 4));
-      to = time_of (wide_term bytes (at + 13));
-      start = eight bytes (at + 22);
-      length = eight bytes (at + 30);
-    }
+    record { principal = two bytes at; from = time_of (wide_term bytes (at + 2)); to = time_of (wide_term bytes (at + 11)); start = eight bytes (at + 20); length = eight bytes (at + 28) }
 
 -- What stands for a record that is not all there: a malformed one.
 abbrev pub no_record : Certificate
-no_record = record { principal = 0; number = 0; from = Ctime; to = Ctime; start = 0; length = 0 }
+no_record = record { principal = 0; from = Ctime; to = Ctime; start = 0; length = 0 }
 
 -- The record at a place.
 unfoldable pub record_at : List ℕ → ℕ → Certificate

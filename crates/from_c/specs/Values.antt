@@ -2,24 +2,18 @@
 use Rattle.std.specs.Prelude.{ℕ, ◌+◌, List, length, eqb}
 use Rattle.procap.specs.Tells.{pick}
 use Rattle.procap.specs.Facts.{most_terms, argument_of}
-use Rattle.procap.specs.Procaps.{most_numbers, most_facts}
+use Rattle.procap.specs.Procaps.{most_facts}
 use Rattle.procap.specs.Outcome.{Outcome, granted, refused}
 use Rattle.procap.specs.declared.answer.Answer.TheVariants.{ProcapMalformed}
 use Rattle.procap.specs.declared.fact.Argument.{Argument}
 use Rattle.procap.specs.declared.fact.Fact.{Fact}
-use Rattle.procap.specs.declared.procap.Numbers.{Numbers}
 use Rattle.procap.specs.declared.procap.Procap.{Procap}
 use Rattle.from_c.specs.Numbers.{one, two, eight, wide_term}
 use Rattle.from_c.specs.InARow.{in_a_row}
 
--- How many bytes a value takes: version (1), request (2 each), from, to (8 each), how many numbers (1), 32 numbers (2 each), how many
--- facts (1), 16 facts.
+-- How many bytes a value takes: version (1), request (2 each), from, to (8 each), count (1), facts.
 abbrev pub value_bytes : ℕ
-value_bytes = 713
-
--- How many bytes a number of a certificate takes.
-abbrev pub number_bytes : ℕ
-number_bytes = 2
+value_bytes = 648
 
 -- How many bytes a term takes.
 abbrev pub term_bytes : ℕ
@@ -37,10 +31,6 @@ argument_at bytes at = argument_of (wide_term bytes at)
 abbrev pub fact_at : List ℕ → ℕ → Fact
 fact_at bytes at = record { predicate = two bytes at; count = one bytes (at + 2); arguments = in_a_row (argument_at bytes) term_bytes most_terms (at + 3) }
 
--- The numbers of certificates in a value.
-abbrev pub used_in : List ℕ → Numbers
-used_in bytes = record { count = one bytes 23; numbers = in_a_row (two bytes) number_bytes most_numbers 24 }
-
 -- The value that so many bytes are.
 abbrev pub value_of : List ℕ → Procap
 value_of bytes =
@@ -49,9 +39,8 @@ value_of bytes =
       request = record { who = two bytes 1; what = two bytes 3; right = two bytes 5 };
       from = eight bytes 7;
       to = eight bytes 15;
-      used = used_in bytes;
-      count = one bytes 88;
-      facts = in_a_row (fact_at bytes) fact_bytes most_facts 89;
+      count = one bytes 23;
+      facts = in_a_row (fact_at bytes) fact_bytes most_facts 24;
     }
 
 -- The value that the bytes are: 12 for bytes of any other length.

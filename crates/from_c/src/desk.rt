@@ -22,19 +22,17 @@ pub extern "C" fn desk_door_on_value(
     right: u16,
     moment: u64,
     state: &[u8],
-    withdrawn: &[u8],
 ) -> u64
-    ensures { result ≡ packed (answer_of (value_opening_over value who what right moment state withdrawn)) 0 }
+    ensures { result ≡ packed (answer_of (value_opening_over value who what right moment state)) 0 }
 {
     if value.len() != VALUE_BYTES {
         return as_number(Answer::ProcapMalformed, 0);
     }
     let request = Request::of(who, what, right);
-    as_number(open(value_of(value), request, moment, state, withdrawn), 0)
+    as_number(open(value_of(value), request, moment, state), 0)
 }
 
-// How many of so many presses in a row go through, all of them with the same procap, at the same moment, in the same state and with the
-// same withdrawn numbers. Its text is read once.
+// How many of so many presses in a row go through, all of them with the same procap, at the same moment and in the same state. Its text is read once.
 #[unsafe(no_mangle)]
 pub extern "C" fn desk_presses(
     text: &[u8],
@@ -43,10 +41,9 @@ pub extern "C" fn desk_presses(
     right: u16,
     moment: u64,
     state: &[u8],
-    withdrawn: &[u8],
     presses: u64,
 ) -> u64
-    ensures { result ≡ opened_of (opening_text text.now (request_of who what right) moment state.now withdrawn.now) presses }
+    ensures { result ≡ opened_of (opening_text text.now (request_of who what right) moment state.now) presses }
 {
     let read = read_text(text);
     let answer = read.answer;
@@ -58,7 +55,7 @@ pub extern "C" fn desk_presses(
     while i < presses {
         let request = Request::of(who, what, right);
         let procap = read.procap;
-        let pressed = open(procap, request, moment, state, withdrawn);
+        let pressed = open(procap, request, moment, state);
         if pressed.number() == 0 {
             opened += 1;
         }

@@ -7,7 +7,7 @@ ghost use Rattle.from_c.specs.Records.{lent_at_most};
 use crate::records::LENT_AT_MOST;
 use bl::Certificate;
 use procap::answer::Answer;
-use procap::procap::{Request, Version};
+use procap::procap::Request;
 use verifier::verify::{Verified, direct, verify};
 
 // What verify answers to the first `count` of the records, which are lent to it.
@@ -18,12 +18,11 @@ pub(crate) fn verify_lent(
     buffer: &[u8],
     pairs: &[u32],
     proof: &[u8],
-    version: Version,
 ) -> Verified
     requires { count ≤ lent_at_most }
-    ensures { HandsOver (verified_over version request (take count records) buffer pairs proof) result }
+    ensures { HandsOver (verified_over request (take count records) buffer pairs proof) result }
 {
-    verify(request, &records[..count], buffer, pairs, proof, version)
+    verify(request, &records[..count], buffer, pairs, proof)
 }
 
 // What the direct check answers to the first `count` of the records, which are lent to it.

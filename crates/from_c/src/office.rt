@@ -4,7 +4,7 @@ ghost use Rattle.procap.specs.Outcome.{answer_of};
 ghost use Rattle.text.specs.Calls.{buffer_left};
 ghost use Rattle.cases.specs.Calls.{answering};
 ghost use Rattle.from_c.specs.Packing.{packed, packed_text};
-ghost use Rattle.from_c.specs.Calls.{verifying_over, verifying_for_over, checking_over, rewriting, value_writing_over};
+ghost use Rattle.from_c.specs.Calls.{verifying_over, checking_over, rewriting, value_writing_over};
 
 use crate::lending::{direct_lent, verify_lent};
 use crate::packing::as_number;
@@ -13,15 +13,13 @@ use crate::records::records_in;
 use crate::values::{VALUE_BYTES, value_of};
 use cases::answering::answer_case;
 use procap::answer::Answer;
-use procap::procap::{Request, Version};
+use procap::procap::Request;
 use text::reader::read_text;
 use text::writer::write_text;
 
-// Verifies for the version that a number asks for, and puts the text of the procap at the front of the buffer that is lent for it: 12 for
-// a number of no version, before all else, and 13 where the buffer is shorter. The answer comes as one number.
+// Verifies, and puts the text of the procap at the front of the buffer that is lent for it: 13 where it is shorter. The answer comes as one number.
 #[unsafe(no_mangle)]
 pub extern "C" fn office_verify(
-    version: u64,
     who: u16,
     what: u16,
     right: u16,
@@ -31,47 +29,17 @@ pub extern "C" fn office_verify(
     proof: &[u8],
     out: &mut [u8],
 ) -> u64
-    ensures answer { result ≡ packed_text (verifying_over version who what right records buffer pairs proof out) }
-    ensures buffer { out.new ≡ buffer_left (verifying_over version who what right records buffer pairs proof out) out.old }
+    ensures answer { result ≡ packed_text (verifying_over who what right records buffer pairs proof out) }
+    ensures buffer { out.new ≡ buffer_left (verifying_over who what right records buffer pairs proof out) out.old }
 {
     let request = Request::of(who, what, right);
-    if version == 1 {
-        return verify_for(Version::One, request, records, buffer, pairs, proof, out);
-    }
-    if version == 2 {
-        return verify_for(Version::Two, request, records, buffer, pairs, proof, out);
-    }
-    as_number(Answer::ProcapMalformed, 0)
-}
-
-// Verifies for a version and a request, and puts the text of the procap at the front of the buffer: 13 where it is shorter.
-fn verify_for(
-    version: Version,
-    request: Request,
-    records: &[u8],
-    buffer: &[u8],
-    pairs: &[u8],
-    proof: &[u8],
-    out: &mut [u8],
-) -> u64
-    ensures answer { result ≡ packed_text (verifying_for_over version request records buffer pairs proof out) }
-    ensures buffer { out.new ≡ buffer_left (verifying_for_over version request records buffer pairs proof out) out.old }
-{
     let table = records_in(records);
     let count = table.count;
     let lent = table.records;
     let given = pair_numbers(pairs);
     let many = given.count;
     let numbers = given.numbers;
-    let verified = verify_lent(
-        request,
-        lent,
-        count,
-        buffer,
-        &numbers[..many],
-        proof,
-        version,
-    );
+    let verified = verify_lent(request, lent, count, buffer, &numbers[..many], proof);
     let answer = verified.answer;
     if answer.number() != 0 {
         return as_number(answer, 0);

@@ -1,4 +1,4 @@
-// Certificate records in bytes: 38 for each.
+// Certificate records in bytes: 36 for each.
 ghost use Rattle.std.specs.Prelude.{◌≡◌, ◌+◌, ◌≤◌, length, take};
 ghost use Rattle.from_c.specs.Records.{record_bytes, lent_at_most, records_in, record_at, whole_record, no_record, time_of};
 
@@ -9,7 +9,7 @@ use procap::fact::Term;
 use procap::time::Time;
 
 // How many bytes a record takes.
-const RECORD_BYTES: usize = 38;
+const RECORD_BYTES: usize = 36;
 // How many records are lent on at the most: one more than are taken, so that too many stay too many.
 pub const LENT_AT_MOST: usize = 33;
 
@@ -59,15 +59,14 @@ fn whole_record(bytes: &[u8], at: usize) -> Certificate
     requires { at + record_bytes ≤ length bytes.now }
     ensures { result ≡ whole_record bytes.now at }
 {
-    let from = time_of(term_at(bytes, at + 4));
-    let to = time_of(term_at(bytes, at + 13));
+    let from = time_of(term_at(bytes, at + 2));
+    let to = time_of(term_at(bytes, at + 11));
     Certificate {
         principal: two_at(bytes, at),
-        number: two_at(bytes, at + 2),
         from: from,
         to: to,
-        start: eight_at(bytes, at + 22) as usize,
-        length: eight_at(bytes, at + 30) as usize,
+        start: eight_at(bytes, at + 20) as usize,
+        length: eight_at(bytes, at + 28) as usize,
     }
 }
 
@@ -87,7 +86,6 @@ fn no_record() -> Certificate
 {
     Certificate {
         principal: 0,
-        number: 0,
         from: Time::Ctime,
         to: Time::Ctime,
         start: 0,

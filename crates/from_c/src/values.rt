@@ -1,19 +1,15 @@
-// Procap values in bytes, 713 for each: so a caller in C can hand over any value, also one that cannot be written.
+// Procap values in bytes, 648 for each: so a caller in C can hand over any value, also one that cannot be written.
 ghost use Rattle.std.specs.Prelude.{◌≡◌, ◌+◌, ◌≤◌, length};
-ghost use Rattle.from_c.specs.Values.{value_bytes, fact_bytes, fact_at, used_in, value_of};
+ghost use Rattle.from_c.specs.Values.{value_bytes, fact_bytes, fact_at, value_of};
 
 use crate::numbers::{eight_at, one_at, term_at, two_at};
 use procap::fact::{Argument, Fact, MOST_TERMS, Term};
-use procap::procap::{MOST_FACTS, MOST_NUMBERS, Numbers, Procap, Request};
+use procap::procap::{MOST_FACTS, Procap, Request};
 
 // How many bytes a value takes.
-pub(crate) const VALUE_BYTES: usize = 713;
-// Where the numbers of certificates in a value begin.
-const NUMBERS_START: usize = 24;
-// How many bytes such a number takes.
-const NUMBER_BYTES: usize = 2;
+pub(crate) const VALUE_BYTES: usize = 648;
 // Where the facts of a value begin.
-const FACTS_START: usize = 89;
+const FACTS_START: usize = 24;
 // How many bytes a fact takes.
 const FACT_BYTES: usize = 39;
 // Where the terms of a fact begin.
@@ -39,31 +35,13 @@ pub(crate) fn value_of(bytes: &[u8]) -> Procap
         what: two_at(bytes, 3),
         right: two_at(bytes, 5),
     };
-    let used = used_in(bytes);
     Procap {
         version: one_at(bytes, 0),
         request: request,
         from: eight_at(bytes, 7),
         to: eight_at(bytes, 15),
-        used: used,
-        count: one_at(bytes, 88) as usize,
-        facts: facts,
-    }
-}
-
-// The numbers of certificates in a value.
-fn used_in(bytes: &[u8]) -> Numbers
-    ensures { result ≡ used_in bytes.now }
-{
-    let mut numbers = [0u16; MOST_NUMBERS];
-    let mut i: usize = 0;
-    while i < MOST_NUMBERS {
-        numbers[i] = two_at(bytes, NUMBERS_START + NUMBER_BYTES * i);
-        i += 1;
-    }
-    Numbers {
         count: one_at(bytes, 23) as usize,
-        numbers: numbers,
+        facts: facts,
     }
 }
 

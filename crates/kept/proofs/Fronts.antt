@@ -7,7 +7,7 @@ use native.Mathlib.Omega.{arith}
 use lib.ListN.{length, take, get_or, replicate, length-replicate}
 use lib.Seq.{length-take-le, get_or-take, ext_get_or}
 use Rattle.procap.specs.Tells.{Tells}
-use Rattle.text.specs.Text.{most_text}
+use Rattle.text.specs.Buffers.{most_text}
 use Rattle.from_c.specs.Packing.{number_in, length_in}
 use Rattle.demands.specs.Gives.{OfficeRewriteGives}
 use Rattle.demands.proofs.InNumbers.{what_reads_is_rewritten}

@@ -1,4 +1,3 @@
 -- Laws that the crate's proofs cite.
 pub mod Fronts
-pub mod Versions
 pub mod Pressed

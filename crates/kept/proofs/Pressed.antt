@@ -3,7 +3,7 @@
 use Prim.Native.Nat.{ℕ, ◌<◌}
 use mathlib.Core.Bool.{true, not}
 use mathlib.Core.Path.{◌≡◌, sym, ap, ◌∙◌}
-use mathlib.Core.List.{List, []}
+use mathlib.Core.List.{List}
 use mathlib.Core.Logic.{◌↔◌}
 use native.Mathlib.Omega.{arith}
 use borrow.Author.Tests.{eq-eqb, ne_eqb}
@@ -14,14 +14,11 @@ use lib.ListN.{take, get_or}
 use Rattle.procap.specs.Procaps.{request_of}
 use Rattle.procap.specs.Writable.{RequestInForm}
 use Rattle.procap.proofs.Indices.{all_from}
-use Rattle.procap.specs.Outcome.{granted}
-use Rattle.procap.specs.declared.procap.Version.{Version}
 use Rattle.bl.specs.Accepting.{AreBytes}
-use Rattle.from_c.specs.Calls.{version_in}
 use Rattle.from_c.specs.Packing.{number_in, length_in}
 use Rattle.demands.specs.Gives.{DoorGives, OfficeVerifyGives, OfficeDirectGives}
 use Rattle.kept.proofs.Fronts.{blank, room}
-use Rattle.demands.proofs.InNumbers.{opens_with_0_unlisted, opens_nowhere_else, refused_has_0_nowhere}
+use Rattle.demands.proofs.InNumbers.{opens_with_0_exactly_where_direct_has_0, refused_has_0_nowhere}
 
 -- Numbers of eight bits each are bytes, and three numbers of sixteen bits are the names of a request.
 pub are_bytes : (bytes : List ℕ) → ((i : ℕ) → Fits w8 (get_or bytes i 0)) → AreBytes bytes
@@ -31,47 +28,32 @@ pub are_names : (who what right : ℕ) → Fits w16 who → Fits w16 what → Fi
 are_names who what right a b c = record { who_in_range = omega arith; what_in_range = omega arith; right_in_range = omega arith }
 
 -- What verify and the direct check handed back for a request, with the number of the direct check's answer.
-pub record Called (version : ℕ) (v : Version) (who what right : ℕ) (records buffer pairs proof : List ℕ) (moment : ℕ) (state : List ℕ) (issued : ℕ) (after : List ℕ) (checked found : ℕ) : Type 0 where
-  pub known : version_in version ≡ granted v
+pub record Called (who what right : ℕ) (records buffer pairs proof : List ℕ) (moment : ℕ) (state : List ℕ) (issued : ℕ) (after : List ℕ) (checked found : ℕ) : Type 0 where
   pub names : RequestInForm (request_of who what right)
-  pub records_are_bytes : AreBytes records
   pub buffer_is_bytes : AreBytes buffer
   pub proof_is_bytes : AreBytes proof
   pub state_is_bytes : AreBytes state
-  pub verifies : OfficeVerifyGives version (request_of who what right) records buffer pairs proof blank issued after
+  pub verifies : OfficeVerifyGives (request_of who what right) records buffer pairs proof blank issued after
   pub checks : OfficeDirectGives (request_of who what right) records buffer pairs proof moment state checked
   pub is_found : found ≡ number_in checked
 
-module _ {version : ℕ} {v : Version} {who what right : ℕ} {records buffer pairs proof : List ℕ} {moment : ℕ} {state : List ℕ} {issued : ℕ} {after : List ℕ} {checked found : ℕ}
-    (c : Called version v who what right records buffer pairs proof moment state issued after checked found) where
+module _ {who what right : ℕ} {records buffer pairs proof : List ℕ} {moment : ℕ} {state : List ℕ} {issued : ℕ} {after : List ℕ} {checked found : ℕ}
+    (c : Called who what right records buffer pairs proof moment state issued after checked found) where
   -- Nothing is issued, and nothing is accepted.
   pub nothing_accepted : (number_in issued ≡ 0 → ⊥) → not (eqb found 0) ≡ true
   nothing_accepted other =
-      let nowhere = refused_has_0_nowhere version v c.known _ _ _ _ _ c.names c.records_are_bytes c.buffer_is_bytes c.proof_is_bytes blank room _ _ c.verifies other in
+      let nowhere = refused_has_0_nowhere _ _ _ _ _ c.names c.buffer_is_bytes c.proof_is_bytes blank room _ _ c.verifies other in
       ap not (ne_eqb found 0 (λ zero. nowhere moment state c.state_is_bytes checked c.checks (sym c.is_found ∙ zero)))
 
-  -- With no number withdrawn, what is issued opens, and is accepted; or it does not open, and is not accepted.
-  module _ (zero : number_in issued ≡ 0) {pressed : ℕ} (opens : DoorGives (take (length_in issued) after) (request_of who what right) moment state [] pressed) where
+  -- What is issued opens, and is accepted; or it does not open, and is not accepted.
+  module _ (zero : number_in issued ≡ 0) {pressed : ℕ} (opens : DoorGives (take (length_in issued) after) (request_of who what right) moment state pressed) where
     alike : (pressed ≡ 0) ↔ (number_in checked ≡ 0)
     alike =
-        opens_with_0_unlisted version v c.known _ _ _ _ _ c.names c.records_are_bytes c.buffer_is_bytes c.proof_is_bytes blank room _ _ c.verifies zero
-        moment state pressed opens checked c.checks
+        opens_with_0_exactly_where_direct_has_0 _ _ _ _ _ c.names c.buffer_is_bytes c.proof_is_bytes blank room _ _ c.verifies zero moment state
+        pressed opens checked c.checks
 
     pub opened_is_accepted : pressed ≡ 0 → eqb found 0 ≡ true
     opened_is_accepted opened = eq-eqb found 0 (c.is_found ∙ alike.0 opened)
 
     pub shut_is_not_accepted : (pressed ≡ 0 → ⊥) → not (eqb found 0) ≡ true
     shut_is_not_accepted shut = ap not (ne_eqb found 0 (λ e. shut (alike.1 (sym c.is_found ∙ e))))
-
-  -- With whatever list it opens nowhere else.
-  opens_only_where_accepted : (zero : number_in issued ≡ 0) (withdrawn : List ℕ) {pressed : ℕ}
-      → DoorGives (take (length_in issued) after) (request_of who what right) moment state withdrawn pressed → pressed ≡ 0 → number_in checked ≡ 0
-  opens_only_where_accepted zero withdrawn {pressed} opens opened =
-      opens_nowhere_else version v c.known _ _ _ _ _ c.names c.records_are_bytes c.buffer_is_bytes c.proof_is_bytes blank room _ _ c.verifies zero
-      moment state withdrawn pressed opens checked c.checks opened
-
-  -- So it does not open with a list where it does not without.
-  pub never_alone : (zero : number_in issued ≡ 0) (withdrawn : List ℕ) {listed unlisted : ℕ}
-      → DoorGives (take (length_in issued) after) (request_of who what right) moment state withdrawn listed → listed ≡ 0
-      → DoorGives (take (length_in issued) after) (request_of who what right) moment state [] unlisted → (unlisted ≡ 0 → ⊥) → ⊥
-  never_alone zero withdrawn opens opened without shut = shut ((alike zero without).1 (opens_only_where_accepted zero withdrawn opens opened))

@@ -1,10 +1,5 @@
-// Demand 3: what is issued opens exactly where the direct check accepts, and with whatever list of withdrawn numbers nowhere else; where
-// nothing is issued nothing is accepted.
+// Demand 3: what is issued opens exactly where the direct check accepts, and where nothing is issued nothing is accepted.
 ghost use Rattle.std.specs.Prelude.{Bool, ◌≡◌};
-ghost use Rattle.procap.specs.Tells.{Tells};
-ghost use Rattle.procap.specs.Outcome.{granted};
-ghost use Rattle.procap.specs.declared.procap.Version.{Version};
-ghost use Rattle.from_c.specs.Calls.{version_in};
 
 use door::on_text::procap_door;
 use from_c::office::{office_direct, office_verify};
@@ -14,7 +9,6 @@ use text::writer::MOST_TEXT;
 // Whether verify, the direct check and the door answer as demand 3 says, at this press: always.
 #[unsafe(no_mangle)]
 pub extern "C" fn kept_demand_3(
-    version: u64,
     who: u16,
     what: u16,
     right: u16,
@@ -24,17 +18,11 @@ pub extern "C" fn kept_demand_3(
     proof: &[u8],
     moment: u64,
     state: &[u8],
-    withdrawn: &[u8],
 ) -> bool
     ensures { result ≡ Bool.true }
 {
     let mut text = [0u8; MOST_TEXT];
-    let issued = office_verify(
-        version, who, what, right, records, buffer, pairs, proof, &mut text,
-    );
-    if !is_version(version) {
-        return number_in(issued) == 12;
-    }
+    let issued = office_verify(who, what, right, records, buffer, pairs, proof, &mut text);
     let checked = office_direct(
         who, what, right, records, buffer, pairs, proof, moment, state,
     );
@@ -43,42 +31,13 @@ pub extern "C" fn kept_demand_3(
         return !accepted;
     }
     let length = length_in(issued);
-    let listed = procap_door(
+    let pressed = procap_door(
         &text[..length],
         who as u64,
         what as u64,
         right as u64,
         moment,
         state,
-        withdrawn,
     );
-    let unlisted = procap_door(
-        &text[..length],
-        who as u64,
-        what as u64,
-        right as u64,
-        moment,
-        state,
-        b"",
-    );
-    if unlisted == 0 {
-        return accepted;
-    }
-    if listed == 0 {
-        return false;
-    }
-    !accepted
-}
-
-// Whether there is a version with this number.
-fn is_version(version: u64) -> bool
-    ensures { Tells result ((v : Version) × (version_in version ≡ granted v)) }
-{
-    if version == 1 {
-        return true;
-    }
-    if version == 2 {
-        return true;
-    }
-    false
+    if pressed == 0 { accepted } else { !accepted }
 }

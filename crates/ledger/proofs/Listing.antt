@@ -12,11 +12,12 @@ use borrow.Author.Count.{below_none, below_more}
 use Rattle.procap.specs.Lists.{In, pad}
 use Rattle.procap.specs.Facts.{Spelled, spelled, fact_of, argument_of, no_fact, no_argument, most_terms}
 use Rattle.procap.specs.Numbered.{of_numbers, kind_of, value_of}
-use Rattle.procap.specs.Procaps.{most_facts}
+use Rattle.procap.specs.Procaps.{most_facts, version_one, procap_of}
 use Rattle.procap.specs.declared.fact.Argument.{Argument}
 use Rattle.procap.specs.declared.fact.Fact.{Fact}
 use Rattle.procap.specs.declared.fact.Term.{Term}
 use Rattle.procap.specs.declared.fact.Term.TheVariants.{Name}
+use Rattle.procap.specs.declared.procap.Request.{Request}
 use Rattle.procap.proofs.Indices.{pad_more}
 use Rattle.procap.proofs.InMore.{in_more, in_last, in_before}
 use Rattle.procap.proofs.Numbered.{term_numbered}
@@ -24,7 +25,7 @@ use Rattle.procap.proofs.Spelling.{argument_at}
 use Rattle.ledger.specs.declared.Ledger.{Ledger}
 use Rattle.ledger.specs.Books.{book, Sound, fact_numbers, list_numbers, argument_in, fact_in, facts_in}
 use Rattle.ledger.specs.Putting.{argument_numbers, KeptBefore}
-use Rattle.ledger.specs.Asking.{facts_listed, held_facts}
+use Rattle.ledger.specs.Asking.{facts_listed, held_procap}
 use Rattle.ledger.proofs.Stored.{sets_after, with_two, first_stored, second_stored, stored_after}
 
 -- ── What stands in the list ──
@@ -247,18 +248,18 @@ filled_more list n h =
     ∙ ap (pad most_facts no_fact) (sym (one_listed_more list n))
 
 -- So many facts are taken: all that are counted among the first i.
-pub record Taken (count : ℕ) (list : List ℕ) (taken : List Fact) (i : ℕ) : Type 0 where
+pub record Taken (l : Ledger) (list : List ℕ) (taken : List Fact) (i : ℕ) : Type 0 where
   pub few : i ≤ most_facts
-  pub first : (n : ℕ) → n ≡ min i (count) → taken ≡ filled list n
+  pub first : (n : ℕ) → n ≡ min i l.count → taken ≡ filled list n
 
 -- None at first; one more where it is counted, and else none; in the end all.
-module _ (count : ℕ) (list : List ℕ) where
-  pub none_taken : (f : Fact) → f ≡ no_fact → Taken count list (replicate most_facts f) 0
+module _ (l : Ledger) (list : List ℕ) where
+  pub none_taken : (f : Fact) → f ≡ no_fact → Taken l list (replicate most_facts f) 0
   unfolding facts_listed pad
   none_taken f e = record { few = omega arith; first = λ n h. let none : n ≡ 0 = omega arith in rw (none, e) }
 
-  module _ (taken : List Fact) (i : ℕ) (t : Taken count list taken i) (b : i < most_facts) where
-    pub one_taken : (f : Fact) → f ≡ fact_in list i → i < count → Taken count list (set taken i f) (i + 1)
+  module _ (taken : List Fact) (i : ℕ) (t : Taken l list taken i) (b : i < most_facts) where
+    pub one_taken : (f : Fact) → f ≡ fact_in list i → i < l.count → Taken l list (set taken i f) (i + 1)
     one_taken f e h = record {
       few = omega arith;
       first = λ n g.
@@ -266,11 +267,14 @@ module _ (count : ℕ) (list : List ℕ) where
           ap₂ (λ fs x. set fs i x) (t.first i (omega arith)) e ∙ filled_more list i b ∙ ap (filled list) (sym next);
     }
 
-    pub none_left : count ≤ i → Taken count list taken (i + 1)
+    pub none_left : l.count ≤ i → Taken l list taken (i + 1)
     none_left h = record { few = omega arith; first = λ n g. t.first n (omega arith) }
 
-  pub all_taken : (taken : List Fact) (i : ℕ) → Taken count list taken i → most_facts ≤ i → taken ≡ held_facts list count
-  all_taken taken i t h = let few = t.few in t.first _ (omega arith)
+  pub all_taken : (taken : List Fact) (i : ℕ) (r : Request) → Taken l list taken i → most_facts ≤ i
+      → record { version = version_one; request = r; from = l.from; to = l.to; count = l.count; facts = taken } ≡ held_procap r l list
+  all_taken taken i r t h =
+      let few = t.few in
+      ap (λ fs. record { version = version_one; request = r; from = l.from; to = l.to; count = l.count; facts = fs }) (t.first _ (omega arith))
 
 -- Facts that are in form are what they spell.
 listed_spelled : (list : List ℕ) (n : ℕ) → ((i : ℕ) → i < n → fact_in list i ≡ fact_of (spelled (fact_in list i)))
@@ -281,11 +285,17 @@ listed_spelled list (suc n) form =
     ap₂ (λ fs f. fs ++ (f ∷ [])) (listed_spelled list n (λ i b. form i (omega arith))) (form n (omega arith))
     ∙ sym (map-append fact_of (facts_in list n) (spelled (fact_in list n) ∷ []))
 
--- So of a sound book they are the facts that it keeps, as many as it counts.
-pub held_kept : (l : Ledger) (list : List ℕ) → Sound (book l list)
-    → (held_facts list l.count ≡ pad most_facts no_fact (map fact_of (facts_in list l.count))) × (l.count ≡ length (facts_in list l.count))
-held_kept l list s =
-    let all : min most_facts l.count ≡ l.count = omega (arith, s.few) in (
-      ap (pad most_facts no_fact) (ap (facts_listed list) all ∙ listed_spelled list l.count s.in_form),
-      sym (facts_counted list l.count),
-    )
+-- So of a sound book the procap is that of what it keeps.
+pub held_kept : (r : Request) (l : Ledger) (list : List ℕ) → Sound (book l list)
+    → held_procap r l list ≡ procap_of r l.from l.to (facts_in list l.count)
+unfolding procap_of
+held_kept r l list s =
+    let all : min most_facts l.count ≡ l.count = omega (arith, s.few) in
+    λ j. record {
+      version = version_one;
+      request = r;
+      from = l.from;
+      to = l.to;
+      count = sym (facts_counted list l.count) j;
+      facts = pad most_facts no_fact ((ap (facts_listed list) all ∙ listed_spelled list l.count s.in_form) j);
+    }

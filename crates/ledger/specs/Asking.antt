@@ -9,13 +9,15 @@ use Rattle.procap.specs.Deciding.{in?, spelled?, at_most?, holds_at?}
 use Rattle.procap.specs.Lent.{Lent}
 use Rattle.procap.specs.Order.{decided}
 use Rattle.procap.specs.Facts.{spelled, fact_of, no_fact, most_terms}
-use Rattle.procap.specs.Procaps.{most_facts}
+use Rattle.procap.specs.Procaps.{most_facts, version_one}
 use Rattle.procap.specs.States.{stated}
 use Rattle.procap.specs.declared.time.Time.{Time}
 use Rattle.procap.specs.declared.order.Decision.{Decision}
 use Rattle.procap.specs.declared.order.Decision.TheVariants.{Holds, Fails, RaisesFrom, LowersTo}
 use Rattle.procap.specs.declared.answer.Answer.TheVariants.{OrderFalse, FactMissing}
 use Rattle.procap.specs.declared.fact.Fact.{Fact}
+use Rattle.procap.specs.declared.procap.Request.{Request}
+use Rattle.procap.specs.declared.procap.Procap.{Procap}
 use Rattle.bl.specs.Questions.{ask_fact}
 use Rattle.ledger.specs.declared.Reading.TheVariants.{Office}
 use Rattle.ledger.specs.declared.Ledger.{Ledger}
@@ -69,6 +71,13 @@ unfoldable pub facts_listed : List ℕ → ℕ → List Fact
 facts_listed list zero = []
 facts_listed list (suc n) = facts_listed list n ++ (fact_in list n ∷ [])
 
--- The first facts of the list, as a procap holds them: so many, at most 16, and no facts past them.
-abbrev pub held_facts : List ℕ → ℕ → List Fact
-held_facts list count = pad most_facts no_fact (facts_listed list (min most_facts count))
+-- The procap for a request of a ledger and its list: as many facts as are counted, at most 16, and no facts past them.
+abbrev pub held_procap : Request → Ledger → List ℕ → Procap
+held_procap request l list = record {
+  version = version_one;
+  request = request;
+  from = l.from;
+  to = l.to;
+  count = l.count;
+  facts = pad most_facts no_fact (facts_listed list (min most_facts l.count));
+}

@@ -7,13 +7,13 @@ ghost use Rattle.procap.specs.Facts.{spelled, argument_of};
 ghost use Rattle.procap.specs.Numbered.{kind_of, value_of};
 ghost use Rattle.procap.specs.Procaps.{most_facts};
 ghost use Rattle.ledger.specs.Books.{begun, opened, keeping, stop_of, book, list_numbers, fact_numbers, argument_in, facts_in, fact_in, stopped_by, misfitted};
-ghost use Rattle.ledger.specs.Asking.{narrowed_by, order_asked, fact_listed, fact_asked, AsksFact, ListsFact, held_facts};
+ghost use Rattle.ledger.specs.Asking.{narrowed_by, order_asked, fact_listed, fact_asked, AsksFact, ListsFact, held_procap};
 ghost use Rattle.ledger.specs.Putting.{argument_numbers, numbers_of_fact, ArgumentsPut, KeptBefore};
 
 use procap::answer::Answer;
 use procap::fact::{Argument, Fact, MOST_TERMS, Term};
 use procap::order::{Decision, at_most, decide};
-use procap::procap::MOST_FACTS;
+use procap::procap::{MOST_FACTS, Procap, Request, VERSION};
 use procap::time::{LATEST_SECOND, Time};
 use state::stands_in;
 
@@ -322,10 +322,11 @@ fn put_term(facts: &mut [u64], at: usize, term: Term)
     facts[at + 1] = term.value();
 }
 
-// The first facts of the list, as a procap holds them: past their count there are none.
-pub fn facts_of(facts: &[u64], count: usize) -> [Fact; MOST_FACTS]
-    ensures { result ≡ held_facts facts.now count }
+// The procap for a request of what the ledger and the list keep; past the ledger's count it holds no facts.
+pub fn procap_of(request: Request, ledger: Ledger, facts: &[u64]) -> Procap
+    ensures { result ≡ held_procap request ledger facts.now }
 {
+    let count = ledger.count;
     let none = Fact::none();
     let mut listed = [none; MOST_FACTS];
     let mut i: usize = 0;
@@ -335,5 +336,12 @@ pub fn facts_of(facts: &[u64], count: usize) -> [Fact; MOST_FACTS]
         }
         i += 1;
     }
-    listed
+    Procap {
+        version: VERSION,
+        request: request,
+        from: ledger.from,
+        to: ledger.to,
+        count: count,
+        facts: listed,
+    }
 }

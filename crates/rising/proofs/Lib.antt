@@ -4,6 +4,3 @@ pub mod Searching
 pub mod Moving
 pub mod Putting
 pub mod RisingLaws
-pub mod InOrder
-pub mod ByMembers
-pub mod FewNumbers

@@ -8,10 +8,9 @@ use native.Mathlib.Decide.{dec_lt, ℕ_discrete}
 use borrow.Author.Tests.{lt-ltb, le-ltb, eq-eqb, ne_eqb}
 use lib.Dec.{eqb}
 use lib.ListN.{length, get_or}
-use Rattle.procap.specs.Lists.{Rising}
 use Rattle.procap.specs.Tells.{pick}
 use Rattle.procap.proofs.Indices.{all_at}
-use Rattle.rising.specs.Rising.{below, insert}
+use Rattle.rising.specs.Rising.{Rising, below, insert}
 
 -- A number, what it is put into, how many are below it, and what comes of it.
 pub data Placing (n : ℕ) : List ℕ → ℕ → List ℕ → Type 0 where

@@ -5,8 +5,7 @@ use mathlib.Core.List.{List, ◌∷◌}
 use native.Mathlib.Omega.{arith}
 use lib.ListN.{length, get_or, take}
 use lib.Seq.{length-take-le, get_or-take}
-use Rattle.procap.specs.Lists.{Rising}
-use Rattle.rising.specs.Rising.{insert, with_at, CountsBelow, Puts}
+use Rattle.rising.specs.Rising.{Rising, insert, with_at, CountsBelow, Puts}
 use Rattle.rising.proofs.Placing.{Placing, last, before, there, behind, placing}
 
 -- What comes of it where the number is found at its place, and where it is not.

@@ -5,10 +5,10 @@ use mathlib.Core.List.{List, [], ◌∷◌}
 use mathlib.Core.Logic.{◌⊎◌, inl, inr}
 use native.Mathlib.Omega.{arith}
 use lib.ListN.{length, get_or}
-use Rattle.procap.specs.Lists.{All, In, Above, Rising}
+use Rattle.procap.specs.Lists.{All, In}
 use Rattle.procap.proofs.Indices.{in_rest}
 use Rattle.procap.proofs.Each.{each_in}
-use Rattle.rising.specs.Rising.{below, insert}
+use Rattle.rising.specs.Rising.{Above, Rising, below, insert}
 use Rattle.rising.proofs.Placing.{Placing, last, before, there, behind, placing, placed_within}
 
 -- An empty list rises.
@@ -17,15 +17,15 @@ unfolding Rising
 none_rises = tt
 
 -- What is so of the number and of each of the others is so of each with the number among them.
-put_each : (P : ℕ → Type 0) {n i : ℕ} {ks ls : List ℕ} → Placing n ks i ls → P n → All P ks → All P ls
+put_all : (P : ℕ → Type 0) {n i : ℕ} {ks ls : List ℕ} → Placing n ks i ls → P n → All P ks → All P ls
 unfolding All
-put_each P last h a = (h, a)
-put_each P (before l) h a = (h, a)
-put_each P (there e) h a = a
-put_each P (behind l p) h a = (a.0, put_each P p h a.1)
+put_all P last h a = (h, a)
+put_all P (before l) h a = (h, a)
+put_all P (there e) h a = a
+put_all P (behind l p) h a = (a.0, put_all P p h a.1)
 
 pub insert_all : (P : ℕ → Type 0) (n : ℕ) (ks : List ℕ) → P n → All P ks → All P (insert n ks)
-insert_all P n ks = put_each P (placing n ks)
+insert_all P n ks = put_all P (placing n ks)
 
 -- Rising numbers rise with one more among them.
 above_lower : {n k : ℕ} → n < k → (ks : List ℕ) → Above k ks → Above n ks
@@ -38,7 +38,7 @@ unfolding Rising All
 put_rising last r = (tt, tt)
 put_rising (before {ks = ks} l) r = ((l, above_lower l ks r.0), r)
 put_rising (there e) r = r
-put_rising (behind l p) r = (put_each (λ x. _ < x) p l r.0, put_rising p r.1)
+put_rising (behind l p) r = (put_all (λ x. _ < x) p l r.0, put_rising p r.1)
 
 pub insert_rising : (n : ℕ) (ks : List ℕ) → Rising ks → Rising (insert n ks)
 insert_rising n ks = put_rising (placing n ks)
@@ -77,16 +77,6 @@ put_length (behind l p) = omega (arith, put_length p)
 
 pub insert_length : (n : ℕ) (ks : List ℕ) → length (insert n ks) ≤ suc (length ks)
 insert_length n ks = put_length (placing n ks)
-
--- They are no fewer.
-put_grows : {n i : ℕ} {ks ls : List ℕ} → Placing n ks i ls → length ks ≤ length ls
-put_grows last = omega arith
-put_grows (before l) = omega arith
-put_grows (there e) = omega arith
-put_grows (behind l p) = omega (arith, put_grows p)
-
-pub insert_grows : (n : ℕ) (ks : List ℕ) → length ks ≤ length (insert n ks)
-insert_grows n ks = put_grows (placing n ks)
 
 -- No more are below a number than there are.
 pub below_within : (n : ℕ) (ks : List ℕ) → below n ks ≤ length ks

@@ -5,8 +5,7 @@ use mathlib.Core.List.{List}
 use native.Mathlib.Omega.{arith}
 use lib.ListN.{length, get_or, take, length-take}
 use lib.Seq.{get_or-take}
-use Rattle.procap.specs.Lists.{Rising}
-use Rattle.rising.specs.Rising.{below, CountsBelow}
+use Rattle.rising.specs.Rising.{Rising, below, CountsBelow}
 use Rattle.rising.proofs.Placing.{placing, placed_within, past_lower, not_past}
 
 -- The bounds are in order and no further than the first numbers go, and between them is the place of the number where these rise.

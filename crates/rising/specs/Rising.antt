@@ -1,7 +1,16 @@
 -- Numbers in strictly rising order at the front of a list.
 use Rattle.std.specs.Prelude.{ℕ, suc, ◌≤◌, ◌<◌, ◌≡◌, List, [], ◌∷◌, ◌++◌, ltb, eqb, length, take, drop}
 use Rattle.procap.specs.Tells.{pick}
-use Rattle.procap.specs.Lists.{Rising}
+use Rattle.procap.specs.Lists.{All}
+
+-- Each of these is above n.
+abbrev pub Above : ℕ → List ℕ → Type 0
+Above n ks = All (λ k. n < k) ks
+
+-- The numbers rise strictly.
+unfoldable pub Rising : List ℕ → Type 0
+Rising [] = Unit {0}
+Rising (k ∷ ks) = Above k ks × Rising ks
 
 -- How many at the front are below the number.
 unfoldable pub below : ℕ → List ℕ → ℕ
@@ -12,15 +21,6 @@ below n (k ∷ ks) = pick (ltb k n) (suc (below n ks)) 0
 unfoldable pub insert : ℕ → List ℕ → List ℕ
 insert n [] = n ∷ []
 insert n (k ∷ ks) = pick (ltb k n) (k ∷ insert n ks) (pick (eqb k n) (k ∷ ks) (n ∷ k ∷ ks))
-
--- Numbers put among others one after another, from the first on.
-unfoldable pub put_all : List ℕ → List ℕ → List ℕ
-put_all ks [] = ks
-put_all ks (n ∷ ns) = put_all (insert n ks) ns
-
--- The numbers in rising order, none twice.
-abbrev pub in_order : List ℕ → List ℕ
-in_order ns = put_all [] ns
 
 -- One number more, at an index.
 abbrev pub with_at : List ℕ → ℕ → ℕ → List ℕ

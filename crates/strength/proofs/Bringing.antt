@@ -8,8 +8,8 @@ use mathlib.Core.Logic.{inl, inr, ◌↔◌}
 use native.Mathlib.Omega.{arith}
 use lib.ListN.{get_or}
 use lib.Seq.{get_or-take}
-use Rattle.procap.specs.Lists.{In, Rising}
-use Rattle.rising.specs.Rising.{below}
+use Rattle.procap.specs.Lists.{In}
+use Rattle.rising.specs.Rising.{Rising, below}
 use Rattle.rising.proofs.RisingLaws.{stands_at}
 use Rattle.bl.specs.Strength.{Pair, most_pairs, AsStrong, as_itself}
 use Rattle.strength.specs.declared.marks.MarkRow.{MarkRow}

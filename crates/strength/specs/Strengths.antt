@@ -1,8 +1,8 @@
 -- The strengths that pairs give, as numbers: the strongers, the weakers, and a mark for each two of them.
 use Rattle.std.specs.Prelude.{ℕ, ◌≤◌, ◌≡◌, Bool, List, ◌⊎◌, length, get_or, take, drop}
-use Rattle.procap.specs.Lists.{In, Rising}
+use Rattle.procap.specs.Lists.{In}
 use Rattle.procap.specs.Tells.{Tells}
-use Rattle.rising.specs.Rising.{below}
+use Rattle.rising.specs.Rising.{Rising, below}
 use Rattle.bl.specs.Strength.{Pair, AsStrong, most_pairs}
 use Rattle.strength.specs.Marks.{Marked}
 

@@ -8,8 +8,8 @@ use Rattle.procap.specs.Writable.{largest_name}
 use Rattle.procap.specs.Bytes.{then}
 use Rattle.procap.specs.Reading.{with_predicate}
 use Rattle.procap.proofs.WithPredicate.{predicate_given}
-use Rattle.lines.specs.Words.{bytes_of}
-use Rattle.lines.specs.Line.{literal, number_to}
+use Rattle.text.specs.Words.{bytes_of}
+use Rattle.text.specs.Line.{literal, number_to}
 use Rattle.text.specs.Reader.{terms, fact_line}
 
 -- A fact's line: its word, its predicate and its terms.

@@ -1,15 +1,24 @@
 -- What is proved of the text: the theorems, what they rest on, and the laws that the code's proofs cite.
+pub mod Numerals
+pub mod Readers
 pub mod Spellings
-pub mod FactLists
+pub mod Forms
+pub mod Requests
 pub mod WholeTexts
 pub mod Theorems
 pub mod Samples
+pub mod Decimals
 pub mod Longest
+pub mod Joined
+pub mod Putting
 pub mod Written
+pub mod Digits
+pub mod Lines
 pub mod Terms
 pub mod FactLines
+pub mod Readings
 pub mod SameLines
 pub mod OnLines
 pub mod LinesSoFar
 pub mod Overviews
-pub mod Handed
+pub mod Fixed

@@ -1,11 +1,11 @@
--- Laws of lines of facts read one after another, each kept by its place: a line that was there before, or that is no fact's, means that
--- there are no such lines, no two alike; and else each adds its fact to those read.
+-- Laws of lines of facts read one after another, each kept by its place: a line that was there before, or that is no fact's, means that there are
+-- no such lines, no two alike; and else each adds its fact to those read.
 use Prim.Native.Nat.{ℕ, suc, ◌+◌, ◌-◌, ◌≤◌, ◌<◌}
-use mathlib.Core.Bool.{true}
+use mathlib.Core.Bool.{true, false}
 use mathlib.Core.Path.{◌≡◌, refl, sym, ap, ap₂, subst, ◌∙◌}
 use mathlib.Core.List.{List, [], ◌∷◌, ◌++◌}
 use mathlib.Core.Logic.{inl, inr}
-use mathlib.Core.Option.{some, none}
+use mathlib.Core.Option.{Option, some, none, some-injective, none-ne-some}
 use native.Mathlib.Numerals.{add-one}
 use native.Mathlib.Omega.{arith}
 use lib.ListN.{length, take, set, replicate, length-append, length-set}
@@ -14,17 +14,13 @@ use Rattle.procap.specs.Lists.{In, Distinct, pad}
 use Rattle.procap.specs.Facts.{Spelled}
 use Rattle.procap.specs.Procaps.{most_facts}
 use Rattle.procap.specs.Bytes.{then, many}
-use Rattle.procap.specs.Deciding.{distinct?, spelled?}
 use Rattle.procap.proofs.Indices.{pad_more}
 use Rattle.procap.proofs.InMore.{in_more, in_last, one_more_distinct}
-use Rattle.procap.proofs.ReadSoFar.{led_by, led_by_nothing, led_more, led_none, led_all}
-use Rattle.lines.specs.Line.{in_a_row}
-use Rattle.lines.proofs.Checked.{is_checked, none_checked}
-use Rattle.lines.proofs.OneByOne.{first_read, first_missing, none_read, led_some}
-use Rattle.text.specs.Reader.{fact_line, distinct_lines}
+use Rattle.procap.proofs.ReadSoFar.{led_by, led_by_nothing, led_by_one, led_more, led_none, led_all}
+use Rattle.text.specs.Reader.{fact_line}
 use Rattle.text.specs.Text.{fact_text, facts_text}
-use Rattle.text.specs.Overviews.{line_starts, places_before, lines_seen}
-use Rattle.text.specs.Places.{ReadsAt, OnLines}
+use Rattle.text.specs.Overviews.{line_starts}
+use Rattle.text.specs.Places.{ReadsAt, OnLines, LinesFound, LinesReads}
 use Rattle.text.specs.declared.fact_places.LinesRead.{LinesRead}
 use Rattle.text.proofs.SameLines.{line_said}
 use Rattle.text.proofs.OnLines.{on_more}
@@ -38,6 +34,12 @@ there_twice x [] ys h d = h
 there_twice x (y ∷ xs) ys (inl e) d = d.0 (in_more y (xs ++ (x ∷ [])) ys (in_last y xs x (sym e)))
 there_twice x (y ∷ xs) ys (inr h) d = there_twice x xs ys h d.1
 
+-- What is read with some values before it begins with these.
+led_some : {A : Type 0} (xs : List A) (o : Option (List A × ℕ)) (zs : List A) (e : ℕ) → led_by xs o ≡ some (zs, e) → (ys : List A) × (zs ≡ xs ++ ys)
+unfolding led_by
+led_some xs none zs e h = absurd (none-ne-some (zs, e) h)
+led_some xs (some r) zs e h = (r.0, sym (ap (λ p. p.0) (some-injective (xs ++ r.0, r.1) (zs, e) h)))
+
 -- ── Where lines begin ──
 
 -- As many places as facts.
@@ -49,7 +51,7 @@ starts_length (f ∷ fs) at = ap suc (starts_length fs (at + length (fact_text f
 -- One line more begins where the others end, and ends as much further on as it is long.
 module _ (f : Spelled) where
   starts_more : (fs : List Spelled) (at : ℕ) → line_starts at (fs ++ (f ∷ [])) ≡ line_starts at fs ++ ((at + length (facts_text fs)) ∷ [])
-  unfolding line_starts in_a_row
+  unfolding line_starts facts_text
   starts_more [] at = let here : at ≡ at + 0 = omega arith in ap (λ p. p ∷ []) here
   starts_more (g ∷ fs) at =
       let here : at + length (fact_text g) + length (facts_text fs) ≡ at + length (fact_text g ++ facts_text fs) =
@@ -57,11 +59,34 @@ module _ (f : Spelled) where
       ap (λ ps. at ∷ ps) (starts_more fs (at + length (fact_text g)) ∙ ap (λ p. line_starts (at + length (fact_text g)) fs ++ (p ∷ [])) here)
 
   longer : (fs : List Spelled) → length (facts_text (fs ++ (f ∷ []))) ≡ length (facts_text fs) + length (fact_text f)
-  unfolding in_a_row
+  unfolding facts_text
   longer [] = simp length-append (omega arith)
   longer (g ∷ fs) = simp length-append (omega (arith, longer fs))
 
 -- ── Lines ──
+
+-- Of so many lines the first is read, and then the others; where it is missing there are none; of no lines nothing is read.
+module _ (text : List ℕ) (at k : ℕ) where
+  module _ (n : ℕ) (more : k ≡ suc n) where
+    first_read : (f : Spelled) (next : ℕ) → ReadsAt text at f next → many (fact_line text) k at ≡ led_by (f ∷ []) (many (fact_line text) n next)
+    unfolding many then
+    first_read f next r = rw (more, r) (led_by_one f (many (fact_line text) n next))
+
+    first_missing : fact_line text at ≡ none → many (fact_line text) k at ≡ none
+    unfolding many then
+    first_missing e = rw (more, e)
+
+  none_read : k ≡ 0 → many (fact_line text) k at ≡ some ([], at)
+  unfolding many
+  none_read e = rw e
+
+-- There are no such lines, no two alike.
+abbrev NoLines : Option (List Spelled × ℕ) → Type 0
+NoLines o = (fs : List Spelled) (e : ℕ) → o ≡ some (fs, e) → Distinct fs → ⊥
+
+-- So it is told.
+pub no_lines_told : (o : Option (List Spelled × ℕ)) (at count : ℕ) (r : LinesRead) → r.found ≡ false → NoLines o → LinesReads o at count r
+no_lines_told o at count r e h = rw e h
 
 -- Of so many lines i are read: their facts, no two alike, and their places.
 pub record LinesSoFar (text : List ℕ) (at count : ℕ) (places : List ℕ) (next i : ℕ) : Type 0 where
@@ -77,7 +102,7 @@ pub record LinesSoFar (text : List ℕ) (at count : ℕ) (places : List ℕ) (ne
 
 -- None yet.
 pub none_so_far : (text : List ℕ) (at count : ℕ) → LinesSoFar text at count (replicate most_facts 0) at 0
-unfolding Distinct OnLines line_starts in_a_row pad
+unfolding Distinct OnLines line_starts facts_text pad
 none_so_far text at count = record {
   few = omega arith;
   room = refl;
@@ -96,20 +121,17 @@ module _ {text : List ℕ} {at count : ℕ} {places : List ℕ} {next i : ℕ} (
     one_left = omega arith
 
     -- The next line is no fact's.
-    pub no_line : fact_line text next ≡ none → distinct_lines text count at ≡ none
-    unfolding distinct_lines then
-    no_line e = rw (led_none h.facts _ h.reads (first_missing (fact_line text) next _ _ one_left e))
+    pub no_line : fact_line text next ≡ none → NoLines (many (fact_line text) count at)
+    no_line e fs end k d = none-ne-some (fs, end) (sym (led_none h.facts _ h.reads (first_missing text next _ _ one_left e)) ∙ k)
 
     -- It is the line of a fact.
     module _ (f : Spelled) (end : ℕ) (r : ReadsAt text next f end) where
       more_read : many (fact_line text) count at ≡ led_by (h.facts ++ (f ∷ [])) (many (fact_line text) (count - (i + 1)) end)
-      more_read = led_more h.facts _ h.reads f _ (first_read (fact_line text) next _ _ one_left f end r)
+      more_read = led_more h.facts _ h.reads f _ (first_read text next _ _ one_left f end r)
 
       -- One that was there before.
-      pub line_twice : In f h.facts → distinct_lines text count at ≡ none
-      unfolding distinct_lines
-      line_twice s =
-          none_checked (distinct? spelled?) _ λ fs e k d.
+      pub line_twice : In f h.facts → NoLines (many (fact_line text) count at)
+      line_twice s fs e k d =
           let rest = led_some (h.facts ++ (f ∷ [])) _ fs e (sym more_read ∙ k) in
           there_twice f h.facts rest.0 s (subst Distinct rest.1 d)
 
@@ -140,17 +162,7 @@ module _ {text : List ℕ} {at count : ℕ} {places : List ℕ} {next i : ℕ} (
       }
 
   -- All are read.
-  module _ (l : count ≤ i) where
-    all_read : distinct_lines text count at ≡ some (h.facts, next)
-    unfolding distinct_lines
-    all_read =
-        is_checked (distinct? spelled?) _ h.facts next
-        (led_all h.facts _ h.reads next (none_read (fact_line text) next _ (omega arith))) h.distinct
-
-    pub all_so_far : ◌≡◌ {A = LinesRead} (record { found = true; count = count; places = places; next = next }) (lines_seen (distinct_lines text count at))
-    unfolding places_before
-    all_so_far =
-        let as_many : count ≡ length h.facts = omega (arith, h.few, h.counted) in
-        let begin : at ≡ next - length (facts_text h.facts) = omega (arith, h.reached) in
-        let begun = h.kept ∙ ap (λ k. pad most_facts 0 (line_starts k h.facts)) begin in
-        rw all_read λ j. record { found = true; count = as_many j; places = begun j; next = next }
+  pub all_so_far : count ≤ i → LinesFound (many (fact_line text) count at) at count true places next
+  all_so_far l =
+      let all : i ≡ count = omega (arith, h.few) in
+      (h.facts, led_all h.facts _ h.reads next (none_read text next _ (omega arith)), h.distinct, h.counted ∙ all, h.kept)

@@ -1,5 +1,5 @@
--- Two lines of facts are the same bytes exactly when they are the same fact: a line that reads as a fact has the bytes of the fact's
--- spelling, and where these bytes stand, this fact is read.
+-- Two lines of facts are the same bytes exactly when they are the same fact: a line that reads as a fact has the bytes of the fact's spelling,
+-- and where these bytes stand, this fact is read.
 use Prim.Native.Nat.{ℕ, ◌+◌, ◌-◌, ◌≤◌, ◌<◌}
 use mathlib.Core.Path.{◌≡◌, sym, ap, ◌∙◌}
 use mathlib.Core.List.{List, ◌++◌}
@@ -10,13 +10,13 @@ use borrow.Author.Count.{below_more}
 use lib.ListN.{length, get_or, take, drop, length-drop, length-append, take-append-drop, get_or-append}
 use lib.Seq.{length-take-le, get_or-take, get_or-drop, drop-drop, ext_get_or}
 use Rattle.procap.specs.Facts.{Spelled}
-use Rattle.procap.specs.Writable.{SpelledInForm}
+use Rattle.procap.proofs.Rebuilt.{SpelledInForm}
 use Rattle.procap.proofs.Readers.{so_read}
-use Rattle.lines.specs.Words.{bytes_of}
-use Rattle.lines.proofs.Readers.{Takes, parted}
+use Rattle.text.specs.Words.{bytes_of}
 use Rattle.text.specs.Text.{fact_text}
 use Rattle.text.specs.Reader.{fact_line}
 use Rattle.text.specs.Places.{ReadsAt}
+use Rattle.text.proofs.Readers.{Takes, parted}
 use Rattle.text.proofs.Spellings.{fact_read, fact_found}
 
 -- ── Bytes at two places ──

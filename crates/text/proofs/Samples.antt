@@ -5,58 +5,42 @@ use mathlib.Core.Path.{◌≡◌, refl}
 use mathlib.Core.List.{List, [], ◌∷◌, ◌++◌}
 use mathlib.Core.Option.{Option, some, none}
 use mathlib.Core.Logic.Dec
-use native.Mathlib.Decide.{ℕ_discrete, dec_lt}
-use Rattle.procap.specs.Lists.{All}
-use Rattle.procap.specs.Facts.{Spelled}
-use Rattle.procap.specs.Procaps.{Paper}
+use native.Mathlib.Decide.{ℕ_discrete}
+use Rattle.procap.specs.Lists.{All, pad}
+use Rattle.procap.specs.Facts.{Spelled, fact_of}
+use Rattle.procap.specs.Procaps.{procap_of}
 use Rattle.procap.specs.Outcome.{go_on}
 use Rattle.procap.specs.Bytes.{then, ensure, many, big_endian, next, number, to_the_end, whole}
-use Rattle.procap.specs.Deciding.{told, goes_with?, all?, in?, distinct?, rising?, lists?, terms?, spelled?}
+use Rattle.procap.specs.Deciding.{told, goes_with?, in?, distinct?, lists?, terms?, spelled?}
 use Rattle.procap.specs.declared.time.Time.TheVariants.{Moment, MinusInfinity, PlusInfinity, Ctime}
 use Rattle.procap.specs.declared.fact.Term.TheVariants.{Name, When}
-use Rattle.lines.specs.Words.{bytes_of}
-use Rattle.lines.specs.Numbers.{is_digit, while_digit, leading_digits, value, one_spelling}
-use Rattle.lines.specs.Line.{literal, digits, number_to, line_to}
-use Rattle.lines.specs.LinesInARow.{at_line, said}
-use Rattle.lines.specs.RequestLines.{request_lines}
-use Rattle.lines.specs.NumberLines.{rising_lines, counted_numbers, number_lines}
-use Rattle.lines.specs.HeadLines.{moment_lines, head_lines}
-use Rattle.text.specs.Reader.{term_with, term, more_terms, terms, fact_line, distinct_lines, fact_lines, paper_lines, text_in}
+use Rattle.procap.specs.declared.procap.Procap.{Procap}
+use Rattle.text.specs.Words.{bytes_of}
+use Rattle.text.specs.Numbers.{is_digit, while_digit, leading_digits, value, one_spelling}
+use Rattle.text.specs.Line.{literal, digits, number_to, line_to}
+use Rattle.text.specs.LinesInARow.{at_line, said}
+use Rattle.text.specs.RequestLines.{request_lines}
+use Rattle.text.specs.Reader.{term_with, term, more_terms, terms, fact_line, moment_lines, procap_with, procap_lines, text_in}
 
 -- To unfold this is to unfold all that its line names.
 unfoldable pub computes : Unit {0}
-unfolding All Dec.and Dec.not ℕ_discrete dec_lt then ensure many big_endian next number to_the_end whole go_on told goes_with? all? in? distinct? rising? lists? terms? spelled? is_digit while_digit leading_digits value one_spelling literal digits number_to line_to term_with term more_terms terms fact_line at_line said request_lines distinct_lines fact_lines rising_lines counted_numbers number_lines moment_lines head_lines paper_lines text_in
+unfolding All pad Dec.and Dec.not ℕ_discrete fact_of procap_of then ensure many big_endian next number to_the_end whole go_on told goes_with? in? distinct? lists? terms? spelled? is_digit while_digit leading_digits value one_spelling literal digits number_to line_to term_with term more_terms terms fact_line at_line said request_lines moment_lines procap_with procap_lines text_in
 computes = tt
 
 -- A text, and the procap that it says, or none.
 pub record Sample : Type 0 where
   pub text : List ℕ
-  pub says : Option Paper
+  pub says : Option Procap
 
 abbrev pub ComesOut : Sample → Type 0
 ComesOut x = text_in x.text ≡ x.says
 
--- The procap of a version for 2, 7, 9 from 1000 to 2000 that used these numbers and lists these facts; one of version 1; and one that lists
--- none.
-abbrev pub procap_with : ℕ → List ℕ → List Spelled → Paper
-procap_with version used facts =
-    record { version = version; request = record { who = 2; what = 7; right = 9 }; from = 1000; to = 2000; used = used; facts = facts }
-
-abbrev pub listing : List Spelled → Paper
-listing facts = procap_with 1 [] facts
-
-abbrev pub numbering : List ℕ → Paper
-numbering used = procap_with 2 used []
-
--- The text of a version with these lines behind its head; one of version 1; and one of version 2.
-abbrev pub of_version : String → String → List ℕ
-of_version version lines = bytes_of "procap=" ++ bytes_of version ++ bytes_of "\nwho=2\nwhat=7\nright=9\nfrom=1000\nto=2000\n" ++ bytes_of lines
+-- The procap for 2, 7, 9 from 1000 to 2000 that lists these facts, and the lines of such a text before those of facts.
+abbrev pub listing : List Spelled → Procap
+listing fs = procap_of (record { who = 2; what = 7; right = 9 }) 1000 2000 fs
 
 abbrev pub with_lines : String → List ℕ
-with_lines lines = of_version "1" lines
-
-abbrev pub with_numbers : String → List ℕ
-with_numbers lines = of_version "2" lines
+with_lines facts = bytes_of "procap=1\nwho=2\nwhat=7\nright=9\nfrom=1000\nto=2000\n" ++ bytes_of facts
 
 abbrev pub no_text : List ℕ → Sample
 no_text text = record { text = text; says = none }
@@ -98,6 +82,9 @@ samples =
     ∷
     no_text (bytes_of "procap=01\nwho=2\nwhat=7\nright=9\nfrom=1000\nto=2000\nfacts=0\n")
     ∷
+    -- Another version.
+    no_text (bytes_of "procap=2\nwho=2\nwhat=7\nright=9\nfrom=1000\nto=2000\nfacts=0\n")
+    ∷
     -- From after to.
     no_text (bytes_of "procap=1\nwho=2\nwhat=7\nright=9\nfrom=2001\nto=2000\nfacts=0\n")
     ∷
@@ -118,42 +105,8 @@ samples =
     ∷
     no_text (with_lines "facts=17\n")
     ∷
-    -- Version 2: with no number, with the least, and with two, the larger the largest.
-    record { text = with_numbers "certs=0\nfacts=0\n"; says = some (numbering []) }
-    ∷
-    record { text = with_numbers "certs=1\ncert=0\nfacts=1\nfact=200 n7\n"; says = some (procap_with 2 (0 ∷ []) ((200, Name 7 ∷ []) ∷ [])) }
-    ∷
-    record { text = with_numbers "certs=2\ncert=9\ncert=65535\nfacts=0\n"; says = some (numbering (9 ∷ 65_535 ∷ [])) }
-    ∷
-    -- No line says how many, and one does in version 1.
-    no_text (with_numbers "facts=0\n")
-    ∷
-    no_text (with_lines "certs=0\nfacts=0\n")
-    ∷
-    -- More numbers than may be, fewer than counted, and more.
-    no_text (with_numbers "certs=33\nfacts=0\n")
-    ∷
-    no_text (with_numbers "certs=1\nfacts=0\n")
-    ∷
-    no_text (with_numbers "certs=0\ncert=7\nfacts=0\n")
-    ∷
-    -- Equal numbers, and falling ones.
-    no_text (with_numbers "certs=2\ncert=7\ncert=7\nfacts=0\n")
-    ∷
-    no_text (with_numbers "certs=2\ncert=8\ncert=7\nfacts=0\n")
-    ∷
-    -- A zero in front of a number, and one above the largest.
-    no_text (with_numbers "certs=1\ncert=07\nfacts=0\n")
-    ∷
-    no_text (with_numbers "certs=1\ncert=65536\nfacts=0\n")
-    ∷
-    -- The versions before the first and after the latest.
-    no_text (of_version "0" "facts=0\n")
-    ∷
-    no_text (of_version "3" "certs=0\nfacts=0\n")
-    ∷
     []
 
 pub samples_come_out : All ComesOut samples
 unfolding computes
-samples_come_out = (refl, (refl, (refl, (refl, (refl, (refl, (refl, (refl, (refl, (refl, (refl, (refl, (refl, (refl, (refl, (refl, (refl, (refl, (refl, (refl, (refl, (refl, (refl, (refl, (refl, (refl, (refl, (refl, (refl, (refl, (refl, (refl, tt))))))))))))))))))))))))))))))))
+samples_come_out = (refl, (refl, (refl, (refl, (refl, (refl, (refl, (refl, (refl, (refl, (refl, (refl, (refl, (refl, (refl, (refl, (refl, (refl, (refl, tt)))))))))))))))))))

@@ -16,10 +16,10 @@ use Rattle.procap.specs.declared.fact.Term.TheVariants.{Name, When}
 use Rattle.procap.specs.declared.tag.TermTag.TheVariants.{NameTag, MomentTag}
 use Rattle.procap.proofs.Numbers.{byte_read, byte_none}
 use Rattle.procap.proofs.ReadSoFar.{led_by, led_by_one}
-use Rattle.lines.specs.Words.{bytes_of}
-use Rattle.lines.specs.Line.{number_to, literal}
-use Rattle.lines.proofs.Lines.{literal_same, literal_other, literal_past}
+use Rattle.text.specs.Words.{bytes_of}
+use Rattle.text.specs.Line.{number_to, literal}
 use Rattle.text.specs.Reader.{term_letter, term_with, term, terms, more_terms, space}
+use Rattle.text.proofs.Lines.{literal_same, literal_other, literal_past}
 
 module _ (text : List ℕ) (at : ℕ) where
   -- A name and a moment are their numbers, or none.

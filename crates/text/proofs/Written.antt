@@ -5,7 +5,6 @@ use mathlib.Core.List.{List}
 use native.Mathlib.Decide.{dec_le}
 use native.Mathlib.Omega.{arith}
 use lib.ListN.{length}
-use Rattle.procap.specs.Procaps.{paper_of}
 use Rattle.procap.specs.Outcome.{granted, refused, go_on, answer_of}
 use Rattle.procap.specs.Writable.{Writable}
 use Rattle.procap.specs.Deciding.{writable?}
@@ -40,13 +39,13 @@ module _ (p : Procap) (room : ℕ) where
   cannot_be_written n = rw (is_not_so ProcapMalformed (writable? p) n) refl
 
   -- Of one that can be written, it is up to the room.
-  pub can_be_written : Writable p → writing p room ≡ fitting (text_of (paper_of p)) room
+  pub can_be_written : Writable p → writing p room ≡ fitting (text_of p) room
   unfolding writing
   can_be_written w = goes_on _ _ tt (is_so ProcapMalformed (writable? p) w)
 
   -- Where it fits, the text is written.
-  pub is_written : Writable p → length (text_of (paper_of p)) ≤ room → writing p room ≡ granted (text_of (paper_of p))
-  is_written w l = can_be_written w ∙ fits (text_of (paper_of p)) room l
+  pub is_written : Writable p → length (text_of p) ≤ room → writing p room ≡ granted (text_of p)
+  is_written w l = can_be_written w ∙ fits (text_of p) room l
 
 -- A refusal writes nothing: its answer is handed back with the length 0, and the buffer is as it was.
 pub wrote_nothing : (answer : Answer) (before : List ℕ) (w : WrittenText) → w ≡ record { answer = answer; length = 0 }

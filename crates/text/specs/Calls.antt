@@ -1,17 +1,27 @@
 -- What the reader and the writer of the text answer, and what the writer leaves in the buffer.
 use Rattle.std.specs.Prelude.{ℕ, ◌≡◌, List, ◌++◌, length, drop}
+use Rattle.std.proofs.Math.Option.{Option}
 use Rattle.std.proofs.Math.Decide.{dec_le}
-use Rattle.procap.specs.Procaps.{Paper, paper_of}
 use Rattle.procap.specs.Outcome.{Outcome, granted, refused, go_on, or_else, require, answer_of}
+use Rattle.procap.specs.Bytes.{to_the_end}
 use Rattle.procap.specs.Deciding.{writable?}
 use Rattle.procap.specs.declared.answer.Answer.TheVariants.{ProcapMalformed, BufferShort}
+use Rattle.procap.specs.declared.procap.Request.{Request}
 use Rattle.procap.specs.declared.procap.Procap.{Procap}
 use Rattle.text.specs.Text.{text_of}
-use Rattle.text.specs.Reader.{text_in}
+use Rattle.text.specs.Reader.{procap_with, text_in}
 use Rattle.text.specs.declared.writer.WrittenText.{WrittenText}
 
+-- [Numbers 12] The procap that was read, if it ends where the bytes do.
+abbrev pub read_to_the_end : List ℕ → Option (Procap × ℕ) → Outcome Procap
+read_to_the_end bytes o = or_else ProcapMalformed (to_the_end bytes o)
+
+-- The same of what comes after the moments: the lines of the facts, for a request and two moments that were read.
+abbrev pub facts_to_the_end : List ℕ → Request → ℕ → ℕ → ℕ → Outcome Procap
+facts_to_the_end bytes request from to at = read_to_the_end bytes (procap_with bytes request from to at)
+
 -- [Numbers 12; D8] The procap that the bytes say.
-unfoldable pub reading : List ℕ → Outcome Paper
+unfoldable pub reading : List ℕ → Outcome Procap
 reading bytes = or_else ProcapMalformed (text_in bytes)
 
 -- [Numbers 13] A text that is to be written, into a buffer with so much room.
@@ -20,7 +30,7 @@ fitting text room = go_on (require BufferShort (dec_le (length text) room)) λ _
 
 -- [Numbers 12, 13] The procap's text, into a buffer with so much room: 12 comes before 13.
 unfoldable pub writing : Procap → ℕ → Outcome (List ℕ)
-writing p room = go_on (require ProcapMalformed (writable? p)) λ _. fitting (text_of (paper_of p)) room
+writing p room = go_on (require ProcapMalformed (writable? p)) λ _. fitting (text_of p) room
 
 -- [Numbers, refusals] The length that the writer gives: the text's, and 0 when it refuses.
 unfoldable pub length_given : Outcome (List ℕ) → ℕ

@@ -1,11 +1,11 @@
 -- [Text] What reads as a procap. A reader goes from a place to a value and the place after it.
-use Rattle.std.specs.Prelude.{ℕ, zero, suc, List, [], ◌∷◌, eqb}
+use Rattle.std.specs.Prelude.{ℕ, zero, suc, List, [], ◌∷◌, leb, eqb}
 use Prim.Native.Char.{code}
 use Rattle.std.proofs.Math.Option.{Option}
 use Rattle.procap.specs.Tells.{pick}
 use Rattle.procap.specs.Times.{latest}
 use Rattle.procap.specs.Facts.{Spelled, most_terms}
-use Rattle.procap.specs.Procaps.{Paper, most_facts}
+use Rattle.procap.specs.Procaps.{most_facts, version_one, procap_of}
 use Rattle.procap.specs.Writable.{largest_name}
 use Rattle.procap.specs.Bytes.{Reader, ◌>>=◌, give, fail, ensure, many, byte, whole}
 use Rattle.procap.specs.Deciding.{told, distinct?, spelled?}
@@ -14,10 +14,12 @@ use Rattle.procap.specs.declared.fact.Term.{Term}
 use Rattle.procap.specs.declared.fact.Term.TheVariants.{Name, When}
 use Rattle.procap.specs.declared.tag.TermTag.{TermTag}
 use Rattle.procap.specs.declared.tag.TermTag.TheVariants.{NameTag, MomentTag, MinusInfinityTag, PlusInfinityTag, CtimeTag, VariableTag, NoTermTag}
-use Rattle.lines.specs.Words.{bytes_of}
-use Rattle.lines.specs.Line.{literal, number_to, line_to}
-use Rattle.lines.specs.HeadLines.{PaperHead, head_lines}
-use Rattle.lines.specs.NumberLines.{number_lines}
+use Rattle.procap.specs.declared.procap.Request.{Request}
+use Rattle.procap.specs.declared.procap.Procap.{Procap}
+use Rattle.text.specs.Words.{bytes_of}
+use Rattle.text.specs.Line.{literal, number_to, line_to}
+use Rattle.text.specs.LinesInARow.{uncounted}
+use Rattle.text.specs.RequestLines.{request_lines}
 
 -- [Text] The term that a letter or a sign announces.
 abbrev pub term_letter : ℕ → TermTag
@@ -36,10 +38,6 @@ pub data Mark : Type 0 where
 
 abbrev pub mark_of : ℕ → Mark
 mark_of b = pick (eqb b (code " ")) space (pick (eqb b (code "\n")) line_end no_mark)
-
--- The procap on paper with this head, these numbers and these facts.
-abbrev pub paper_with : PaperHead → List ℕ → List Spelled → Paper
-paper_with h used facts = record { version = h.version; request = h.request; from = h.from; to = h.to; used = used; facts = facts }
 
 module _ (bytes : List ℕ) where
   -- [Text] A term by its letter: names and moments have their ranges.
@@ -88,27 +86,31 @@ module _ (bytes : List ℕ) where
     ts ← terms most_terms
     give (p, ts)
 
-  -- [Text] So many lines of facts, none repeated.
-  unfoldable pub distinct_lines : ℕ → Reader (List Spelled)
-  distinct_lines count = do
+  -- [Text] The two lines of moments, in order.
+  unfoldable pub moment_lines : Reader (ℕ × ℕ)
+  moment_lines = do
+    from ← line_to bytes (bytes_of "from=") latest
+    to ← line_to bytes (bytes_of "to=") latest
+    _ ← ensure (leb from to)
+    give (from, to)
+
+  -- [Text] The lines of facts, few and none repeated, and the procap of these with a request and two moments.
+  unfoldable pub procap_with : Request → ℕ → ℕ → Reader Procap
+  procap_with r from to = do
+    count ← line_to bytes (bytes_of "facts=") most_facts
     fs ← many fact_line count
     _ ← ensure (told (distinct? spelled? fs))
-    give fs
+    give (procap_of r from to fs)
 
-  -- [Text] The facts: how many, and so many lines.
-  unfoldable pub fact_lines : Reader (List Spelled)
-  fact_lines = do
-    count ← line_to bytes (bytes_of "facts=") most_facts
-    distinct_lines count
-
-  -- [Text] All lines: the head, the numbers by its version, and the facts.
-  unfoldable pub paper_lines : Reader Paper
-  paper_lines = do
-    h ← head_lines bytes
-    used ← number_lines bytes h.version
-    facts ← fact_lines
-    give (paper_with h used facts)
+  -- [Text; D50] All lines.
+  unfoldable pub procap_lines : Reader Procap
+  procap_lines = do
+    version ← line_to bytes (bytes_of "procap=") version_one
+    _ ← ensure (eqb version version_one)
+    r ← uncounted (request_lines bytes)
+    m ← moment_lines
+    procap_with r m.0 m.1
 
 -- [Text] The procap that a text says, with nothing after it; `none` for what is no text.
-unfoldable pub text_in : List ℕ → Option Paper
-text_in bytes = whole bytes (paper_lines bytes)
+unfoldable pub text_in : List ℕ → Option Procap
+text_in bytes = whole bytes (procap_lines bytes)

@@ -1,42 +1,29 @@
 // Where the lines of facts stand in a text: each place is enough to read its fact again, so that no fact is carried along.
-ghost use Rattle.std.specs.Prelude.{◌≡◌, ◌≤◌};
+ghost use Rattle.std.specs.Prelude.{Bool, ◌≡◌, ◌≤◌};
 ghost use Rattle.procap.specs.Procaps.{most_facts};
-ghost use Rattle.text.specs.Reader.{distinct_lines, fact_lines};
-ghost use Rattle.text.specs.Overviews.{no_lines, lines_seen};
-ghost use Rattle.text.specs.Places.{StandsBefore, SameLine, FactsOn};
+ghost use Rattle.procap.specs.Bytes.{many};
+ghost use Rattle.text.specs.Reader.{fact_line};
+ghost use Rattle.text.specs.Places.{LinesReads, StandsBefore, SameLine, FactsOn};
 
 use crate::facts::fact_at;
-use lines::line::line;
-use procap::bytes::NumberRead;
 use procap::fact::Fact;
 use procap::procap::MOST_FACTS;
 
 // How many bytes the word takes with which every line of a fact begins.
 const WORD_BYTES: usize = 5;
 
-// Whether lines of facts were read, no two of them alike, how many, where each begins, and the place after them.
+// Whether lines of facts were read, no two of them alike, where each begins, and the place after them.
 #[derive(Drop)]
 pub struct LinesRead {
     pub found: bool,
-    pub count: usize,
     pub places: [usize; MOST_FACTS],
     pub next: usize,
 }
 
-// The facts at a place: how many, and so many lines.
-pub(crate) fn fact_lines_at(text: &[u8], at: usize) -> LinesRead
-    ensures { result ≡ lines_seen (fact_lines text.now at) }
-{
-    let NumberRead::Number(count, after_count) = line(text, at, b"facts=", MOST_FACTS as u64) else {
-        return no_lines();
-    };
-    lines_at(text, after_count, count as usize)
-}
-
-// So many lines of facts at a place, no two of them alike.
-fn lines_at(text: &[u8], at: usize, count: usize) -> LinesRead
+// So many lines of facts at a place.
+pub(crate) fn lines_at(text: &[u8], at: usize, count: usize) -> LinesRead
     requires { count ≤ most_facts }
-    ensures { result ≡ lines_seen (distinct_lines text.now count at) }
+    ensures { LinesReads (many (fact_line text.now) count at) at count result }
 {
     let mut places = [0usize; MOST_FACTS];
     let mut next = at;
@@ -55,7 +42,6 @@ fn lines_at(text: &[u8], at: usize, count: usize) -> LinesRead
     }
     LinesRead {
         found: true,
-        count: count,
         places: places,
         next: next,
     }
@@ -63,11 +49,10 @@ fn lines_at(text: &[u8], at: usize, count: usize) -> LinesRead
 
 // What is handed back where a line is no fact's, or two are alike.
 fn no_lines() -> LinesRead
-    ensures { result ≡ no_lines }
+    ensures { result.found ≡ Bool.false }
 {
     LinesRead {
         found: false,
-        count: 0,
         places: [0usize; MOST_FACTS],
         next: 0,
     }

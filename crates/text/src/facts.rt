@@ -3,7 +3,7 @@ ghost use Rattle.procap.specs.Facts.{most_terms};
 ghost use Rattle.procap.specs.Reading.{TermReads, FactReads, with_predicate};
 ghost use Rattle.text.specs.Reader.{«term», term_with, «terms», fact_line};
 
-use lines::line::{Place, after, number};
+use crate::line::{Place, after, number};
 use procap::bytes::{FactRead, NumberRead, TermRead};
 use procap::fact::{Argument, Fact, MOST_TERMS, Term};
 use procap::tag::TermTag;

@@ -1,16 +1,19 @@
 // From a text to the procap that it says.
-ghost use Rattle.std.specs.Prelude.{◌≡◌};
+ghost use Rattle.std.specs.Prelude.{Bool, ◌≡◌};
 ghost use Rattle.procap.specs.Procaps.{empty_procap};
 ghost use Rattle.procap.specs.Outcome.{answer_of, procap_handed};
-ghost use Rattle.text.specs.Reader.{paper_lines};
-ghost use Rattle.text.specs.Overviews.{nothing_seen, overview_at, overview_of};
-ghost use Rattle.text.specs.Calls.{reading};
+ghost use Rattle.text.specs.Reader.{moment_lines};
+ghost use Rattle.text.specs.Overviews.{nothing_seen, overview_of};
+ghost use Rattle.text.specs.Places.{MomentsReads};
+ghost use Rattle.text.specs.Calls.{facts_to_the_end, reading};
 
-use crate::fact_places::{fact_lines_at, facts_on};
-use lines::head::head_at;
-use lines::numbers::numbers_at;
+use crate::fact_places::{facts_on, lines_at};
+use crate::line::{Form, line};
+use crate::request::request_at;
 use procap::answer::Answer;
-use procap::procap::{MOST_FACTS, Numbers, Procap, Request};
+use procap::bytes::NumberRead;
+use procap::procap::{MOST_FACTS, Procap, Request, VERSION};
+use procap::time::LATEST_SECOND;
 
 // The answer of reading a text, and the procap that it says.
 #[derive(Drop)]
@@ -19,19 +22,24 @@ pub struct ReadText {
     pub procap: Procap,
 }
 
-// Whether there is a text, and then its version, its request, its moments, the numbers that its proof used, how many facts it has, where
-// their lines begin, and the place after it.
+// Whether bytes are a text, and then its request, its moments, how many facts it has and where their lines begin.
 #[derive(Drop)]
 pub struct Overview {
     pub found: bool,
-    pub version: u8,
     pub request: Request,
     pub from: u64,
     pub to: u64,
-    pub used: Numbers,
     pub count: usize,
     pub places: [usize; MOST_FACTS],
-    pub next: usize,
+}
+
+// Whether two moments were read, the two, and the place after them.
+#[derive(Drop)]
+struct MomentsRead {
+    found: bool,
+    from: u64,
+    to: u64,
+    next: usize,
 }
 
 // The procap that the text says: 12 and the empty procap for what is not exactly a text.
@@ -46,13 +54,11 @@ pub fn read_text(text: &[u8]) -> ReadText
     let count = seen.count;
     let places = seen.places;
     let request = seen.request;
-    let used = seen.used;
     let procap = Procap {
-        version: seen.version,
+        version: VERSION,
         request: request,
         from: seen.from,
         to: seen.to,
-        used: used,
         count: count,
         facts: facts_on(text, places, count),
     };
@@ -62,46 +68,53 @@ pub fn read_text(text: &[u8]) -> ReadText
     }
 }
 
-// Whether the bytes are a text, with nothing after it, and what it says but for its facts.
+// Whether the bytes are a text, and then its request, its moments and where the lines of its facts begin.
 pub fn look_over(text: &[u8]) -> Overview
     ensures { result ≡ overview_of text.now (reading text.now) }
 {
-    let seen = look_over_at(text, 0);
-    if seen.next != text.len() {
+    let NumberRead::Number(version, after_version) = line(text, 0, b"procap=", VERSION as u64)
+    else {
+        return nothing_seen();
+    };
+    if version == 0 {
         return nothing_seen();
     }
-    seen
+    let asked = request_at(text, after_version);
+    let form = asked.form;
+    if let Form::BrokenAt(_) = form {
+        return nothing_seen();
+    }
+    let moments = moments_at(text, asked.next);
+    if !moments.found {
+        return nothing_seen();
+    }
+    let request = asked.request;
+    look_over_facts(text, request, moments.from, moments.to, moments.next)
 }
 
-// Whether a text begins at a place, what it says but for its facts, and where it ends: that is where its own counts say.
-pub fn look_over_at(text: &[u8], at: usize) -> Overview
-    ensures { result ≡ overview_at (paper_lines text.now at) }
+// The same of a request, two moments and the facts from a place to the end of the text.
+fn look_over_facts(text: &[u8], request: Request, from: u64, to: u64, at: usize) -> Overview
+    ensures { result ≡ overview_of text.now (facts_to_the_end text.now request from to at) }
 {
-    let head = head_at(text, at);
-    if !head.found {
+    let NumberRead::Number(facts, after_count) = line(text, at, b"facts=", MOST_FACTS as u64) else {
+        return nothing_seen();
+    };
+    let count = facts as usize;
+    let lines = lines_at(text, after_count, count);
+    if !lines.found {
         return nothing_seen();
     }
-    let numbers = numbers_at(text, head.next, head.version);
-    if !numbers.found {
+    if lines.next != text.len() {
         return nothing_seen();
     }
-    let facts = fact_lines_at(text, numbers.next);
-    if !facts.found {
-        return nothing_seen();
-    }
-    let request = head.request;
-    let used = numbers.used;
-    let places = facts.places;
+    let places = lines.places;
     Overview {
         found: true,
-        version: head.version,
         request: request,
-        from: head.from,
-        to: head.to,
-        used: used,
-        count: facts.count,
+        from: from,
+        to: to,
+        count: count,
         places: places,
-        next: facts.next,
     }
 }
 
@@ -110,17 +123,13 @@ fn nothing_seen() -> Overview
     ensures { result ≡ nothing_seen }
 {
     let request = Request::none();
-    let used = Numbers::none();
     Overview {
         found: false,
-        version: 0,
         request: request,
         from: 0,
         to: 0,
-        used: used,
         count: 0,
         places: [0usize; MOST_FACTS],
-        next: 0,
     }
 }
 
@@ -133,5 +142,38 @@ fn no_text() -> ReadText
     ReadText {
         answer: Answer::ProcapMalformed,
         procap: empty,
+    }
+}
+
+// The two lines of moments at a place, from <= to.
+fn moments_at(text: &[u8], at: usize) -> MomentsRead
+    ensures { MomentsReads (moment_lines text.now at) result }
+{
+    let NumberRead::Number(from, after_from) = line(text, at, b"from=", LATEST_SECOND) else {
+        return no_moments();
+    };
+    let NumberRead::Number(to, next) = line(text, after_from, b"to=", LATEST_SECOND) else {
+        return no_moments();
+    };
+    if to < from {
+        return no_moments();
+    }
+    MomentsRead {
+        found: true,
+        from: from,
+        to: to,
+        next: next,
+    }
+}
+
+// What is handed back where no two moments were read.
+fn no_moments() -> MomentsRead
+    ensures { result.found ≡ Bool.false }
+{
+    MomentsRead {
+        found: false,
+        from: 0,
+        to: 0,
+        next: 0,
     }
 }

@@ -1,39 +1,23 @@
 // A procap, or a refusal, spelled into a buffer that has room for its text.
 ghost use Rattle.std.specs.Prelude.{◌≡◌, ◌++◌, ◌+◌, ◌≤◌, length};
 ghost use Rattle.procap.specs.Facts.{spelled, most_terms};
-ghost use Rattle.procap.specs.Procaps.{listed, numbered, most_numbers, paper_of};
+ghost use Rattle.procap.specs.Procaps.{listed};
 ghost use Rattle.procap.specs.Writable.{Writable};
-ghost use Rattle.lines.specs.Numbers.{decimal};
-ghost use Rattle.lines.specs.Line.{line};
-ghost use Rattle.lines.specs.Buffers.{put_at};
-ghost use Rattle.lines.specs.HeadLines.{head_text};
-ghost use Rattle.lines.specs.NumberLines.{certs_text, numbers_text};
-ghost use Rattle.text.specs.Text.{term_text, terms_text, fact_text, facts_text, head_of, text_of, refusal_text};
+ghost use Rattle.text.specs.Numbers.{decimal};
+ghost use Rattle.text.specs.Text.{line, term_text, terms_text, fact_text, facts_text, text_of, refusal_text};
+ghost use Rattle.text.specs.Buffers.{put_at};
 
 use procap::answer::Answer;
 use procap::fact::{Fact, Term};
-use procap::procap::{FIRST_WITH_NUMBERS, Numbers, Procap};
+use procap::procap::Procap;
 use procap::time::Time;
 
 // Puts the text of the procap at the front of the buffer, and gives its length.
 pub(crate) fn spell(out: &mut [u8], procap: Procap) -> usize
     requires form { Writable procap }
-    requires room { length (text_of (paper_of procap)) ≤ length out.old }
-    ensures length { result ≡ length (text_of (paper_of procap)) }
-    ensures buffer { out.new ≡ put_at 0 (text_of (paper_of procap)) out.old }
-{
-    let used = procap.used;
-    let mut at = put_head(out, procap);
-    at = put_numbers(out, at, procap.version, used);
-    at = put_line(out, at, b"facts=", procap.count as u64);
-    put_facts(out, at, procap)
-}
-
-// Puts the lines that the procap's text begins with at the front of the buffer, and gives the place after them.
-fn put_head(out: &mut [u8], procap: Procap) -> usize
-    requires room { length (head_text (head_of (paper_of procap))) ≤ length out.old }
-    ensures length { result ≡ length (head_text (head_of (paper_of procap))) }
-    ensures buffer { out.new ≡ put_at 0 (head_text (head_of (paper_of procap))) out.old }
+    requires room { length (text_of procap) ≤ length out.old }
+    ensures length { result ≡ length (text_of procap) }
+    ensures buffer { out.new ≡ put_at 0 (text_of procap) out.old }
 {
     let request = procap.request;
     let mut at = put_line(out, 0, b"procap=", procap.version as u64);
@@ -41,38 +25,9 @@ fn put_head(out: &mut [u8], procap: Procap) -> usize
     at = put_line(out, at, b"what=", request.what as u64);
     at = put_line(out, at, b"right=", request.right as u64);
     at = put_line(out, at, b"from=", procap.from);
-    put_line(out, at, b"to=", procap.to)
-}
-
-// Puts the lines of the numbers of a procap of a version at a place, and gives the place after them: before version 2 there are none.
-fn put_numbers(out: &mut [u8], at: usize, version: u8, used: Numbers) -> usize
-    requires few { used.count ≤ most_numbers }
-    requires room { at + length (numbers_text version (numbered used)) ≤ length out.old }
-    ensures next { result ≡ at + length (numbers_text version (numbered used)) }
-    ensures buffer { out.new ≡ put_at at (numbers_text version (numbered used)) out.old }
-{
-    if version < FIRST_WITH_NUMBERS {
-        return at;
-    }
-    let next = put_line(out, at, b"certs=", used.count as u64);
-    put_certs(out, next, used)
-}
-
-// Puts the lines of the numbers at a place, and gives the place after them.
-fn put_certs(out: &mut [u8], at: usize, used: Numbers) -> usize
-    requires few { used.count ≤ most_numbers }
-    requires room { at + length (certs_text (numbered used)) ≤ length out.old }
-    ensures next { result ≡ at + length (certs_text (numbered used)) }
-    ensures buffer { out.new ≡ put_at at (certs_text (numbered used)) out.old }
-{
-    let count = used.count;
-    let mut next = at;
-    let mut i: usize = 0;
-    while i < count {
-        next = put_line(out, next, b"cert=", used.numbers[i] as u64);
-        i += 1;
-    }
-    next
+    at = put_line(out, at, b"to=", procap.to);
+    at = put_line(out, at, b"facts=", procap.count as u64);
+    put_facts(out, at, procap)
 }
 
 // Puts the two lines of a refusal at the front of the buffer, and gives their length.

@@ -9,7 +9,7 @@ use procap::procap::Procap;
 use procap::writable::can_be_written;
 
 // How long a text is at the most.
-pub const MOST_TEXT: usize = 1_584;
+pub const MOST_TEXT: usize = 1_223;
 // How long the two lines of a refusal are at the most, whatever its place.
 const MOST_REFUSAL: usize = 38;
 
@@ -20,8 +20,7 @@ pub struct WrittenText {
     pub length: usize,
 }
 
-// Writes the procap's text at the front of the buffer: 12 for a value that cannot be written, then 13 for a buffer that is shorter than the
-// text.
+// Writes the procap's text at the front of the buffer: 12 for a value that cannot be written, then 13 for a buffer that is shorter than the text.
 pub fn write_text(procap: Procap, out: &mut [u8]) -> WrittenText
     ensures { Wrote (writing procap (length out.old)) out.old result out.new }
 {

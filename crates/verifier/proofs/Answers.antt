@@ -8,16 +8,13 @@ use mathlib.Core.Option.{Option, some, none}
 use lib.ListN.{length}
 use Rattle.procap.specs.Times.{latest}
 use Rattle.procap.specs.Facts.{Spelled}
-use Rattle.procap.specs.Procaps.{Paper, version_number, numbers_of, empty_procap, procap_of}
+use Rattle.procap.specs.Procaps.{empty_procap, procap_of}
 use Rattle.procap.specs.States.{stated}
 use Rattle.procap.specs.Desk.{read_press}
 use Rattle.procap.specs.Outcome.{Outcome, granted, refused, go_on, or_else, answer_of, procap_handed}
 use Rattle.procap.specs.declared.answer.Answer.{Answer}
 use Rattle.procap.specs.declared.answer.Answer.TheVariants.{Granted, ProofMalformed, NoMomentLeft, StateMalformed, MomentAboveLatest}
-use Rattle.procap.specs.declared.fact.Fact.{Fact}
-use Rattle.procap.specs.declared.procap.Version.{Version}
 use Rattle.procap.specs.declared.procap.Request.{Request}
-use Rattle.procap.specs.declared.procap.Numbers.{Numbers}
 use Rattle.procap.specs.declared.procap.Procap.{Procap}
 use Rattle.procap.proofs.Granted.{goes_on, is_so, is_not_so, reads_press}
 use Rattle.state.specs.Standing.{WellFormed}
@@ -26,12 +23,11 @@ use Rattle.bl.specs.Trees.{Check}
 use Rattle.bl.specs.Certificates.{statements}
 use Rattle.bl.specs.Strength.{pairs_in}
 use Rattle.bl.specs.Policy.{Policy, policy_in}
-use Rattle.bl.specs.Named.{used}
 use Rattle.bl.specs.Questions.{done}
 use Rattle.bl.specs.Steps.{proof_in}
 use Rattle.bl.specs.Walk.{walk}
 use Rattle.bl.specs.Readings.{Kept, start, office, press, run}
-use Rattle.bl.specs.Calls.{read_case, carried, paper_for, issue, verified, directly}
+use Rattle.bl.specs.Calls.{read_case, issue, verified, directly}
 use Rattle.bl.proofs.Called.{policy_from, case_read}
 use Rattle.ledger.specs.declared.Reading.{Reading}
 use Rattle.ledger.specs.declared.Reading.TheVariants.{Office, Press}
@@ -39,11 +35,9 @@ use Rattle.ledger.specs.declared.Stop.{Stop}
 use Rattle.ledger.specs.declared.Stop.TheVariants.{Going, Stopped}
 use Rattle.ledger.specs.declared.Ledger.{Ledger}
 use Rattle.verifier.specs.declared.verify.Verified.{Verified}
-use Rattle.ledger.specs.Books.{begun, stop_of, Book, book, list_numbers, Sound, kept_of, facts_said, resume}
-use Rattle.ledger.specs.Asking.{held_facts}
+use Rattle.ledger.specs.Books.{begun, stop_of, Book, book, list_numbers, Sound, facts_in, kept_of, facts_said, resume}
 use Rattle.ledger.proofs.Giving.{stop_refused, stop_going}
-use Rattle.ledger.proofs.Listing.{held_kept}
-use Rattle.verifier.specs.Verifying.{Taken, Walked, Stops, first_of, PolicyTaken, CaseReads, verified_case, checked_case, HandsOver}
+use Rattle.verifier.specs.Verifying.{Taken, Walked, Stops, first_of, PolicyRead, CaseReads, verified_case, checked_case, HandsOver}
 use Rattle.steps.specs.Ends.{ToldChecking}
 use Rattle.verifier.proofs.CertificateLaws.{statements_count}
 use Rattle.verifier.proofs.WalkBegins.{office_begins, press_begins}
@@ -51,12 +45,12 @@ use Rattle.verifier.proofs.WalkBegins.{office_begins, press_begins}
 -- ── Outcomes that are handed over ──
 
 -- A refusal.
-hands_refusal : (o : Outcome Paper) (answer : Answer) (r : Verified) → o ≡ refused answer → r ≡ record { answer = answer; procap = empty_procap } → HandsOver o r
+hands_refusal : (o : Outcome Procap) (answer : Answer) (r : Verified) → o ≡ refused answer → r ≡ record { answer = answer; procap = empty_procap } → HandsOver o r
 unfolding answer_of procap_handed
 hands_refusal o answer r e f = rw e (record { answer = ap (λ x. x.answer) f; procap = ap (λ x. x.procap) f })
 
 -- A grant.
-hands_grant : (o : Outcome Paper) (p : Paper) (r : Verified) → o ≡ granted p → r.answer ≡ Granted → r.procap ≡ procap_of p → HandsOver o r
+hands_grant : (o : Outcome Procap) (p : Procap) (r : Verified) → o ≡ granted p → r.answer ≡ Granted → r.procap ≡ p → HandsOver o r
 unfolding answer_of procap_handed
 hands_grant o p r e f g = rw e (record { answer = f; procap = g })
 
@@ -77,27 +71,15 @@ stopped_not_going e = let z : ◌≡◌ {A = ℕ} 0 1 = cc in omega arith
 
 -- ── The end ──
 
-module _ (version : Version) (r : Request) (ns : List ℕ) (l : Ledger) (list : List ℕ) (v : Verified) where
-  -- What is issued of the ledger and its list.
-  abbrev Issues : Type 0
-  Issues = HandsOver (issue version r ns (kept_of (book l list))) v
-
-  pub none_left : l.to < l.from → v ≡ record { answer = NoMomentLeft; procap = empty_procap } → Issues
+module _ (r : Request) (l : Ledger) (list : List ℕ) (v : Verified) where
+  pub none_left : l.to < l.from → v ≡ record { answer = NoMomentLeft; procap = empty_procap } → HandsOver (issue r (kept_of (book l list))) v
   unfolding issue kept_of
   none_left e f = hands_refusal _ NoMomentLeft v (refused_on _ _ NoMomentLeft (is_not_so NoMomentLeft (dec_le l.from l.to) (λ h. omega arith))) f
 
-  pub some_left : l.from ≤ l.to → v.answer ≡ Granted → v.procap ≡ procap_of (paper_for version r ns (kept_of (book l list))) → Issues
+  pub some_left : l.from ≤ l.to → v.answer ≡ Granted → v.procap ≡ procap_of r l.from l.to (facts_in list l.count)
+      → HandsOver (issue r (kept_of (book l list))) v
   unfolding issue kept_of
   some_left h e f = hands_grant _ _ v (goes_on _ _ tt (is_so NoMomentLeft (dec_le l.from l.to) h)) e f
-
--- The value that is made of the ledger, of its facts and of the numbers used is that of what is issued.
-pub made_of : (version : Version) (r : Request) (ns : List ℕ) (l : Ledger) (list : List ℕ) (number : ℕ) (used : Numbers) (facts : List Fact)
-    → number ≡ version_number version → used ≡ numbers_of (carried (version_number version) ns) → facts ≡ held_facts list l.count → Sound (book l list)
-    → ◌≡◌ {A = Procap} (record { version = number; request = r; from = l.from; to = l.to; used = used; count = l.count; facts = facts }) (procap_of (paper_for version r ns (kept_of (book l list))))
-unfolding procap_of kept_of
-made_of version r ns l list number used facts e f g sound =
-    let (held, counted) = held_kept l list sound in
-    λ i. record { version = e i; request = r; from = l.from; to = l.to; used = f i; count = counted i; facts = (g ∙ held) i }
 
 -- ── What is malformed ──
 
@@ -136,41 +118,37 @@ module _ (records : List Certificate) (buffer pairs proof : List ℕ) where
 
 -- ── The calls ──
 
-module _ (r : Request) (records : List Certificate) (buffer pairs proof : List ℕ) {stop : Stop} {numbers : List ℕ} (taken : Taken records buffer stop numbers) where
+module _ (r : Request) (records : List Certificate) (buffer pairs proof : List ℕ) {stop : Stop} {rows : List ℕ} (taken : Taken records buffer stop rows) where
   -- What the table has, where the proof reads over the records.
   abbrev TellsEnds : List ℕ → Type 0
   TellsEnds ends = (N : Check) → proof_in (length records) proof ≡ some N → ToldChecking ends N
 
   -- A case that reads, once its records are taken.
   abbrev ReadsSo : List ℕ → Policy → Check → Type 0
-  ReadsSo ends = CaseReads (PolicyTaken buffer numbers pairs) ends proof
+  ReadsSo ends = CaseReads (PolicyRead buffer rows pairs) ends proof
 
   reads_so : (ends : List ℕ) → TellsEnds ends → (x : Policy × Check) → read_case records buffer pairs proof ≡ granted x → ReadsSo ends x.0 x.1
   reads_so ends told (π, N) e =
       case_read r records buffer pairs proof π N e λ e₁ e₂.
       policy_from records buffer pairs π e₁ λ e₃ e₄.
       record {
-        policy = record {
-          whole = taken.whole;
-          read = record { certified = taken.rows_are π.statements e₃; paired = e₄ };
-          numbers = taken.numbers_are π.statements e₃;
-        };
+        policy = record { certified = taken.rows_are π.statements e₃; paired = e₄ };
         proof_reads = rw (statements_count buffer records π.statements e₃) e₂;
         told = told N e₂;
       }
 
-  module _ (version : Version) (v : Verified) where
+  module _ (v : Verified) where
     abbrev Answered : Type 0
-    Answered = HandsOver (verified version r records buffer pairs proof) v
+    Answered = HandsOver (verified r records buffer pairs proof) v
 
     pub verify_stops : (answer : Answer) → read_case records buffer pairs proof ≡ refused answer → v ≡ record { answer = answer; procap = empty_procap } → Answered
     unfolding verified
     verify_stops answer e f = hands_refusal _ answer v (refused_on _ _ answer e) f
 
     pub verify_goes_on : {ends : List ℕ} → TellsEnds ends → (x : Policy × Check) → read_case records buffer pairs proof ≡ granted x
-        → ((π : Policy) (N : Check) → ReadsSo ends π N → HandsOver (verified_case version r π N) v) → Answered
+        → ((π : Policy) (N : Check) → ReadsSo ends π N → HandsOver (verified_case r π N) v) → Answered
     unfolding verified verified_case
-    verify_goes_on {ends} told x e k = rw (goes_on (read_case records buffer pairs proof) (λ y. verified_case version r y.0 y.1) x e) (k x.0 x.1 (reads_so ends told x e))
+    verify_goes_on {ends} told x e k = rw (goes_on (read_case records buffer pairs proof) (λ y. verified_case r y.0 y.1) x e) (k x.0 x.1 (reads_so ends told x e))
 
   module _ (m : ℕ) (state : List ℕ) (a : Answer) where
     pub direct_stops : read_case records buffer pairs proof ≡ refused a → a ≡ answer_of (directly r records buffer pairs proof m state)
@@ -210,19 +188,18 @@ module _ (r : Request) {IsPolicy : Policy → Type 0} (proof state ends : List �
   walk_done : stop_of l ≡ Going → begins ≡ granted (tt, kept_of (book l list'))
   walk_done e = sym came.1 ∙ resume_going state (book l list') e
 
-  module _ (at_office : reading ≡ Office) (version : Version) (v : Verified) where
+  module _ (at_office : reading ≡ Office) (v : Verified) where
     office_run : begins ≡ run office (walk r π N) start
     office_run = rw at_office (office_begins state list (walk r π N))
 
-    pub verify_stopped : (answer : Answer) → stop_of l ≡ Stopped answer → v ≡ record { answer = answer; procap = empty_procap } → HandsOver (verified_case version r π N) v
+    pub verify_stopped : (answer : Answer) → stop_of l ≡ Stopped answer → v ≡ record { answer = answer; procap = empty_procap } → HandsOver (verified_case r π N) v
     unfolding verified_case
     verify_stopped answer e f = hands_refusal _ answer v (refused_on _ _ answer (sym office_run ∙ walk_stopped answer e)) f
 
-    pub verify_issued : stop_of l ≡ Going → (Sound (book l list') → HandsOver (issue version r (used π N) (kept_of (book l list'))) v)
-        → HandsOver (verified_case version r π N) v
+    pub verify_issued : stop_of l ≡ Going → (Sound (book l list') → HandsOver (issue r (kept_of (book l list'))) v) → HandsOver (verified_case r π N) v
     unfolding verified_case
     verify_issued e k =
-        rw (goes_on (run office (walk r π N) start) (λ w. issue version r (used π N) w.1) (tt, kept_of (book l list')) (sym office_run ∙ walk_done e)) (k came.0)
+        rw (goes_on (run office (walk r π N) start) (λ w. issue r w.1) (tt, kept_of (book l list')) (sym office_run ∙ walk_done e)) (k came.0)
 
   module _ (m : ℕ) (at_press : reading ≡ Press m) (in_range : m ≤ latest) (σ : List Spelled) (says : stated state ≡ some σ) where
     press_run : begins ≡ run (press m σ) (walk r π N) start

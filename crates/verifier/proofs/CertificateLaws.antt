@@ -9,8 +9,7 @@ use native.Mathlib.Omega.{arith}
 use native.Mathlib.Decide.{dec_le}
 use borrow.Author.Tests.{leb-true, le-leb, lt-leb, not-true, not-false}
 use borrow.Author.Count.{below_more}
-use lib.ListN.{length, get_or, take, drop, set, length-drop, get_or-map}
-use lib.Seq.{length-take-le, get_or-set_same, get_or-set_other}
+use lib.ListN.{length, get_or, take, drop}
 use lib.Dec.{leb}
 use Rattle.procap.proofs.Numbered.{time_back}
 use Rattle.procap.specs.Lists.{nth}
@@ -27,12 +26,8 @@ use Rattle.bl.specs.Certificates.{Statement, most_certificates, most_part_bytes,
 use Rattle.ledger.specs.declared.Stop.{Stop}
 use Rattle.ledger.specs.declared.Stop.TheVariants.{Going, Stopped}
 use Rattle.formula.specs.PutIn.{terms_numbers, terms_of, stack}
-use Rattle.judging.specs.RowsOf.{all_numbers, row_in, Certifies, Certified}
-use Rattle.judging.proofs.RowLaws.{row_there, others_stay}
-use Rattle.bl.specs.Named.{number_at}
-use Rattle.used.specs.Using.{NumbersAre}
-use Rattle.bl.proofs.Carrying.{numbers_of_records}
-use Rattle.verifier.specs.Verifying.{taken_numbers, rows_among, numbers_among, no_record, row_of, WellFormedRecord, NumberPut, RecordPut, TakenTo, SoFar, Taken}
+use Rattle.judging.specs.RowsOf.{row_in, Certifies, Certified}
+use Rattle.verifier.specs.Verifying.{no_record, row_of, WellFormedRecord, TakenTo, SoFar, Taken}
 use Rattle.formula.proofs.Filling.{fill_nothing}
 use Rattle.formula.proofs.Shifted.{formula_in_shifted}
 
@@ -51,7 +46,7 @@ formula_found (some part) A e k = k part refl e
 
 -- The statement of a record with this formula.
 abbrev stating : Certificate → Formula → Statement
-stating c A = record { by = c.principal; number = c.number; says = A; from = c.from; to = c.to }
+stating c A = record { by = c.principal; says = A; from = c.from; to = c.to }
 
 stating_found : {C : Type 0} (c : Certificate) (o : Option Formula) (s : Statement) → statement_by c o ≡ some s
     → ((A : Formula) → o ≡ some A → stating c A ≡ s → C) → C
@@ -230,20 +225,7 @@ granted_few buffer cs ss e k =
 pub statements_count : (buffer : List ℕ) (cs : List Certificate) (ss : List Statement) → statements buffer cs ≡ granted ss → length ss ≡ length cs
 statements_count buffer cs ss e = granted_few buffer cs ss e λ few e₁. (each_granted buffer 0 cs ss e₁).as_many
 
--- The number at an index is that of the record there.
-stated_number : (buffer : List ℕ) (records : List Certificate) (ss : List Statement) → statements buffer records ≡ granted ss
-    → (i : ℕ) → i < length records → (get_or records i no_record).number ≡ number_at ss i
-stated_number buffer records ss e i b =
-    sym (get_or-map (λ c. c.number) records i no_record) ∙ ap (λ ns. get_or ns i 0) (sym (numbers_of_records buffer records ss e))
-
 -- ── Taking them ──
-
--- All that is taken into is there: the rows, and behind them room for each number.
-rows_whole : (taken : List ℕ) → length taken ≡ taken_numbers → length (rows_among taken) ≡ all_numbers
-rows_whole taken whole = length-take-le all_numbers taken (omega arith)
-
-numbers_room : (taken : List ℕ) → length taken ≡ taken_numbers → (i : ℕ) → i < most_certificates → i < length (numbers_among taken)
-numbers_room taken whole i b = let size = length-drop all_numbers taken in omega arith
 
 module _ (records : List Certificate) (buffer : List ℕ) (rows : List ℕ) where
   -- Nothing is taken yet, or they are too many.
@@ -251,7 +233,7 @@ module _ (records : List Certificate) (buffer : List ℕ) (rows : List ℕ) wher
       → (most_certificates < length records → stop ≡ Stopped (CertificateMalformed 0)) → SoFar records buffer 0 stop rows
   none_taken stop few many =
       elim (dec_le (length records) most_certificates) [
-        | yes l ↦ rw (few l) (record { few = l; well_formed = λ k h. absurd (omega arith); put = λ k h. absurd (omega arith); numbered = λ k h. absurd (omega arith) })
+        | yes l ↦ rw (few l) (record { few = l; well_formed = λ k h. absurd (omega arith); put = λ k h. absurd (omega arith) })
         | no n ↦ rw (many (omega arith)) (many_refused buffer records (omega arith))
       ]
 
@@ -269,24 +251,19 @@ module _ (records : List Certificate) (buffer : List ℕ) (rows : List ℕ) wher
       pub taken_malformed : (WellFormedRecord buffer (get_or records i no_record) → ⊥) → statements buffer records ≡ refused (CertificateMalformed i)
       taken_malformed bad = malformed_at buffer records h.few i l h.well_formed bad
 
-      -- A well formed one is taken, once its row and its number are put.
+      -- A well formed one is taken, once its row is put.
       pub one_taken : {after : List ℕ} → WellFormedRecord buffer (get_or records i no_record)
-          → length rows ≡ taken_numbers → RecordPut (get_or records i no_record) i rows after → TakenTo records buffer (i + 1) after
-      one_taken w whole puts =
-          let (row, number, wide) = puts whole (omega (arith, h.few)) in
-          let others = others_stay _ i (row_of (get_or records i no_record)) row refl in
-          record {
-            few = h.few;
-            well_formed = below_more _ i h.well_formed w;
-            put = below_more _ i (λ k b. others k (omega arith) ∙ h.put k b) (row_there _ _ _ row (rows_whole rows whole) (omega (arith, h.few)) refl);
-            numbered = below_more _ i
-                (λ k b. (ap (λ ns. get_or ns k 0) number ∙ get_or-set_other (numbers_among rows) i k _ 0 (λ e. omega (arith, e)) ∙ (h.numbered k b).0, (h.numbered k b).1))
-                (ap (λ ns. get_or ns i 0) number ∙ get_or-set_same (numbers_among rows) i _ 0 (numbers_room rows whole i (omega (arith, h.few))), wide);
-          }
+          → row_in after i ≡ row_of (get_or records i no_record) → ((k : ℕ) → (k ≡ i → ⊥) → row_in after k ≡ row_in rows k)
+          → TakenTo records buffer (i + 1) after
+      one_taken w there others = record {
+        few = h.few;
+        well_formed = below_more _ i h.well_formed w;
+        put = below_more _ i (λ k b. others k (omega arith) ∙ h.put k b) there;
+      }
 
 -- The rows of records that are granted are what they state.
 rows_certified : (records : List Certificate) (buffer rows : List ℕ) → TakenTo records buffer (length records) rows
-    → (ss : List Statement) → statements buffer records ≡ granted ss → Certified buffer (rows_among rows) ss
+    → (ss : List Statement) → statements buffer records ≡ granted ss → Certified buffer rows ss
 rows_certified records buffer rows h ss e =
     granted_few buffer records ss e λ few e₁.
     let all = each_granted buffer 0 records ss e₁ in
@@ -297,28 +274,10 @@ rows_certified records buffer rows h ss e =
           rw (h.put k inside) (row_certifies buffer (get_or records k no_record) s states);
     }
 
--- The numbers of records that are granted are those of what they state.
-numbers_stated : (records : List Certificate) (buffer taken : List ℕ) → TakenTo records buffer (length records) taken
-    → (ss : List Statement) → statements buffer records ≡ granted ss → NumbersAre (numbers_among taken) ss
-numbers_stated records buffer taken h ss e =
-    let as_many = statements_count buffer records ss e in
-    let put : (i : ℕ) → i < length ss → NumberPut (numbers_among taken) i (get_or records i no_record) = λ i b. h.numbered i (omega arith) in
-    record {
-      few = omega (arith, h.few);
-      each = λ i b. (put i b).0 ∙ stated_number buffer records ss e i (omega arith);
-      in_range = λ i b. omega (arith, (put i b).0, (put i b).1);
-    }
-
--- Once all are taken, the stop is what they come to, the rows are what they state, and the numbers theirs.
-pub all_taken : (records : List Certificate) (buffer : List ℕ) (stop : Stop) (taken : List ℕ) (i : ℕ) → length taken ≡ taken_numbers
-    → (length records ≤ most_certificates → i ≡ length records) → SoFar records buffer i stop taken → Taken records buffer stop taken
-all_taken records buffer Going taken i whole all h =
-    let to_the_last : TakenTo records buffer (length records) taken = rw (all h.few) at h in
-    record {
-      stops = none_malformed buffer records h.few to_the_last.well_formed;
-      rows_are = rows_certified records buffer taken to_the_last;
-      whole = whole;
-      numbers_are = numbers_stated records buffer taken to_the_last;
-    }
-all_taken records buffer (Stopped answer) taken i whole all h =
-    record { stops = h; rows_are = λ ss e. no_grant (sym h ∙ e); whole = whole; numbers_are = λ ss e. no_grant (sym h ∙ e) }
+-- Once all are taken, the stop is what they come to, and the rows are what they state.
+pub all_taken : (records : List Certificate) (buffer : List ℕ) (stop : Stop) (rows : List ℕ) (i : ℕ)
+    → (length records ≤ most_certificates → i ≡ length records) → SoFar records buffer i stop rows → Taken records buffer stop rows
+all_taken records buffer Going rows i all h =
+    let taken : TakenTo records buffer (length records) rows = rw (all h.few) at h in
+    record { stops = none_malformed buffer records h.few taken.well_formed; rows_are = rows_certified records buffer rows taken }
+all_taken records buffer (Stopped answer) rows i all h = record { stops = h; rows_are = λ ss e. no_grant (sym h ∙ e) }

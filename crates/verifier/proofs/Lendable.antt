@@ -19,7 +19,6 @@ use denote.Plain.{uint_Lawful, uint_copy}
 use denote.Builtin.{u64}
 use denote.Slice.{ShrSlice, shr_slice_Lawful, shr_slice_copy}
 use denote.Signature.{Slot, Signature, type_at, types_at}
-use denote.Enum.Laws as EL
 use denote.Steps.{owned}
 use denote.Struct.Struct.{Copies}
 use denote.Triple.Statement.{Triple}
@@ -29,8 +28,6 @@ use denote.Triple.Entry.{Args, Vals, Res, alive, on_entry}
 use denote.Triple.Spec.{Meets, triple_of}
 use denote.Triple.Walked.{needs}
 use Rattle.by_hand.proofs.Calls.{answers}
-use Rattle.procap.specs.contracts.procap.Version as Vn
-use Rattle.procap.proofs.procap.Version.TheLaws as Vn'
 
 -- ── The types ──
 module _ {M : Type 1} {𝓤 : Ura M} (𝓛 : Logic 𝓤) where
@@ -72,19 +69,12 @@ module _ {M : Type 1} {𝓤 : Ura M} (𝓛 : Logic 𝓤) where
     none_said [] ls a = id⊢ 𝓤 (emp 𝓤)
     none_said (s ∷ ss) ls a = via 𝓤 (sep 𝓤 (emp 𝓤) (emp 𝓤)) (emp∗ 𝓤 (emp 𝓤)) (mono∗ 𝓤 (ls.0 a.0).1 (none_said ss ls.1 a.1))
 
-  -- A lent slice, a number, and the version that is asked for.
+  -- A lent slice, and a number.
   pub slice : (ℓ : Lifetime) (κ : Lft) (R : RattleType) → Lendable (ShrSlice ℓ κ R)
   slice ℓ κ R = record { lawful = shr_slice_Lawful 𝓛 ℓ κ R; copy = shr_slice_copy 𝓛 ℓ κ R; silent = λ x. (tt, id⊢ 𝓤 (emp 𝓤)) }
 
   pub number : Lendable u64
   number = record { lawful = uint_Lawful 𝓛 w64; copy = uint_copy 𝓛 w64; silent = λ x. (tt, id⊢ 𝓤 (emp 𝓤)) }
-
-  pub version : Lendable Vn.the_row
-  version = record {
-    lawful = EL.lawful Vn.the_type Vn'.the_laws 𝓛 tt;
-    copy = EL.copy Vn.the_type Vn'.the_copy 𝓛;
-    silent = λ x. (tt, id⊢ 𝓤 (emp 𝓤));
-  }
 
 -- ── The functions ──
 

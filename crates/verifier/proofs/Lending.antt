@@ -48,7 +48,8 @@ use Rattle.bl.specs.contracts.Certificate as T
 use Rattle.ledger.specs.declared.Stop.{Stop}
 use Rattle.ledger.specs.contracts.Stop as St
 use Rattle.ledger.proofs.Stop.TheLaws as St'
-use Rattle.verifier.specs.Verifying.{taken_numbers, Taken}
+use Rattle.judging.specs.RowsOf.{all_numbers}
+use Rattle.verifier.specs.Verifying.{Taken}
 use Rattle.verifier.specs.contracts.certificates.take_records as taken
 use Rattle.verifier.proofs.certificates.take_records.Symbol.{name as #verifier·certificates·take-records}
 
@@ -60,7 +61,7 @@ abbrev pub lent_val : {X : Type 0} → Bor (List X) → Val
 lent_val s = slice_val s.ref_ptr (length s.now)
 
 abbrev pub rows_val : ℕ → Val
-rows_val l = slice_val (l, 0) taken_numbers
+rows_val l = slice_val (l, 0) all_numbers
 
 -- The rows zs at l, lent under the name γ.
 abbrev pub rows_at : ℕ → GName → List ℕ → MutBor (List ℕ)
@@ -68,23 +69,23 @@ rows_at l γ zs = record { ref_ptr = (l, 0); ghost_name = γ; now = zs }
 
 -- The rows in memory, and their room.
 abbrev pub Rows : ℕ → Val → Fml
-Rows l v = fat full_share (ty_array (ty_int w64) taken_numbers) l 0 v
+Rows l v = fat full_share (ty_array (ty_int w64) all_numbers) l 0 v
 
 abbrev RoomForRows : ℕ → Fml
-RoomForRows l = froom (ty_array (ty_int w64) taken_numbers) l 0
+RoomForRows l = froom (ty_array (ty_int w64) all_numbers) l 0
 
 -- Where they begin: zeros.
 abbrev pub zeros : List ℕ
-zeros = replicate taken_numbers 0
+zeros = replicate all_numbers 0
 
 abbrev pub zeros_val : Val
-zeros_val = array_val (replicate taken_numbers (vint w64 0))
+zeros_val = array_val (replicate all_numbers (vint w64 0))
 
-pub zeros_are : Is (Array u64 taken_numbers) zeros (zeros_val ∷ [])
-zeros_are = repeat_is u64 0 (vint w64 0) (refl, omega arith) taken_numbers
+pub zeros_are : Is (Array u64 all_numbers) zeros (zeros_val ∷ [])
+zeros_are = repeat_is u64 0 (vint w64 0) (refl, omega arith) all_numbers
 
-pub zeros_typed : {M : Type 1} {𝓤 : Ura M} (𝓛 : Logic 𝓤) → Holds (has_ty (ty_array (ty_int w64) taken_numbers) zeros_val) × WT zeros_val
-zeros_typed 𝓛 = ((Array-Lawful 𝓛 u64 (uint_Lawful 𝓛 w64) taken_numbers).typed zeros (zeros_val ∷ []) zeros_are).0
+pub zeros_typed : {M : Type 1} {𝓤 : Ura M} (𝓛 : Logic 𝓤) → Holds (has_ty (ty_array (ty_int w64) all_numbers) zeros_val) × WT zeros_val
+zeros_typed 𝓛 = ((Array-Lawful 𝓛 u64 (uint_Lawful 𝓛 w64) all_numbers).typed zeros (zeros_val ∷ []) zeros_are).0
 
 -- What a request owns, what lent records own, what a lent buffer owns, and what all the parameters own.
 abbrev pub Asked : Request → Fml
@@ -100,7 +101,7 @@ abbrev pub Owned : Request → Lft → Bor (List Certificate) → Lft → Bor (L
 Owned rq κ s κ' b rest = fsep (Asked rq) (fsep (Records κ s) (fsep (Bytes κ' b) rest))
 
 -- All the rows have room.
-rows_room : Room u64 taken_numbers
+rows_room : Room u64 all_numbers
 rows_room = (omega arith, omega arith)
 
 -- Where nothing more is asked.
@@ -170,27 +171,27 @@ module _ {M : Type 1} {𝓤 : Ura M} (𝓛 : Logic 𝓤)
     -- The call: the rows come back, and they are taken from the records.
     module _ {K : Type 0} {Γ : List (Item 𝓤)} {E : Env 𝓤 H} {C : Calls 𝓤 H} {Λ : Loops 𝓤 H} {after : Post 𝓤 H} {d : Place} {os : List Operand} {body : Body} where
       pub takes : K → FmC 𝓤 H 𝓛.laws C → Triple 𝓤 (C #verifier·certificates·take-records) (Taking 𝓛 mem run)
-          → (xs : List ℕ) (v : Val) → Is (Array u64 taken_numbers) xs (v ∷ [])
+          → (xs : List ℕ) (v : Val) → Is (Array u64 all_numbers) xs (v ∷ [])
           → ((α : ℕ) (γ : GName)
-          → Opds K 𝓛 (raw ((Taking 𝓛 mem run).pre (to_taken xs α γ)) ∷ (raw more ⊛ ‵ All) ∷ ‵ (HeldBack u64 (α ∷ []) taken_numbers l γ) ∷ Γ) E os (lent_val s ∷ lent_val b ∷ rows_val l ∷ []))
-          → ((w : Val) (stop : Stop) (zs : List ℕ) (u : Val) → Taken s.now b.now stop zs → Is St.the_row stop (w ∷ []) → Is (Array u64 taken_numbers) zs (u ∷ [])
+          → Opds K 𝓛 (raw ((Taking 𝓛 mem run).pre (to_taken xs α γ)) ∷ (raw more ⊛ ‵ All) ∷ ‵ (HeldBack u64 (α ∷ []) all_numbers l γ) ∷ Γ) E os (lent_val s ∷ lent_val b ∷ rows_val l ∷ []))
+          → ((w : Val) (stop : Stop) (zs : List ℕ) (u : Val) → Taken s.now b.now stop zs → Is St.the_row stop (w ∷ []) → Is (Array u64 all_numbers) zs (u ∷ [])
           → Seq K 𝓛 (‵ (Rows l u) ∷ Toks ∷ ‵ All ∷ Γ) (lands C Λ E d w body after))
           → Seq K 𝓛 (‵ (Rows l v) ∷ Toks ∷ ‵ All ∷ Γ) (runs C Λ E (seq (call #verifier·certificates·take-records os d) body) after)
       takes z fm known xs v is ops k =
           lft_new z tt (λ α. move z (1 ∷ []) $
-          use1 𝓛 (later (some (λ (γ : GName). ‵ (Filling xs α γ) ⊛ ‵ (HeldBack u64 (α ∷ []) taken_numbers l γ))))
-          (lends_mut u64 (α ∷ []) taken_numbers l 𝓛 tt (uint_Makes 𝓛 w64) rows_room xs v is) $ await z tt $ pick z (λ γ. split z $
+          use1 𝓛 (later (some (λ (γ : GName). ‵ (Filling xs α γ) ⊛ ‵ (HeldBack u64 (α ∷ []) all_numbers l γ))))
+          (lends_mut u64 (α ∷ []) all_numbers l 𝓛 tt (uint_Makes 𝓛 w64) rows_room xs v is) $ await z tt $ pick z (λ γ. split z $
           -- [the rows lent; what is held back; α's token; the tokens; All; …]
           move z (2 ∷ 0 ∷ []) $ join z $ move z (2 ∷ 3 ∷ 0 ∷ []) $
           use3 𝓛 (raw ((Taking 𝓛 mem run).pre (to_taken xs α γ)) ⊛ (raw more ⊛ ‵ All)) (asks_taken xs α γ) $ split z $
           calls_at z fm (Taking 𝓛 mem run) known (to_taken xs α γ) (ops α γ) (λ w.
           answers_last 𝓛 z tt taken.ended (taken.clauses 𝓛 mem run) (κ, (κ', (α ∷ [], tt))) (q, (q', (full_share, tt))) (s, (b, (rows_at l γ xs, tt))) tt w
-          (λ stop zs. length xs ≡ taken_numbers → Taken s.now b.now stop zs.1.1.0) (λ stop zs. id⊢ 𝓤 _) (λ stop zs h is_stop.
+          (λ stop zs. length xs ≡ all_numbers → Taken s.now b.now stop zs.1.1.0) (λ stop zs. id⊢ 𝓤 _) (λ stop zs h is_stop.
           -- [what is said of last values; the tokens; the other tokens and All; what is held back; …]
           fsplit z $ drop z $ fsplit z $ drop z $ fsplit z $ fsplit z $ move z (1 ∷ 2 ∷ []) $ drop z $ drop z $
           -- [what says the last rows; the tokens; the other tokens and All; what is held back; …]
           move z (1 ∷ 2 ∷ []) $ use2 𝓛 (‵ (flft (α ∷ []) full_share) ⊛ (Toks ⊛ ‵ All)) (regains xs α γ) $ split z $ lft_end z tt $ move z (0 ∷ 3 ∷ 2 ∷ []) $
-          use3 𝓛 (later (some (λ (u : Val). given (Is (Array u64 taken_numbers) zs.1.1.0 (u ∷ [])) (‵ (Rows l u))))) (mut_back u64 (α ∷ []) taken_numbers l 𝓛 γ zs.1.1.0) $
+          use3 𝓛 (later (some (λ (u : Val). given (Is (Array u64 all_numbers) zs.1.1.0 (u ∷ [])) (‵ (Rows l u))))) (mut_back u64 (α ∷ []) all_numbers l 𝓛 γ zs.1.1.0) $
           -- [the rows; the tokens and All; …]
           await z tt $ pick z (λ u. learn z (λ is-u. move z (1 ∷ []) $ split z $ move z (2 ∷ []) $ k w stop zs.1.1.0 u (h is.1.0.1) is_stop is-u))))))
 
@@ -229,23 +230,23 @@ module _ {M : Type 1} {𝓤 : Ura M} (𝓛 : Logic 𝓤)
     module _ {K : Type 0} {Γ : List (Item 𝓤)} {G : Goal 𝓤 H} where
       -- The loan begins.
       pub lends_rows : K → Soaks G → ent 𝓤 (sem 𝓛 rest) (sep 𝓤 (sem 𝓛 rest) (sem 𝓛 rest)) → Is Rq.the_row rq (request_val rq ∷ []) → length s.now < 2 ^ 64
-          → (u : Val) → Is (Array u64 taken_numbers) zs (u ∷ []) → (stop : Stop) (w : Val) → Is St.the_row stop (w ∷ [])
-          → ((β : ℕ) (γ : GName) → Seq K 𝓛 (raw (OnwardAsks stop w β γ) ∷ (‵ (flft κ q) ⊛ ‵ All) ∷ ‵ (Lent u64 (β ∷ []) taken_numbers taken_numbers zs l) ∷ Γ) G)
+          → (u : Val) → Is (Array u64 all_numbers) zs (u ∷ []) → (stop : Stop) (w : Val) → Is St.the_row stop (w ∷ [])
+          → ((β : ℕ) (γ : GName) → Seq K 𝓛 (raw (OnwardAsks stop w β γ) ∷ (‵ (flft κ q) ⊛ ‵ All) ∷ ‵ (Lent u64 (β ∷ []) all_numbers all_numbers zs l) ∷ Γ) G)
           → Seq K 𝓛 (‵ (Rows l u) ∷ Toks ∷ ‵ All ∷ Γ) G
       lends_rows z soaks twice asked fits u is stop w is_stop k =
           lft_new z soaks (λ β. move z (1 ∷ []) $
-          use1 𝓛 (later (some (λ (γ : GName). ‵ (Reading stop w β γ) ⊛ ‵ (Lent u64 (β ∷ []) taken_numbers taken_numbers zs l))))
-          (lends_whole u64 (β ∷ []) taken_numbers zs l 𝓛 tt (uint_Makes 𝓛 w64) rows_room u is) $ await z soaks $ pick z (λ γ. split z $
+          use1 𝓛 (later (some (λ (γ : GName). ‵ (Reading stop w β γ) ⊛ ‵ (Lent u64 (β ∷ []) all_numbers all_numbers zs l))))
+          (lends_whole u64 (β ∷ []) all_numbers zs l 𝓛 tt (uint_Makes 𝓛 w64) rows_room u is) $ await z soaks $ pick z (λ γ. split z $
           -- [the rows lent; what the lender keeps; β's token; the tokens; All; …]
           move z (2 ∷ 0 ∷ []) $ join z $ move z (2 ∷ 3 ∷ 0 ∷ []) $
           use3 𝓛 (raw (OnwardAsks stop w β γ) ⊛ (‵ (flft κ q) ⊛ ‵ All)) (asks_onward stop w β γ twice asked is_stop fits) $ split z $ k β γ))
 
       -- It ends, and the rows are room again.
-      pub rows_back : K → Soaks G → (β : ℕ) → length zs ≡ taken_numbers
+      pub rows_back : K → Soaks G → (β : ℕ) → length zs ≡ all_numbers
           → Step K 𝓛 (‵ (RoomForRows l) ∷ Toks ∷ ‵ All ∷ Γ) G
-          (raw (sep 𝓤 (A.lft (β ∷ []) full_share) (sep 𝓤 (A.lft κ' q') more)) ∷ (‵ (flft κ q) ⊛ ‵ All) ∷ ‵ (Lent u64 (β ∷ []) taken_numbers taken_numbers zs l) ∷ Γ) G
+          (raw (sep 𝓤 (A.lft (β ∷ []) full_share) (sep 𝓤 (A.lft κ' q') more)) ∷ (‵ (flft κ q) ⊛ ‵ All) ∷ ‵ (Lent u64 (β ∷ []) all_numbers all_numbers zs l) ∷ Γ) G
       rows_back z soaks β e = step (λ k.
           use1 𝓛 (‵ (flft (β ∷ []) full_share) ⊛ (‵ (flft κ' q') ⊛ raw more)) (id⊢ 𝓤 _) $ split z $ lft_end z soaks $ move z (0 ∷ 3 ∷ []) $
-          use2 𝓛 (later (‵ (RoomForRows l))) (front_back u64 (β ∷ []) taken_numbers taken_numbers zs l 𝓛 e) $ await z soaks $
+          use2 𝓛 (later (‵ (RoomForRows l))) (front_back u64 (β ∷ []) all_numbers all_numbers zs l 𝓛 e) $ await z soaks $
           -- [room for the rows; the other tokens; the records' token and All; …]
           move z (2 ∷ []) $ split z $ move z (0 ∷ 3 ∷ []) $ join z $ move z (2 ∷ 0 ∷ []) $ k)

@@ -29,7 +29,7 @@ use lib.Seq.{length-take-le}
 use Rattle.by_hand.proofs.Clauses.{two_said}
 use Rattle.by_hand.proofs.Loan.{Lent, lends_front, front_back}
 use Rattle.procap.specs.Outcome.{Outcome, answer_of, procap_handed}
-use Rattle.procap.specs.Procaps.{Paper}
+use Rattle.procap.specs.declared.procap.Procap.{Procap}
 use Rattle.procap.specs.declared.procap.Request.{Request}
 use Rattle.procap.specs.contracts.procap.Request as Rq
 use Rattle.procap.proofs.procap.Request.TheLaws as Rq'
@@ -41,7 +41,7 @@ use Rattle.verifier.specs.declared.verify.Verified.{Verified}
 use Rattle.verifier.proofs.Lending.{request_val, Asked}
 
 -- The two clauses that `verify` promises, as one fact.
-pub hands_over : {M : Type 1} (𝓤 : Ura M) (o : Outcome Paper) (r : Verified)
+pub hands_over : {M : Type 1} (𝓤 : Ura M) (o : Outcome Procap) (r : Verified)
     → ent 𝓤 (sep 𝓤 (fact 𝓤 (r.answer ≡ answer_of o)) (fact 𝓤 (r.procap ≡ procap_handed o))) (fact 𝓤 (HandsOver o r))
 hands_over 𝓤 o r = via 𝓤 _ (two_said 𝓤) (fact_mono 𝓤 _ (HandsOver o r) (λ h. record { answer = h.0; procap = h.1 }))
 

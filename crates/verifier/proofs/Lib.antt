@@ -9,6 +9,4 @@ pub mod RecordsLent
 pub mod VerifyLent
 pub mod WalkBegins
 pub mod ByStrengths
-pub mod Carried
-pub mod TakenParts
 pub mod Answers

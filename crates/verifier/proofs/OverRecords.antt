@@ -45,7 +45,8 @@ use Rattle.bl.specs.contracts.Certificate as T
 use Rattle.ledger.specs.declared.Stop.{Stop}
 use Rattle.ledger.specs.contracts.Stop as St
 use Rattle.ledger.proofs.Stop.TheLaws as St'
-use Rattle.verifier.specs.Verifying.{taken_numbers, Taken}
+use Rattle.judging.specs.RowsOf.{all_numbers}
+use Rattle.verifier.specs.Verifying.{Taken}
 use Rattle.verifier.proofs.Further.{types_in, then_locals, past, copies, Rooms, forgotten, allocs_them, passes_them, frees_them, copies_them, beyond, stand_fourth}
 use Rattle.verifier.proofs.Lendable.{Back, Ends, meets_by, seen, leaves, Lendables, lawfuls, copyables, silents}
 use Rattle.verifier.proofs.Lending.{request_val, lent_val, rows_val, rows_at, zeros, zeros_val, zeros_are, zeros_typed, Owned, Tokens, Taking, OnwardAsks, takes, lends_rows, rows_back}
@@ -92,22 +93,22 @@ module _ (m : ℕ) (rest : List (Slot (suc (suc m)))) (R : RattleType) (τ : Ty)
         ∷ local (slice_ty (ty_ref (named 0) imm (pointee (T.the_row).written))) value_local
         ∷ local (slice_ty (ty_ref (named 1) imm (ty_int w8))) value_local
         ∷ then_locals τs
-        (local (ty_array (ty_int w64) taken_numbers) memory_slot
+        (local (ty_array (ty_int w64) all_numbers) memory_slot
         ∷ local St'.mir value_local
-        ∷ local (ty_ref erased mut (ty_array (ty_int w64) taken_numbers)) value_local
+        ∷ local (ty_ref erased mut (ty_array (ty_int w64) all_numbers)) value_local
         ∷ local (slice_ty (ty_ref erased mut (ty_int w64))) value_local
         ∷ local (ty_int w64) value_local
-        ∷ local (ty_ref erased imm (ty_array (ty_int w64) taken_numbers)) value_local
+        ∷ local (ty_ref erased imm (ty_array (ty_int w64) all_numbers)) value_local
         ∷ local (slice_ty (ty_ref erased imm (ty_int w64))) value_local
         ∷ []);
     body =
-        seq (assign (own 0) (repeat (int w64 0) taken_numbers))
+        seq (assign (own 0) (repeat (int w64 0) all_numbers))
         (seq (assign (own 2) (addr_of (own 0)))
-        (seq (assign (own 3) (aggregate (copy (own 2) ∷ int w64 taken_numbers ∷ [])))
+        (seq (assign (own 3) (aggregate (copy (own 2) ∷ int w64 all_numbers ∷ [])))
         (seq (call #verifier·certificates·take-records (copy (place 2 []) ∷ copy (place 3 []) ∷ copy (own 3) ∷ []) (own 1))
         (seq (assign (own 4) (rv_opd (copy (place 2 (field 1 ∷ [])))))
         (seq (assign (own 5) (addr_of (own 0)))
-        (seq (assign (own 6) (aggregate (copy (own 5) ∷ int w64 taken_numbers ∷ [])))
+        (seq (assign (own 6) (aggregate (copy (own 5) ∷ int w64 all_numbers ∷ [])))
         (seq (call f (copy (place 1 []) ∷ copy (own 1) ∷ copy (own 4) ∷ copy (own 6) ∷ copy (place 3 []) ∷ copies 4 τs) (place 0 []))
         return)))))));
   }
@@ -191,12 +192,12 @@ module _ (m : ℕ) (rest : List (Slot (suc (suc m)))) (R : RattleType) (τ : Ty)
         -- The function's own locals, at their blocks.
         abbrev mine : ℕ → ℕ → ℕ → ℕ → ℕ → ℕ → ℕ → Env 𝓤 H
         mine l₄ l₅ l₆ l₇ l₈ l₉ l₁₀ =
-            (ty_array (ty_int w64) taken_numbers, l₄)
+            (ty_array (ty_int w64) all_numbers, l₄)
             ∷ (St'.mir, l₅)
-            ∷ (ty_ref erased mut (ty_array (ty_int w64) taken_numbers), l₆)
+            ∷ (ty_ref erased mut (ty_array (ty_int w64) all_numbers), l₆)
             ∷ (slice_ty (ty_ref erased mut (ty_int w64)), l₇)
             ∷ (ty_int w64, l₈)
-            ∷ (ty_ref erased imm (ty_array (ty_int w64) taken_numbers), l₉)
+            ∷ (ty_ref erased imm (ty_array (ty_int w64) all_numbers), l₉)
             ∷ (slice_ty (ty_ref erased imm (ty_int w64)), l₁₀)
             ∷ []
 
@@ -210,7 +211,7 @@ module _ (m : ℕ) (rest : List (Slot (suc (suc m)))) (R : RattleType) (τ : Ty)
             -- the own locals 6 to 0, each at 12 less twice its number; the further parameters at 14; the buffer at 15, the records at 17, the request at 19, the result at 21; the tokens; All
             params1 ! $ pass1 ! (init ! 19 refl ((LL.lawful Rq.the_type Rq'.the_laws 𝓛).typed a.0 _ are.0).0) $ pass1 ! (init ! 17 refl (tt, (tt, (record { fits = are.1.0.0.1.0 }, tt)))) $
             pass1 ! (init ! 15 refl (tt, (tt, (record { fits = are.1.1.0.0.1.0 }, tt)))) $ move ! (14 ∷ []) $ passes_them 𝓛 ! τs bs values typed $ pass0 ! $
-            assigns ! (rep ! taken_numbers (lit ! tt)) (beyond 𝓛 ! τs bs E 0) (init ! 13 refl (zeros_typed 𝓛)) $
+            assigns ! (rep ! all_numbers (lit ! tt)) (beyond 𝓛 ! τs bs E 0) (init ! 13 refl (zeros_typed 𝓛)) $
             assigns ! (addr ! (beyond 𝓛 ! τs bs E 0)) (beyond 𝓛 ! τs bs E 2) (init ! 9 refl (tt, tt)) $
             assigns ! (agg ! (and_then ! (load ! (beyond 𝓛 ! τs bs E 2) (look ! 9 refl)) (and_then ! (lit ! tt) (no_more !)))) (beyond 𝓛 ! τs bs E 3)
             (init ! 7 refl (tt, (tt, (record { fits = omega arith }, tt)))) $

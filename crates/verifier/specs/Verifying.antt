@@ -1,54 +1,37 @@
 -- What the parts of verify and of the direct check promise.
-use Rattle.std.specs.Prelude.{ℕ, ◌+◌, ◌≤◌, ◌<◌, ◌≡◌, List, length, get_or, take, drop, set}
+use Rattle.std.specs.Prelude.{ℕ, ◌+◌, ◌≤◌, ◌<◌, ◌≡◌, List, length, get_or}
 use Rattle.std.proofs.Math.Option.{some}
 use Rattle.std.specs.Borrow.{Bor}
 use denote.Triple.Both.{Both}
 use Rattle.procap.specs.Lent.{Lent}
 use Rattle.procap.specs.Desk.{read_press}
 use Rattle.procap.specs.Numbered.{time_numbers}
-use Rattle.procap.specs.Procaps.{Paper, version_number, numbers_of}
-use Rattle.procap.specs.Writable.{largest_name}
 use Rattle.procap.specs.Outcome.{Outcome, granted, refused, go_on, answer_of, procap_handed}
 use Rattle.procap.specs.declared.time.Time.TheVariants.{Moment}
 use Rattle.procap.specs.declared.procap.Request.{Request}
-use Rattle.procap.specs.declared.procap.Version.{Version}
-use Rattle.procap.specs.declared.procap.Numbers.{Numbers}
+use Rattle.procap.specs.declared.procap.Procap.{Procap}
 use Rattle.bl.specs.declared.Certificate.{Certificate}
 use Rattle.bl.specs.Trees.{Check}
 use Rattle.bl.specs.Certificates.{Statement, statements, statement_of, most_certificates}
 use Rattle.bl.specs.Strength.{pairs_in}
 use Rattle.bl.specs.Policy.{Policy}
-use Rattle.bl.specs.Named.{used}
 use Rattle.bl.specs.Questions.{done}
 use Rattle.bl.specs.Steps.{proof_in}
 use Rattle.bl.specs.Readings.{start, office, press, run}
 use Rattle.bl.specs.Walk.{walk}
-use Rattle.bl.specs.Calls.{read_case, carried, issue, verified, directly}
+use Rattle.bl.specs.Calls.{read_case, issue, verified, directly}
 use Rattle.ledger.specs.declared.Stop.{Stop}
 use Rattle.ledger.specs.declared.Stop.TheVariants.{Going, Stopped}
 use Rattle.verifier.specs.declared.verify.Verified.{Verified}
 use Rattle.verifier.specs.declared.verify.Asked.{Asked}
 use Rattle.steps.specs.Ends.{ToldChecking, EndsTold}
 use Rattle.ledger.specs.declared.Ledger.{Ledger}
-use Rattle.ledger.specs.Books.{begun, book, list_numbers, Sound, kept_of, resume}
+use Rattle.ledger.specs.Books.{begun, book, list_numbers, Sound, resume}
 use Rattle.judging.specs.declared.rows.Row.{Row}
 use Rattle.judging.specs.declared.rows.Whose.TheVariants.{Claim}
 use Rattle.formula.specs.PutIn.{no_terms}
-use Rattle.judging.specs.RowNumbers.{rows_with}
 use Rattle.judging.specs.RowsOf.{row_in, all_numbers, Certified}
 use Rattle.walk.specs.Walking.{PolicyLent}
-use Rattle.used.specs.Using.{NumbersAre}
-
--- How many numbers the records are taken into: those of their rows, and then one for each record, the number that it has.
-abbrev pub taken_numbers : ℕ
-taken_numbers = 544
-
--- The rows among them, and the numbers of the records behind these.
-abbrev pub rows_among : List ℕ → List ℕ
-rows_among taken = take all_numbers taken
-
-abbrev pub numbers_among : List ℕ → List ℕ
-numbers_among taken = drop all_numbers taken
 
 -- Lent records, as a contract names them: on entry and at the exit.
 abbrev pub Records : Type 0
@@ -56,7 +39,7 @@ Records = Both (Bor (List Certificate)) (Bor (List Certificate))
 
 -- A record of zeros, which stands past the end of a list of records.
 abbrev pub no_record : Certificate
-no_record = record { principal = 0; number = 0; from = Moment 0; to = Moment 0; start = 0; length = 0 }
+no_record = record { principal = 0; from = Moment 0; to = Moment 0; start = 0; length = 0 }
 
 -- The row of a record: a claim of its principal, with no terms put in.
 abbrev pub row_of : Certificate → Row
@@ -73,12 +56,6 @@ WellFormedRecord buffer c = (s : Statement) × (statement_of buffer c ≡ some s
 pub record PolicyRead (buffer rows pairs : List ℕ) (π : Policy) : Type 0 where
   pub certified : Certified buffer rows π.statements
   pub paired : pairs_in pairs ≡ granted π.pairs
-
--- The policy is what was taken: its rows, its pairs, and the numbers of its certificates.
-pub record PolicyTaken (buffer taken pairs : List ℕ) (π : Policy) : Type 0 where
-  pub whole : length taken ≡ taken_numbers
-  pub read : PolicyRead buffer (rows_among taken) pairs π
-  pub numbers : NumbersAre (numbers_among taken) π.statements
 
 -- The policy is such a one, the proof reads over it, and the table has where the second part of each 26 ends.
 pub record CaseReads (IsPolicy : Policy → Type 0) (ends proof : List ℕ) (π : Policy) (N : Check) : Type 0 where
@@ -111,27 +88,10 @@ abbrev pub first_of : Stop → Stop → Stop
 first_of Going other = other
 first_of (Stopped answer) other = Stopped answer
 
--- What is handed over is the outcome's answer and procap.
-pub record HandsOver (o : Outcome Paper) (r : Verified) : Type 0 where
-  pub answer : r.answer ≡ answer_of o
-  pub procap : r.procap ≡ procap_handed o
-
--- What is so of whatever policy was taken, with the proof that reads over it.
+-- What is so of whatever policy was read, with the proof that reads over it.
 abbrev pub OnceRead : Lent → Lent → Lent → Lent → Lent → (Policy → Check → Type 0) → Type 0
-OnceRead taken ends buffer pairs proof P =
-    (π : Policy) (N : Check) → CaseReads (PolicyTaken buffer.entry.now taken.entry.now pairs.entry.now) ends.entry.now proof.entry.now π N → P π N
-
--- What is carried of the numbers that a proof uses, whatever policy it reads over, as a value.
-abbrev pub CarriedOver : Version → Lent → Lent → Numbers → Type 0
-CarriedOver version proof numbers r =
-    (π : Policy) (N : Check) → proof_in (length π.statements) proof.entry.now ≡ some N → NumbersAre numbers.entry.now π.statements
-    → r ≡ numbers_of (carried (version_number version) (used π N))
-
--- What is issued of a ledger and its list, whatever policy the proof reads over.
-abbrev pub IssuedOver : Version → Request → Ledger → Lent → Lent → Lent → Verified → Type 0
-IssuedOver version request l facts proof numbers r =
-    (π : Policy) (N : Check) → proof_in (length π.statements) proof.entry.now ≡ some N → NumbersAre numbers.entry.now π.statements
-    → Sound (book l facts.entry.now) → HandsOver (issue version request (used π N) (kept_of (book l facts.entry.now))) r
+OnceRead rows ends buffer pairs proof P =
+    (π : Policy) (N : Check) → CaseReads (PolicyRead buffer.entry.now rows.entry.now pairs.entry.now) ends.entry.now proof.entry.now π N → P π N
 
 -- Where nothing stopped, the table has where the second part of each 26 ends.
 abbrev pub ToldUnlessStopped : Lent → ℕ → Lent → Stop → Type 0
@@ -143,61 +103,53 @@ CaseStops stop pairs proof n r =
     (records : List Certificate) (buffer : List ℕ) → length records ≡ n → Stops (statements buffer records) stop
     → Stops (read_case records buffer pairs.entry.now proof.entry.now) r
 
--- A record's number is two bytes wide and is put at its index.
-abbrev pub NumberPut : List ℕ → ℕ → Certificate → Type 0
-NumberPut numbers k c = (get_or numbers k 0 ≡ c.number) × (c.number ≤ largest_name)
-
--- A record's row and number are put at its index, and nothing else is moved, where there is room for all.
-abbrev pub RecordPut : Certificate → ℕ → List ℕ → List ℕ → Type 0
-RecordPut c i before after =
-    length before ≡ taken_numbers → i < most_certificates
-    → (rows_among after ≡ rows_with (rows_among before) i (row_of c)) × (numbers_among after ≡ set (numbers_among before) i c.number) × (c.number ≤ largest_name)
-
--- The records before the i-th are taken: there are not too many in all, each is well formed, and its row and its number are put.
-pub record TakenTo (records : List Certificate) (buffer : List ℕ) (i : ℕ) (taken : List ℕ) : Type 0 where
+-- The records before the i-th are taken: there are not too many in all, each is well formed, and its row is put.
+pub record TakenTo (records : List Certificate) (buffer : List ℕ) (i : ℕ) (rows : List ℕ) : Type 0 where
   pub few : length records ≤ most_certificates
   pub well_formed : (k : ℕ) → k < i → WellFormedRecord buffer (get_or records k no_record)
-  pub put : (k : ℕ) → k < i → row_in (rows_among taken) k ≡ row_of (get_or records k no_record)
-  pub numbered : (k : ℕ) → k < i → NumberPut (numbers_among taken) k (get_or records k no_record)
+  pub put : (k : ℕ) → k < i → row_in rows k ≡ row_of (get_or records k no_record)
 
 -- They are taken, or the records are refused.
 abbrev pub SoFar : List Certificate → List ℕ → ℕ → Stop → List ℕ → Type 0
-SoFar records buffer i Going taken = TakenTo records buffer i taken
-SoFar records buffer i (Stopped answer) taken = statements buffer records ≡ refused answer
+SoFar records buffer i Going rows = TakenTo records buffer i rows
+SoFar records buffer i (Stopped answer) rows = statements buffer records ≡ refused answer
 
 -- The i-th record c is taken too.
 abbrev pub Takes : List ℕ → Certificate → ℕ → Stop → List ℕ → Stop → List ℕ → Type 0
-Takes buffer c i stop taken stop' taken' =
-    (records : List Certificate) → i < length records → get_or records i no_record ≡ c → length taken ≡ taken_numbers
-    → SoFar records buffer i stop taken → SoFar records buffer (i + 1) stop' taken'
+Takes buffer c i stop rows stop' rows' =
+    (records : List Certificate) → i < length records → get_or records i no_record ≡ c → length rows ≡ all_numbers
+    → SoFar records buffer i stop rows → SoFar records buffer (i + 1) stop' rows'
 
--- All are taken: the stop is what the records come to, and where they are granted, the rows are what they state and the numbers theirs.
-pub record Taken (records : List Certificate) (buffer : List ℕ) (stop : Stop) (taken : List ℕ) : Type 0 where
+-- All are taken: the stop is what the records come to, and where they are granted, the rows are what they state.
+pub record Taken (records : List Certificate) (buffer : List ℕ) (stop : Stop) (rows : List ℕ) : Type 0 where
   pub stops : Stops (statements buffer records) stop
-  pub rows_are : (cs : List Statement) → statements buffer records ≡ granted cs → Certified buffer (rows_among taken) cs
-  pub whole : length taken ≡ taken_numbers
-  pub numbers_are : (cs : List Statement) → statements buffer records ≡ granted cs → NumbersAre (numbers_among taken) cs
+  pub rows_are : (cs : List Statement) → statements buffer records ≡ granted cs → Certified buffer rows cs
 
 -- The same of what is lent.
 abbrev pub TakenFrom : Records → Lent → Stop → List ℕ → Type 0
-TakenFrom certificates buffer stop taken = Taken certificates.entry.now buffer.entry.now stop taken
+TakenFrom certificates buffer stop rows = Taken certificates.entry.now buffer.entry.now stop rows
 
 -- What is so of whatever records are so many and are taken.
 abbrev pub OnceTaken : Stop → ℕ → Lent → Lent → (List Certificate → Type 0) → Type 0
-OnceTaken stop n taken buffer P = (records : List Certificate) → length records ≡ n → Taken records buffer.entry.now stop taken.entry.now → P records
+OnceTaken stop n rows buffer P = (records : List Certificate) → length records ≡ n → Taken records buffer.entry.now stop rows.entry.now → P records
 
 -- What verify and the direct check come to for some records, over what is lent.
-abbrev pub verified_over : Version → Request → List Certificate → Lent → Lent → Lent → Outcome Paper
-verified_over version request records buffer pairs proof = verified version request records buffer.entry.now pairs.entry.now proof.entry.now
+abbrev pub verified_over : Request → List Certificate → Lent → Lent → Lent → Outcome Procap
+verified_over request records buffer pairs proof = verified request records buffer.entry.now pairs.entry.now proof.entry.now
 
 abbrev pub directly_over : Request → List Certificate → Lent → Lent → Lent → ℕ → Lent → Outcome (Unit {0})
 directly_over request records buffer pairs proof moment state =
     directly request records buffer.entry.now pairs.entry.now proof.entry.now moment state.entry.now
 
 -- What verify comes to from there on.
-unfoldable pub verified_case : Version → Request → Policy → Check → Outcome Paper
-verified_case v r π N = go_on (run office (walk r π N) start) λ w. issue v r (used π N) w.1
+unfoldable pub verified_case : Request → Policy → Check → Outcome Procap
+verified_case r π N = go_on (run office (walk r π N) start) λ w. issue r w.1
 
 -- What the direct check comes to from there on.
 unfoldable pub checked_case : Request → Policy → Check → ℕ → List ℕ → Outcome (Unit {0})
 checked_case r π N m state = go_on (read_press m state) λ σ. go_on (run (press m σ) (walk r π N) start) λ w. granted w.0
+
+-- What is handed over is the outcome's answer and procap.
+pub record HandsOver (o : Outcome Procap) (r : Verified) : Type 0 where
+  pub answer : r.answer ≡ answer_of o
+  pub procap : r.procap ≡ procap_handed o

@@ -2,13 +2,14 @@
 ghost use Rattle.std.specs.Prelude.{◌≡◌, ◌≤◌, ◌<◌, length};
 ghost use Rattle.procap.specs.Tells.{Tells};
 ghost use Rattle.bl.specs.Certificates.{fixed_time, most_certificates};
-ghost use Rattle.verifier.specs.Verifying.{taken_numbers, row_of, WellFormedRecord, TakenFrom, Takes, RecordPut};
+ghost use Rattle.judging.specs.RowsOf.{all_numbers};
+ghost use Rattle.verifier.specs.Verifying.{row_of, WellFormedRecord, TakenFrom, Takes};
 
 use bl::Certificate;
 use formula::ends::holds_formula;
 use formula::parts::{FormulaAt, Judgement};
 use formula::terms::Terms;
-use judging::rows::{ALL_NUMBERS, Row, Whose, put_row};
+use judging::rows::{Row, Whose, put_row};
 use ledger::Stop;
 use procap::answer::Answer;
 use procap::time::{LATEST_SECOND, Time};
@@ -17,20 +18,17 @@ use procap::time::{LATEST_SECOND, Time};
 pub const MOST_CERTIFICATES: usize = 32;
 // How many bytes a part may have.
 pub const MOST_PART_BYTES: usize = 256;
-// How many numbers the records are taken into: those of their rows, and then one for each record, the number that it has.
-pub(crate) const TAKEN_NUMBERS: usize = 544;
 
-// Whether to go on, from the lent records: too many of them stop, and so does the first malformed one. The rows and the numbers of those
-// before it are put.
-pub(crate) fn take_records(certificates: &[Certificate], buffer: &[u8], taken: &mut [u64]) -> Stop
-    ensures { length taken.old ≡ taken_numbers → TakenFrom certificates buffer result taken.new }
+// Whether to go on, from the lent records: too many of them stop, and so does the first malformed one. The rows of those before it are put.
+pub(crate) fn take_records(certificates: &[Certificate], buffer: &[u8], rows: &mut [u64]) -> Stop
+    ensures { length rows.old ≡ all_numbers → TakenFrom certificates buffer result rows.new }
 {
     let count = certificates.len();
     let all = how_many(count);
     let mut stop = begun(count);
     let mut i: usize = 0;
     while i < all {
-        stop = take_record(certificates[i], i, buffer, taken, stop);
+        stop = take_record(certificates[i], i, buffer, rows, stop);
         i = i + 1;
     }
     stop
@@ -56,15 +54,15 @@ fn begun(count: usize) -> Stop
     }
 }
 
-// Whether to go on after one more record: a malformed one stops, and the row and the number of any other are put at its index.
+// Whether to go on after one more record: a malformed one stops, and the row of any other is put at its index.
 fn take_record(
     certificate: Certificate,
     index: usize,
     buffer: &[u8],
-    taken: &mut [u64],
+    rows: &mut [u64],
     stop: Stop,
 ) -> Stop
-    ensures { Takes buffer.now certificate index stop taken.old result taken.new }
+    ensures { Takes buffer.now certificate index stop rows.old result rows.new }
 {
     if let Stop::Stopped(answer) = stop {
         return Stop::Stopped(answer);
@@ -72,22 +70,8 @@ fn take_record(
     if !well_formed(certificate, buffer) {
         return Stop::Stopped(Answer::CertificateMalformed(index));
     }
-    put_record(certificate, index, taken);
+    put_row(rows, index, row_of(certificate));
     Stop::Going
-}
-
-// Puts the row and the number of a record at its index, where there is room for them.
-fn put_record(certificate: Certificate, index: usize, taken: &mut [u64])
-    ensures { RecordPut certificate index taken.old taken.new }
-{
-    if taken.len() < TAKEN_NUMBERS {
-        return;
-    }
-    if MOST_CERTIFICATES <= index {
-        return;
-    }
-    put_row(&mut taken[..ALL_NUMBERS], index, row_of(certificate));
-    taken[ALL_NUMBERS + index] = certificate.number as u64;
 }
 
 // Whether a record is well formed.

@@ -1,30 +1,30 @@
 // Verify, and the direct check.
-ghost use Rattle.std.specs.Prelude.{◌≡◌, ◌≤◌};
+ghost use Rattle.std.specs.Prelude.{◌≡◌};
 ghost use Rattle.procap.specs.Procaps.{empty_procap};
 ghost use Rattle.procap.specs.Outcome.{answer_of, procap_handed, or_else};
 ghost use Rattle.bl.specs.Steps.{proof_in};
 ghost use Rattle.bl.specs.Strength.{pairs_in};
 ghost use Rattle.bl.specs.Rules.{goal};
-ghost use Rattle.judging.specs.RowsOf.{all_numbers};
+ghost use Rattle.bl.specs.Calls.{issue};
+ghost use Rattle.ledger.specs.Books.{book, Sound, kept_of};
 ghost use Rattle.formula.specs.PutIn.{no_terms};
 ghost use Rattle.formula.specs.Meaning.{Means};
 ghost use Rattle.steps.specs.Ends.{EndsTold};
-ghost use Rattle.verifier.specs.Verifying.{WalkedOver, WalkedBy, Stops, first_of, CaseStops, OnceRead, OnceTaken, HandsOver, verified_over, directly_over, verified_case, checked_case, ToldUnlessStopped, CarriedOver, IssuedOver};
+ghost use Rattle.verifier.specs.Verifying.{WalkedOver, WalkedBy, Stops, first_of, CaseStops, OnceRead, OnceTaken, HandsOver, verified_over, directly_over, verified_case, checked_case, ToldUnlessStopped};
 
-use crate::certificates::{TAKEN_NUMBERS, take_records};
+use crate::certificates::take_records;
 use bl::Certificate;
 use formula::parts::Judgement;
 use judging::judge::Scope;
 use judging::rows::ALL_NUMBERS;
-use ledger::{LIST_NUMBERS, Ledger, Reading, Stop, facts_of};
+use ledger::{LIST_NUMBERS, Ledger, Reading, Stop, procap_of};
 use procap::answer::Answer;
-use procap::procap::{Numbers, Procap, Request, Version};
+use procap::procap::{Procap, Request};
 use procap::time::LATEST_SECOND;
 use steps::ends::MOST_ENDS;
 use steps::{MOST_PROOF_LEVELS, well_formed};
 use strength::finding::find_strengths;
 use strength::{MOST_PAIRS, STRENGTH_NUMBERS};
-use used::used_numbers;
 use walk::{Here, check};
 
 // How many bytes the goal of a request takes.
@@ -52,22 +52,20 @@ pub fn verify(
     buffer: &[u8],
     pairs: &[u32],
     proof: &[u8],
-    version: Version,
 ) -> Verified
-    ensures answer { result.answer ≡ answer_of (verified_over version request certificates.now buffer pairs proof) }
-    ensures procap { result.procap ≡ procap_handed (verified_over version request certificates.now buffer pairs proof) }
+    ensures answer { result.answer ≡ answer_of (verified_over request certificates.now buffer pairs proof) }
+    ensures procap { result.procap ≡ procap_handed (verified_over request certificates.now buffer pairs proof) }
 {
-    let mut taken = [0u64; TAKEN_NUMBERS];
-    let stop = take_records(certificates, buffer, &mut taken);
+    let mut rows = [0u64; ALL_NUMBERS];
+    let stop = take_records(certificates, buffer, &mut rows);
     verify_taken(
         request,
         stop,
         certificates.len(),
-        &taken,
+        &rows,
         buffer,
         pairs,
         proof,
-        version,
     )
 }
 
@@ -76,104 +74,54 @@ fn verify_taken(
     request: Request,
     stop: Stop,
     certificates: usize,
-    taken: &[u64],
+    rows: &[u64],
     buffer: &[u8],
     pairs: &[u32],
     proof: &[u8],
-    version: Version,
 ) -> Verified
-    ensures { OnceTaken stop certificates taken buffer (λ records. HandsOver (verified_over version request records buffer pairs proof) result) }
+    ensures { OnceTaken stop certificates rows buffer (λ records. HandsOver (verified_over request records buffer pairs proof) result) }
 {
     let mut ends = [0u16; MOST_ENDS];
     match malformed(stop, pairs, proof, certificates, &mut ends) {
         Stop::Stopped(answer) => refused(answer),
-        Stop::Going => verify_case(request, taken, &ends, buffer, pairs, proof, version),
+        Stop::Going => verify_case(request, rows, &ends, buffer, pairs, proof),
     }
 }
 
 // What verify answers to a policy and a proof that are well formed.
 fn verify_case(
     request: Request,
-    taken: &[u64],
+    rows: &[u64],
     ends: &[u16],
     buffer: &[u8],
     pairs: &[u32],
     proof: &[u8],
-    version: Version,
 ) -> Verified
-    ensures { OnceRead taken ends buffer pairs proof (λ π N. HandsOver (verified_case version request π N) result) }
+    ensures { OnceRead rows ends buffer pairs proof (λ π N. HandsOver (verified_case request π N) result) }
 {
-    let split = rows_end(taken.len());
     let mut facts = [0u64; LIST_NUMBERS];
     let asked = Asked {
         request: request,
         reading: Reading::Office,
     };
-    let ledger = walked(
-        asked,
-        buffer,
-        pairs,
-        proof,
-        b"",
-        &taken[..split],
-        ends,
-        &mut facts,
-    );
+    let ledger = walked(asked, buffer, pairs, proof, b"", rows, ends, &mut facts);
     let stop = ledger.stop();
     match stop {
         Stop::Stopped(answer) => refused(answer),
-        Stop::Going => issued(request, version, ledger, &facts, proof, &taken[split..]),
+        Stop::Going => issued(request, ledger, &facts),
     }
 }
 
-// Where the rows end among so many numbers that were taken, and the numbers of the records begin.
-fn rows_end(count: usize) -> usize
-    ensures within { result ≤ count }
-    ensures whole { all_numbers ≤ count → result ≡ all_numbers }
-{
-    if count < ALL_NUMBERS {
-        count
-    } else {
-        ALL_NUMBERS
-    }
-}
-
-// The procap of what is kept and of the numbers that the proof used, unless no moment is left.
-fn issued(
-    request: Request,
-    version: Version,
-    ledger: Ledger,
-    facts: &[u64],
-    proof: &[u8],
-    numbers: &[u64],
-) -> Verified
-    ensures { IssuedOver version request ledger facts proof numbers result }
+// The procap of what is kept, unless no moment is left.
+fn issued(request: Request, ledger: Ledger, facts: &[u64]) -> Verified
+    ensures { Sound (book ledger facts.now) → HandsOver (issue request (kept_of (book ledger facts.now))) result }
 {
     if ledger.to < ledger.from {
         return refused(Answer::NoMomentLeft);
     }
-    let procap = Procap {
-        version: version.number(),
-        request: request,
-        from: ledger.from,
-        to: ledger.to,
-        used: carried(version, proof, numbers),
-        count: ledger.count,
-        facts: facts_of(facts, ledger.count),
-    };
     Verified {
         answer: Answer::Granted,
-        procap: procap,
-    }
-}
-
-// The numbers that a procap of a version lists, of those that the proof used.
-fn carried(version: Version, proof: &[u8], numbers: &[u64]) -> Numbers
-    ensures { CarriedOver version proof numbers result }
-{
-    match version {
-        Version::One => Numbers::none(),
-        Version::Two => used_numbers(proof, numbers),
+        procap: procap_of(request, ledger, facts),
     }
 }
 
@@ -199,13 +147,13 @@ pub fn direct(
 ) -> Answer
     ensures { result ≡ answer_of (directly_over request certificates.now buffer pairs proof moment state) }
 {
-    let mut taken = [0u64; TAKEN_NUMBERS];
-    let stop = take_records(certificates, buffer, &mut taken);
+    let mut rows = [0u64; ALL_NUMBERS];
+    let stop = take_records(certificates, buffer, &mut rows);
     direct_taken(
         request,
         stop,
         certificates.len(),
-        &taken,
+        &rows,
         buffer,
         pairs,
         proof,
@@ -219,26 +167,26 @@ fn direct_taken(
     request: Request,
     stop: Stop,
     certificates: usize,
-    taken: &[u64],
+    rows: &[u64],
     buffer: &[u8],
     pairs: &[u32],
     proof: &[u8],
     moment: u64,
     state: &[u8],
 ) -> Answer
-    ensures { OnceTaken stop certificates taken buffer (λ rs. result ≡ answer_of (directly_over request rs buffer pairs proof moment state)) }
+    ensures { OnceTaken stop certificates rows buffer (λ rs. result ≡ answer_of (directly_over request rs buffer pairs proof moment state)) }
 {
     let mut ends = [0u16; MOST_ENDS];
     match malformed(stop, pairs, proof, certificates, &mut ends) {
         Stop::Stopped(answer) => answer,
-        Stop::Going => check_case(request, taken, &ends, buffer, pairs, proof, moment, state),
+        Stop::Going => check_case(request, rows, &ends, buffer, pairs, proof, moment, state),
     }
 }
 
 // What the direct check answers to a policy and a proof that are well formed.
 fn check_case(
     request: Request,
-    taken: &[u64],
+    rows: &[u64],
     ends: &[u16],
     buffer: &[u8],
     pairs: &[u32],
@@ -246,7 +194,7 @@ fn check_case(
     moment: u64,
     state: &[u8],
 ) -> Answer
-    ensures { OnceRead taken ends buffer pairs proof (λ π N. result ≡ answer_of (checked_case request π N moment state.now)) }
+    ensures { OnceRead rows ends buffer pairs proof (λ π N. result ≡ answer_of (checked_case request π N moment state.now)) }
 {
     if LATEST_SECOND < moment {
         return Answer::MomentAboveLatest;
@@ -259,17 +207,7 @@ fn check_case(
         request: request,
         reading: Reading::Press(moment),
     };
-    let split = rows_end(taken.len());
-    let ledger = walked(
-        asked,
-        buffer,
-        pairs,
-        proof,
-        state,
-        &taken[..split],
-        ends,
-        &mut facts,
-    );
+    let ledger = walked(asked, buffer, pairs, proof, state, rows, ends, &mut facts);
     let stop = ledger.stop();
     match stop {
         Stop::Stopped(answer) => answer,

@@ -28,11 +28,9 @@ pub enum Term {
 }
 
 /// A certificate's record: the part of the buffer from `start`, `length` bytes long, is what the principal says.
-/// Records may share their number, and are then withdrawn together.
 #[derive(Clone, Copy, Debug, PartialEq, Eq)]
 pub struct Record {
     pub principal: u16,
-    pub number: u16,
     pub from: Time,
     pub to: Time,
     pub start: u64,
@@ -63,18 +61,12 @@ pub struct Fact {
     pub terms: Vec<Term>,
 }
 
-/// The versions that a procap can have: the one without numbers of certificates, and the one with them.
-pub const WITHOUT_NUMBERS: u64 = 1;
-pub const WITH_NUMBERS: u64 = 2;
-
-/// A procap: for its request it opens from `from` to `to` while its facts hold and none of its numbers is withdrawn.
+/// A procap: for its request it opens from `from` to `to` while its facts hold.
 #[derive(Clone, Debug, PartialEq, Eq)]
 pub struct Procap {
-    pub version: u64,
     pub request: Request,
     pub from: u64,
     pub to: u64,
-    pub numbers: Vec<u16>,
     pub facts: Vec<Fact>,
 }
 

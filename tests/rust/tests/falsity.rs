@@ -3,10 +3,11 @@
 mod by_hand;
 
 use by_hand::{
-    alike, by_rule, case_of_1, if_so, pressed, told, verified, Said, ALWAYS, ATOM, EVER, IN_MARCH,
-    JUNE, MARCH, MAY, OTHER,
+    alike, by_rule, case_of_1, if_so, pressed, told, Said, ALWAYS, ATOM, EVER, IN_MARCH, JUNE,
+    MARCH, MAY, OTHER,
 };
 use second_opinion::data::Answer;
+use second_opinion::second::{verify, NoWatch};
 
 /// Falsity serves for falsity, and is neither top nor anything else.
 #[test]
@@ -47,7 +48,7 @@ fn any_goal() {
     for goal in goals {
         let said = [&if_so(&goal)[..], "1b"];
         assert_eq!(alike(&said, &by_rule("31 2101")), ALWAYS);
-        let issued = verified(&case_of_1(&said, &by_rule("31 2101")));
+        let issued = verify(&case_of_1(&said, &by_rule("31 2101")), &mut NoWatch);
         assert!(issued.is_ok_and(|procap| procap.facts.is_empty()));
     }
 }

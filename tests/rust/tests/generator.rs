@@ -1,7 +1,7 @@
 //! The generator keeps its promises: same seed, same cases; valid cases are within the limits and mostly issued; valid
 //! and damaged cases together try every clause both ways.
 
-use second_opinion::data::{Answer, Case, Time, LATEST, WITHOUT_NUMBERS, WITH_NUMBERS};
+use second_opinion::data::{Answer, Case, Time, LATEST};
 use second_opinion::generate::{
     about_an_or, at_a_limit, damaged, damaged_bytes, in_a_view, input_of, raw, valid, Random,
 };
@@ -25,7 +25,7 @@ fn one_of_each(seed: u64) -> [Case; 6] {
 
 /// The number that verify answers a case with.
 fn number(case: &Case, watch: &mut impl Watch) -> u64 {
-    match second::verify(WITHOUT_NUMBERS, case, watch) {
+    match second::verify(case, watch) {
         Ok(_) => 0,
         Err(refusal) => refusal.number,
     }
@@ -209,13 +209,13 @@ fn door_and_direct_check(make: fn(&mut Random) -> Case, states: &[&[u8]]) {
     let (mut opened, mut shut) = (0, 0);
     for seed in 0..SEEDS {
         let case = make(&mut Random::new(seed));
-        let issued = second::verify(WITHOUT_NUMBERS, &case, &mut NoWatch);
+        let issued = second::verify(&case, &mut NoWatch);
         let moments = second::moments_of(&case).into_iter();
         for moment in moments.flat_map(|one| [one.saturating_sub(1), one, one + 1]) {
             for state in states {
                 let accepted =
                     second::direct(&case, moment, state, &mut NoWatch) == Answer::GRANTED;
-                let door = |procap| second::door(procap, case.request, moment, state, &[]);
+                let door = |procap| second::door(procap, case.request, moment, state);
                 let opens = issued
                     .as_ref()
                     .is_ok_and(|procap| door(procap) == Answer::GRANTED);
@@ -255,27 +255,19 @@ fn inputs_say_their_cases() {
     for seed in 0..SEEDS {
         for mut case in one_of_each(seed) {
             case.pairs.clear();
-            for version in [WITHOUT_NUMBERS, WITH_NUMBERS] {
-                let Some(input) = input_of(version, &case) else {
-                    continue;
-                };
-                said += 1;
-                let version = match case.records.len() {
-                    0 => WITHOUT_NUMBERS,
-                    _ => version,
-                };
-                let printed = printed(version, &case);
-                assert_eq!(second::printed(&input), printed, "seed {seed}");
-            }
+            let Some(input) = input_of(&case) else {
+                continue;
+            };
+            said += 1;
+            let printed = match second::verify(&case, &mut NoWatch) {
+                Ok(procap) => second::text_of(&procap).expect("an issued procap has a text"),
+                Err(refusal) => {
+                    let (number, place) = (refusal.number, refusal.place);
+                    format!("refused={number}\nplace={place}\n").into_bytes()
+                }
+            };
+            assert_eq!(second::printed(&input), printed, "seed {seed}");
         }
     }
-    assert!(said > 2 * SEEDS);
-}
-
-/// What is to be printed for a case in a version.
-fn printed(version: u64, case: &Case) -> Vec<u8> {
-    match second::verify(version, case, &mut NoWatch) {
-        Ok(procap) => second::text_of(&procap).expect("an issued procap has a text"),
-        Err(Answer { number, place }) => format!("refused={number}\nplace={place}\n").into_bytes(),
-    }
+    assert!(said > SEEDS);
 }

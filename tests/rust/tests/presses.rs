@@ -2,9 +2,9 @@
 
 mod by_hand;
 
-use by_hand::{bytes, plain, Said, LOADED, REQUEST};
-use second_opinion::data::{Answer, Case, Procap, Request, Time, LATEST};
-use second_opinion::second::{direct, door, door_on_text, text_of, write_text, NoWatch};
+use by_hand::{bytes, Said, REQUEST};
+use second_opinion::data::{Answer, Case, Fact, Procap, Request, Term, Time, LATEST};
+use second_opinion::second::{direct, door, door_on_text, text_of, verify, write_text, NoWatch};
 
 /// The formula of case P's certificate.
 const SAID: &str = "13121800c801000007170064030500000007000009";
@@ -14,6 +14,9 @@ const SAID_FOR_ALL_TIMES: &str = "14121800c9020000070500170064030000020000070000
 
 /// The proof of case P.
 const PROOF: &str = "2a262700000221002c0404";
+
+/// The state where 200(7) stands.
+const LOADED: &str = "00c801000007";
 
 /// A case with certificates of 1 that say these formulas, each on its interval.
 fn case(said: &[(Time, Time, &str)], proof: &str) -> Case {
@@ -29,15 +32,19 @@ fn p_with(proof: &str) -> Case {
 
 /// What verify says to case P with another proof.
 fn verified(proof: &str) -> Result<Procap, Answer> {
-    by_hand::verified(&p_with(proof))
+    verify(&p_with(proof), &mut NoWatch)
 }
 
 /// The procap of 200(7) on these moments.
 fn loaded_procap(from: u64, to: u64) -> Procap {
     Procap {
+        request: REQUEST,
         from,
         to,
-        ..plain()
+        facts: vec![Fact {
+            predicate: 200,
+            terms: vec![Term::Name(7)],
+        }],
     }
 }
 
@@ -81,9 +88,9 @@ fn presses_with_the_procap_of_p() {
     ];
     for (request, moment, state, answer) in presses {
         let state = bytes(state);
-        assert_eq!(door(&procap, request, moment, &state, &[]), answer);
+        assert_eq!(door(&procap, request, moment, &state), answer);
         let [who, what, right] = [request.who, request.what, request.right].map(u64::from);
-        let on_text = door_on_text(&text, who, what, right, moment, &state, &[]);
+        let on_text = door_on_text(&text, who, what, right, moment, &state);
         assert_eq!(on_text, answer);
     }
 }
@@ -110,14 +117,14 @@ fn ctime_is_put_into_a_fact_at_the_door() {
         (Time::MinusInfinity, Time::PlusInfinity, SAID_FOR_ALL_TIMES),
     ];
     let run = case(&said, "2a26270421012c0203");
-    let procap = by_hand::verified(&run).expect("the run case is issued");
+    let procap = verify(&run, &mut NoWatch).expect("the run case is issued");
     let text =
         "procap=1\nwho=2\nwhat=7\nright=9\nfrom=0\nto=1099511627775\nfacts=1\nfact=201 n7 c\n";
     assert_eq!(text_of(&procap), Ok(text.as_bytes().to_vec()));
     let logged = bytes("00c9020000070100000005dc");
-    assert_eq!(door(&procap, REQUEST, 1500, &logged, &[]), Answer::GRANTED);
+    assert_eq!(door(&procap, REQUEST, 1500, &logged), Answer::GRANTED);
     let missing = Answer::refused(10, 0);
-    assert_eq!(door(&procap, REQUEST, 1501, &logged, &[]), missing);
+    assert_eq!(door(&procap, REQUEST, 1501, &logged), missing);
     assert_eq!(direct(&run, 1500, &logged, &mut NoWatch), Answer::GRANTED);
     let missing = Answer::refused(10, 6);
     assert_eq!(direct(&run, 1501, &logged, &mut NoWatch), missing);

@@ -2,13 +2,13 @@
 
 mod by_hand;
 
-use by_hand::{briefly, case_of_1 as case, if_so, verified, Told, ALWAYS, ATOM, MAY};
+use by_hand::{briefly, case_of_1 as case, if_so, Told, ALWAYS, ATOM, MAY};
 use second_opinion::data::{Answer, Case, Time, LATEST};
-use second_opinion::second::{direct, NoWatch};
+use second_opinion::second::{direct, verify, NoWatch};
 
 /// What verify says to a case.
 fn told_of(case: &Case) -> Told {
-    briefly(verified(case))
+    briefly(verify(case, &mut NoWatch))
 }
 
 /// What verify says where 1 says these formulas for all time.

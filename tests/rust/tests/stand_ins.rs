@@ -2,10 +2,10 @@
 
 mod by_hand;
 
-use by_hand::{case, lending, told_by, verified, ALWAYS, EVER, MAY, MOMENTS};
+use by_hand::{case, lending, told_by, ALWAYS, EVER, MAY, MOMENTS};
 use second_opinion::data::{Answer, Case, LATEST};
 use second_opinion::generate::Random;
-use second_opinion::second::{direct, NoWatch};
+use second_opinion::second::{direct, verify, NoWatch};
 
 /// A pair, the stronger first.
 type Named = (u16, u16);
@@ -47,7 +47,7 @@ fn by_5(pairs: &[Named]) -> Case {
 
 /// The one answer that verify, and the direct check at every moment, give to a case.
 fn answer(case: &Case) -> Answer {
-    let answer = Answer::of(&verified(case));
+    let answer = Answer::of(&verify(case, &mut NoWatch));
     for moment in MOMENTS {
         assert_eq!(direct(case, moment, &[], &mut NoWatch), answer);
     }

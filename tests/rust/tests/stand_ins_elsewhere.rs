@@ -4,11 +4,11 @@
 mod by_hand;
 
 use by_hand::{
-    case, if_so, lending, on, told_by, verified, Said, ALWAYS, ATOM, EVER, IN_JUNE, IN_MARCH, JUNE,
-    MARCH, MAY, OTHER,
+    case, if_so, lending, on, told_by, Said, ALWAYS, ATOM, EVER, IN_JUNE, IN_MARCH, JUNE, MARCH,
+    MAY, OTHER,
 };
 use second_opinion::data::{Answer, Time, LATEST};
-use second_opinion::second::{case_of, direct, moments_of, printed, NoWatch};
+use second_opinion::second::{case_of, direct, moments_of, printed, verify, NoWatch};
 
 /// 6 stands above 5, and 5 above 6.
 const SIX_FIRST: (u16, u16) = (6, 5);
@@ -173,8 +173,8 @@ fn the_program_lends_no_pairs() {
     };
     assert!(printed(&input(1)).starts_with(b"procap=1\n"));
     assert_eq!(printed(&input(5)), b"refused=3\nplace=1\n");
-    let (_, case) = case_of(&input(5)).expect("it is a case");
+    let case = case_of(&input(5)).expect("it is a case");
     assert!(case.pairs.is_empty());
     let lent = lending(&[(5, 1)], case);
-    assert!(verified(&lent).is_ok());
+    assert!(verify(&lent, &mut NoWatch).is_ok());
 }

@@ -1,7 +1,7 @@
 //! The generator's cases about strength: chains of every length lead to words and do not quite, and no list within the
 //! limits is refused for its length.
 
-use second_opinion::data::{Answer, Case, Pair, Request, WITHOUT_NUMBERS};
+use second_opinion::data::{Answer, Case, Pair, Request};
 use second_opinion::generate::{
     about_stand_ins, asking_often, damaged, longest_chain, perhaps_lending, raw, valid,
     valid_by_strength, Random, MOST_ENDS,
@@ -35,7 +35,7 @@ impl Watch for Asked {
 
 /// The number that verify answers a case with.
 fn number(case: &Case, watch: &mut impl Watch) -> u64 {
-    Answer::of(&second::verify(WITHOUT_NUMBERS, case, watch)).number
+    Answer::of(&second::verify(case, watch)).number
 }
 
 /// One case of each kind from a seed.
@@ -61,13 +61,13 @@ fn same_seed_same_cases() {
 fn the_door_opens_when_the_direct_check_accepts() {
     let (mut opened, mut shut) = (0, 0);
     for (seed, case) in (0..SEEDS).flat_map(|seed| one_of_each(seed).map(|case| (seed, case))) {
-        let issued = second::verify(WITHOUT_NUMBERS, &case, &mut NoWatch);
+        let issued = second::verify(&case, &mut NoWatch);
         let Some(moment) = second::moments_of(&case).first().copied() else {
             continue;
         };
         let state = [];
         let accepted = second::direct(&case, moment, &state, &mut NoWatch) == Answer::GRANTED;
-        let door = |procap| second::door(procap, case.request, moment, &state, &[]);
+        let door = |procap| second::door(procap, case.request, moment, &state);
         let opens = issued
             .as_ref()
             .is_ok_and(|procap| door(procap) == Answer::GRANTED);

@@ -94,13 +94,12 @@ fn in_record(random: &mut Random, case: &mut Case) {
     let index = random.below(case.records.len() as u64) as usize;
     let length = case.buffer.len() as u64;
     let record = &mut case.records[index];
-    match random.below(13) {
+    match random.below(12) {
         0..=2 => record.principal = another_name(random, record.principal),
         3..=5 => record.from = another_time(random, record.from),
         6..=8 => record.to = another_time(random, record.to),
         9 => std::mem::swap(&mut record.from, &mut record.to),
-        10 => record.number = another_name(random, record.number),
-        11 => record.start = another_size(random, record.start, length),
+        10 => record.start = another_size(random, record.start, length),
         _ => record.length = another_size(random, record.length, length),
     }
 }

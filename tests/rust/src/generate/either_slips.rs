@@ -3,7 +3,6 @@
 use super::either::{atom, latest, Split, Viewed};
 use super::either_compared::compared;
 use super::formula::Formula;
-use super::numbers::numbered;
 use super::step::Step;
 use super::tags;
 use super::Random;
@@ -11,12 +10,6 @@ use crate::data::Case;
 
 /// A case about an or that is mostly not shown.
 pub fn about_an_or(random: &mut Random) -> Case {
-    let case = amiss(random);
-    numbered(random, case)
-}
-
-/// The same without numbers.
-fn amiss(random: &mut Random) -> Case {
     let mut split = Split::some(random);
     let side = random.below(2) as usize;
     match random.below(13) {

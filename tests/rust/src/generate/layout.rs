@@ -33,7 +33,6 @@ pub fn case_of(office: &mut Office, request: Request, mut proof: Step) -> Case {
 fn record(certificate: &Certificate, start: usize, length: usize) -> Record {
     Record {
         principal: certificate.principal,
-        number: 0,
         from: certificate.span.from,
         to: certificate.span.to,
         start: start as u64,

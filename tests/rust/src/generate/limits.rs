@@ -6,7 +6,6 @@ use super::layout::in_a_row;
 use super::limits_either as either;
 use super::limits_policy as policy;
 use super::limits_proof as proof;
-use super::numbers::numbered;
 use super::office::Certificate;
 use super::step::Step;
 use super::tags;
@@ -38,8 +37,7 @@ pub fn at_a_limit(random: &mut Random) -> Case {
         either::state_steps_in_cases,
     ];
     let maker = *random.pick(&makers);
-    let case = maker(random);
-    numbered(random, case)
+    maker(random)
 }
 
 /// A limit less one, the limit, or the limit plus one.

@@ -140,11 +140,6 @@ pub fn state_steps(random: &mut Random) -> Case {
 
 /// A procap whose text is the longest there is, or one digit shorter somewhere.
 pub fn longest_text(random: &mut Random) -> Case {
-    longest_text_with(random, 0)
-}
-
-/// The same with so many certificates more, which the proof uses beside the five that it needs.
-pub fn longest_text_with(random: &mut Random, more: usize) -> Case {
     let request = Request {
         who: 65_535,
         what: 65_535 - random.below(2) as u16 * 60_000,
@@ -152,17 +147,14 @@ pub fn longest_text_with(random: &mut Random, more: usize) -> Case {
     };
     let groups: Vec<Vec<Formula>> = (0..4).map(|group| long_facts(random, group)).collect();
     let middle = |group: usize| Formula::atom(300 + group as u16, vec![]);
-    let mut asked: Vec<Formula> = (0..4).map(middle).collect();
-    asked.resize(4 + more, Formula::top());
-    let mut policy = vec![always(Formula::implies(all_of(&asked), may(request)))];
+    let middles: Vec<Formula> = (0..4).map(middle).collect();
+    let mut policy = vec![always(Formula::implies(all_of(&middles), may(request)))];
     let mut shown = Vec::new();
     for (group, facts) in groups.iter().enumerate() {
         policy.push(always(Formula::implies(all_of(facts), middle(group))));
         let states = pairs_of(&vec![Step::leaf(tags::STATE); 4]);
         shown.push(apply_at_press(group + 1, states));
     }
-    policy.resize(5 + more, always(Formula::top()));
-    shown.extend((5..5 + more).map(Step::certificate));
     let latest = random.below(2) == 0;
     if latest {
         policy[0].span.from = Time::Moment(LATEST);

@@ -2,7 +2,6 @@
 
 use super::clock::any_moment;
 use super::lend::raw_pairs;
-use super::numbers::numbered;
 use super::step::{adds, infers_first, shape};
 use super::tags;
 use super::Random;
@@ -31,14 +30,13 @@ pub fn raw(random: &mut Random) -> Case {
         let length = random.below(1000 - buffer.len().min(999) as u64);
         buffer.extend(random_bytes(random, length));
     }
-    let case = Case {
+    Case {
         request: raw_request(random),
         proof: raw_proof(random, records.len() as u64),
         pairs: raw_pairs(random),
         records,
         buffer,
-    };
-    numbered(random, case)
+    }
 }
 
 /// How many records there are.
@@ -71,7 +69,6 @@ fn random_bytes(random: &mut Random, length: u64) -> Vec<u8> {
 fn raw_record(random: &mut Random, start: u64, end: u64) -> Record {
     let mut record = Record {
         principal: *random.pick(&[0, 1, 1, 1, 2]),
-        number: 0,
         from: raw_time(random),
         to: raw_time(random),
         start,

@@ -2,7 +2,6 @@
 
 use super::damage::another_name;
 use super::damage_pairs::turn;
-use super::numbers::numbered;
 use super::pairs::{
     add_harmless, chain, end_on_zeros, leading_down, line_above, listed, ring, some_length,
     too_many,
@@ -29,12 +28,6 @@ pub fn by_a_stand_in(random: &mut Random) -> Case {
 /// A case where somebody's words are used in a view, and mostly as they may not be: not by one who stands above, or not
 /// on all of the view's span, or with too many pairs.
 pub fn about_stand_ins(random: &mut Random) -> Case {
-    let case = in_a_view_below(random);
-    numbered(random, case)
-}
-
-/// The same without numbers.
-fn in_a_view_below(random: &mut Random) -> Case {
     let (mut used, names) = some_use(random);
     if random.one_in(8) {
         return compared(random, used.viewer, &names);

@@ -5,7 +5,6 @@ use super::either::by_an_or;
 use super::formula::Formula;
 use super::goal::{Goal, View};
 use super::layout::case_of;
-use super::numbers::numbered;
 use super::office::{Habits, Office};
 use super::pairs::some_pairs;
 use super::stand_ins::by_a_stand_in;
@@ -32,21 +31,20 @@ pub fn may(request: Request) -> Formula {
 
 /// A case whose proof shows its request, within all limits and with no pair.
 pub fn valid(random: &mut Random) -> Case {
-    let case = match random.below(16) {
-        0 => well_used(random),
-        1 => by_an_or(random),
-        _ => made(random, |_, _| Vec::new()),
-    };
-    numbered(random, case)
+    match random.below(16) {
+        0 => return well_used(random),
+        1 => return by_an_or(random),
+        _ => {}
+    }
+    made(random, |_, _| Vec::new())
 }
 
 /// A case whose proof shows its request, within all limits, mostly by words of some who stand above others.
 pub fn valid_by_strength(random: &mut Random) -> Case {
-    let case = match random.one_in(3) {
+    match random.one_in(3) {
         true => by_a_stand_in(random),
         false => made(random, some_pairs),
-    };
-    numbered(random, case)
+    }
 }
 
 /// A case that the office makes, with such pairs about its names.

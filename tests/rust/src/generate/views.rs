@@ -4,7 +4,6 @@ use super::clock::{Clock, Span};
 use super::damage::another_name;
 use super::formula::Formula;
 use super::limits::{always, case, some_request};
-use super::numbers::numbered;
 use super::office::Certificate;
 use super::rule::{asking, granted};
 use super::step::Step;
@@ -38,8 +37,7 @@ pub fn in_a_view(random: &mut Random) -> Case {
     if random.one_in(4) {
         used.speaker = another_name(random, used.speaker);
     }
-    let case = used.case(random);
-    numbered(random, case)
+    used.case(random)
 }
 
 impl Use {

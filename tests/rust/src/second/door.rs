@@ -1,8 +1,7 @@
-//! The door: a procap, a request, a moment, a state and a list of withdrawn numbers.
+//! The door: a procap, a request, a moment and a state.
 
 use super::state::State;
 use super::text::{read_text, writable};
-use super::withdrawn::Withdrawn;
 use crate::data::{Answer, Procap, Request};
 
 /// The three numbers of a request as they come, which may be too great for one.
@@ -25,45 +24,23 @@ impl From<Request> for Asked {
 }
 
 /// Opens to a procap that could be written, or says why not.
-pub fn door(
-    procap: &Procap,
-    asked: Asked,
-    moment: u64,
-    state: &[u8],
-    withdrawn: &[u8],
-) -> Result<(), Answer> {
+pub fn door(procap: &Procap, asked: Asked, moment: u64, state: &[u8]) -> Result<(), Answer> {
     if !writable(procap) {
         return Err(Answer::refused(12, 0));
     }
-    press(procap, asked, moment, state, withdrawn)
+    press(procap, asked, moment, state)
 }
 
 /// Opens to a procap's text, or says why not.
-pub fn door_on_text(
-    text: &[u8],
-    asked: Asked,
-    moment: u64,
-    state: &[u8],
-    withdrawn: &[u8],
-) -> Result<(), Answer> {
-    press(&read_text(text)?, asked, moment, state, withdrawn)
+pub fn door_on_text(text: &[u8], asked: Asked, moment: u64, state: &[u8]) -> Result<(), Answer> {
+    press(&read_text(text)?, asked, moment, state)
 }
 
-/// Opens where moment, state and list are well formed and all is as the procap wants it.
-fn press(
-    procap: &Procap,
-    asked: Asked,
-    moment: u64,
-    state: &[u8],
-    withdrawn: &[u8],
-) -> Result<(), Answer> {
+/// Opens where moment and state are well formed and all is as the procap wants it.
+fn press(procap: &Procap, asked: Asked, moment: u64, state: &[u8]) -> Result<(), Answer> {
     let state = State::at(moment, state)?;
-    let withdrawn = Withdrawn::read(withdrawn).ok_or(Answer::refused(16, 0))?;
     if asked != Asked::from(procap.request) {
         return Err(Answer::refused(8, 0));
-    }
-    if withdrawn.has_one_of(&procap.numbers) {
-        return Err(Answer::refused(15, 0));
     }
     if moment < procap.from || procap.to < moment {
         return Err(Answer::refused(9, 0));

@@ -20,11 +20,6 @@ impl<'a> Lines<'a> {
         self.number
     }
 
-    /// Whether the next line has this label.
-    pub fn next_has(&self, label: &[u8]) -> bool {
-        self.rest.starts_with(label)
-    }
-
     /// What the next line spells after this label, if the line is whole and has the label.
     pub fn field<T>(
         &mut self,

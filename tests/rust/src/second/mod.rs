@@ -8,7 +8,6 @@ mod comparing;
 mod direct;
 mod door;
 mod formulas;
-mod inferences;
 mod judging;
 mod lines;
 mod moments;
@@ -22,21 +21,19 @@ mod terms;
 mod text;
 mod times;
 mod trying;
-mod used;
 mod values;
 mod verify;
 mod viewing;
 mod wanted;
-mod withdrawn;
 
 use crate::data::{Answer, Case, Fact, Procap, Request};
 pub use clauses::{Clause, NoWatch, Verdict, Watch};
 use door::Asked;
 pub use values::VALUE_BYTES;
 
-/// The procap of a version that verify issues for a case, or its refusal. A version that there is not is 12.
-pub fn verify(version: u64, case: &Case, watch: &mut impl Watch) -> Result<Procap, Answer> {
-    verify::verify(version, case, watch)
+/// The procap that verify issues for a case, or its refusal.
+pub fn verify(case: &Case, watch: &mut impl Watch) -> Result<Procap, Answer> {
+    verify::verify(case, watch)
 }
 
 /// What the direct check answers for a case at a moment, in a state.
@@ -44,16 +41,9 @@ pub fn direct(case: &Case, moment: u64, state: &[u8], watch: &mut impl Watch) ->
     Answer::of(&direct::direct(case, moment, state, watch))
 }
 
-/// What the door answers to a procap, 12 where it cannot be written. Withdrawn numbers come as two bytes each.
-pub fn door(
-    procap: &Procap,
-    request: Request,
-    moment: u64,
-    state: &[u8],
-    withdrawn: &[u8],
-) -> Answer {
-    let asked = request.into();
-    Answer::of(&door::door(procap, asked, moment, state, withdrawn))
+/// What the door answers to a procap that can be written.
+pub fn door(procap: &Procap, request: Request, moment: u64, state: &[u8]) -> Answer {
+    Answer::of(&door::door(procap, request.into(), moment, state))
 }
 
 /// What the door answers to a text. Numbers above 65,535 are in no procap's request.
@@ -64,10 +54,9 @@ pub fn door_on_text(
     right: u64,
     moment: u64,
     state: &[u8],
-    withdrawn: &[u8],
 ) -> Answer {
     let asked = Asked { who, what, right };
-    Answer::of(&door::door_on_text(text, asked, moment, state, withdrawn))
+    Answer::of(&door::door_on_text(text, asked, moment, state))
 }
 
 /// The procap that a text spells, or 12.
@@ -88,7 +77,7 @@ pub fn write_text(procap: &Procap, out: &mut [u8]) -> (Answer, usize) {
     }
 }
 
-/// The value that holds a procap of at most 32 numbers and at most 16 facts with at most 4 terms each.
+/// The value that holds a procap of at most 16 facts with at most 4 terms each.
 pub fn value_of(procap: &Procap) -> Vec<u8> {
     values::value_of(procap)
 }
@@ -103,12 +92,6 @@ pub fn facts_wanted(case: &Case, moment: u64) -> Vec<Fact> {
     wanted::facts_wanted(case, moment)
 }
 
-/// The places of the records that the proof of a case names, in order, where the case can be read.
-pub fn used_records(case: &Case) -> Vec<usize> {
-    let read = verify::read_case(case, &mut NoWatch);
-    read.map_or(Vec::new(), |(_, proof)| used::used_records(&proof))
-}
-
 /// Every moment that a case mentions, in order, as far as it can be read.
 pub fn moments_of(case: &Case) -> Vec<u64> {
     moments::moments_of(case)
@@ -119,7 +102,7 @@ pub fn printed(input: &[u8]) -> Vec<u8> {
     program::printed(input)
 }
 
-/// The version and the case that an input of the program spells, or the refusal with the first line that does not.
-pub fn case_of(input: &[u8]) -> Result<(u64, Case), Answer> {
+/// The case that an input of the program spells, or the refusal with the first line that does not.
+pub fn case_of(input: &[u8]) -> Result<Case, Answer> {
     program::case_of(input)
 }

@@ -2,8 +2,7 @@
 
 use super::clauses::NoWatch;
 use super::formulas::{Formula, Slot};
-use super::inferences::each_inference;
-use super::steps::{Inference, Inferring};
+use super::steps::{Checking, Inference, Inferring, Step};
 use super::times::Interval;
 use super::verify::read_case;
 use crate::data::{Case, Term, Time};
@@ -19,9 +18,7 @@ pub fn moments_of(case: &Case) -> Vec<u64> {
         for certificate in &certificates {
             add_formula(&certificate.judgement.formula, &mut found);
         }
-        each_inference(&proof, &mut |inference| {
-            add_inference(inference, &mut found);
-        });
+        add_step(&proof, &mut found);
     }
     found.sort_unstable();
     found.dedup();
@@ -71,14 +68,52 @@ fn add_formula(formula: &Formula, found: &mut Vec<u64>) {
     }
 }
 
-/// Adds the moments that an inferring step names itself.
+/// Adds the moments in a step.
+fn add_step(step: &Step, found: &mut Vec<u64>) {
+    match step {
+        Step::Infers(inference) => add_inference(inference, found),
+        Step::Checks(check) => add_check(&check.rule, found),
+    }
+}
+
+/// Adds the moments in an inferring step.
 fn add_inference(inference: &Inference, found: &mut Vec<u64>) {
     match &inference.rule {
-        Inferring::Apply(_, _, Interval { from, to }) => {
+        Inferring::Assumption(_) | Inferring::Certificate(_) => {}
+        Inferring::First(from) | Inferring::Second(from) => add_inference(from, found),
+        Inferring::Apply(implication, condition, Interval { from, to }) => {
+            add_inference(implication, found);
+            add_step(condition, found);
             add_time(*from, found);
             add_time(*to, found);
         }
-        Inferring::Instance(term, _) => add_term(*term, found),
-        _ => {}
+        Inferring::Instance(term, from) => {
+            add_term(*term, found);
+            add_inference(from, found);
+        }
+    }
+}
+
+/// Adds the moments in a checking step.
+fn add_check(rule: &Checking, found: &mut Vec<u64>) {
+    match rule {
+        Checking::Top | Checking::State | Checking::Order => {}
+        Checking::Pair(first, second) => {
+            add_step(first, found);
+            add_step(second, found);
+        }
+        Checking::AtIn(inside) | Checking::SaysIn(inside) | Checking::Side(_, inside) => {
+            add_step(inside, found);
+        }
+        Checking::AtOut(inference, rest) | Checking::SaysOut(inference, rest) => {
+            add_inference(inference, found);
+            add_step(rest, found);
+        }
+        Checking::Cases(inference, left, right) => {
+            add_inference(inference, found);
+            add_step(left, found);
+            add_step(right, found);
+        }
+        Checking::ByFalsity(inference) => add_inference(inference, found),
     }
 }

@@ -4,7 +4,7 @@ use super::clauses::NoWatch;
 use super::lines::{decimal, two_byte_number, Lines};
 use super::text::{read_moment, read_request, text_of};
 use super::verify::verify;
-use crate::data::{Answer, Case, Record, Time, WITHOUT_NUMBERS, WITH_NUMBERS};
+use crate::data::{Answer, Case, Record, Time};
 
 /// How long an input can be.
 const MOST_BYTES: usize = 65_536;
@@ -12,13 +12,10 @@ const MOST_BYTES: usize = 65_536;
 /// How many groups of a certificate an input can have.
 const MOST_GROUPS: u64 = 32;
 
-/// The label of the line with a certificate's number, which the groups of an input have all or none.
-const NUMBER: &[u8] = b"num=";
-
 /// What the program prints for an input.
 pub fn printed(input: &[u8]) -> Vec<u8> {
     let text = case_of(input)
-        .and_then(|(version, case)| verify(version, &case, &mut NoWatch))
+        .and_then(|case| verify(&case, &mut NoWatch))
         .and_then(|procap| text_of(&procap));
     text.unwrap_or_else(refusal)
 }
@@ -28,8 +25,8 @@ fn refusal(answer: Answer) -> Vec<u8> {
     format!("refused={}\nplace={}\n", answer.number, answer.place).into_bytes()
 }
 
-/// The version and the case that an input spells, or the first line that does not.
-pub fn case_of(input: &[u8]) -> Result<(u64, Case), Answer> {
+/// The case that an input spells, or the first line that does not.
+pub fn case_of(input: &[u8]) -> Result<Case, Answer> {
     if input.len() > MOST_BYTES {
         return Err(Answer::refused(14, 0));
     }
@@ -38,8 +35,8 @@ pub fn case_of(input: &[u8]) -> Result<(u64, Case), Answer> {
     case.ok_or_else(|| Answer::refused(14, lines.number()))
 }
 
-/// The version and the case on these lines, if they have the form of one. No line is for pairs.
-fn read_case(lines: &mut Lines) -> Option<(u64, Case)> {
+/// The case on these lines, if they have the form of one. No line is for pairs.
+fn read_case(lines: &mut Lines) -> Option<Case> {
     let mut case = Case {
         request: read_request(lines)?,
         records: Vec::new(),
@@ -48,43 +45,28 @@ fn read_case(lines: &mut Lines) -> Option<(u64, Case)> {
         proof: Vec::new(),
     };
     let groups = lines.field(b"certs=", |rest| decimal(rest, MOST_GROUPS))?;
-    let mut version = WITHOUT_NUMBERS;
-    for group in 0..groups {
-        add_certificate(lines, &mut case)?;
-        if group == 0 && lines.next_has(NUMBER) {
-            version = WITH_NUMBERS;
-        }
-        if version == WITH_NUMBERS {
-            add_number(lines, &mut case)?;
-        }
+    for _ in 0..groups {
+        add_group(lines, &mut case)?;
     }
     case.proof = lines.field(b"proof=", read_bytes)?;
     lines.end()?;
-    Some((version, case))
+    Some(case)
 }
 
-/// Adds the certificate on the next four lines, if there is one, as number 0.
-fn add_certificate(lines: &mut Lines, case: &mut Case) -> Option<()> {
+/// Adds the certificate on the next four lines, if there is one.
+fn add_group(lines: &mut Lines, case: &mut Case) -> Option<()> {
     let principal = lines.field(b"by=", two_byte_number)?;
     let from = lines.field(b"from=", read_time)?;
     let to = lines.field(b"to=", read_time)?;
     let said = lines.field(b"says=", read_bytes)?;
     case.records.push(Record {
         principal,
-        number: 0,
         from,
         to,
         start: case.buffer.len() as u64,
         length: said.len() as u64,
     });
     case.buffer.extend(said);
-    Some(())
-}
-
-/// Gives the last certificate the number on the next line, if there is one.
-fn add_number(lines: &mut Lines, case: &mut Case) -> Option<()> {
-    let number = lines.field(NUMBER, two_byte_number)?;
-    case.records.last_mut()?.number = number;
     Some(())
 }
 

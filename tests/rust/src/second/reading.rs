@@ -39,14 +39,12 @@ impl Office {
         self.from <= self.to
     }
 
-    /// The procap of a version for a request, with these numbers and with what was gathered.
-    pub fn procap(self, version: u64, request: Request, numbers: Vec<u16>) -> Procap {
+    /// The procap for a request with what was gathered.
+    pub fn procap(self, request: Request) -> Procap {
         Procap {
-            version,
             request,
             from: self.from,
             to: self.to,
-            numbers,
             facts: self.facts,
         }
     }

@@ -3,13 +3,7 @@
 use super::lines::{decimal, two_byte_number, Lines};
 use super::terms::MOST_TERMS;
 use super::times::in_range;
-use super::withdrawn::strictly_rising;
-use crate::data::{
-    Answer, Fact, Procap, Request, Term, Time, LATEST, WITHOUT_NUMBERS, WITH_NUMBERS,
-};
-
-/// How many numbers a procap lists at most.
-pub const MOST_NUMBERS: usize = 32;
+use crate::data::{Answer, Fact, Procap, Request, Term, Time, LATEST};
 
 /// How many facts a procap lists at most.
 pub const MOST_FACTS: usize = 16;
@@ -20,21 +14,11 @@ const NO_TEXT: Answer = Answer::refused(12, 0);
 /// Whether a procap has a text.
 pub fn writable(procap: &Procap) -> bool {
     let facts = &procap.facts;
-    writable_numbers(procap.version, &procap.numbers)
-        && procap.from <= procap.to
+    procap.from <= procap.to
         && procap.to <= LATEST
         && facts.len() <= MOST_FACTS
         && facts.iter().all(writable_fact)
         && (0..facts.len()).all(|index| !facts[..index].contains(&facts[index]))
-}
-
-/// Whether there is such a version, and it can have these numbers.
-fn writable_numbers(version: u64, numbers: &[u16]) -> bool {
-    match version {
-        WITHOUT_NUMBERS => numbers.is_empty(),
-        WITH_NUMBERS => numbers.len() <= MOST_NUMBERS && strictly_rising(numbers),
-        _ => false,
-    }
 }
 
 /// Whether a fact has a line.
@@ -52,25 +36,14 @@ pub fn text_of(procap: &Procap) -> Result<Vec<u8>, Answer> {
         return Err(NO_TEXT);
     }
     let Request { who, what, right } = procap.request;
-    let (version, from, to) = (procap.version, procap.from, procap.to);
-    let mut text =
-        format!("procap={version}\nwho={who}\nwhat={what}\nright={right}\nfrom={from}\nto={to}\n");
-    if version == WITH_NUMBERS {
-        add_numbers(&mut text, &procap.numbers);
-    }
-    text.push_str(&format!("facts={}\n", procap.facts.len()));
+    let (from, to, facts) = (procap.from, procap.to, procap.facts.len());
+    let mut text = format!(
+        "procap=1\nwho={who}\nwhat={what}\nright={right}\nfrom={from}\nto={to}\nfacts={facts}\n"
+    );
     for fact in &procap.facts {
         add_fact(&mut text, fact);
     }
     Ok(text.into_bytes())
-}
-
-/// Adds the lines of the numbers.
-fn add_numbers(text: &mut String, numbers: &[u16]) {
-    text.push_str(&format!("certs={}\n", numbers.len()));
-    for number in numbers {
-        text.push_str(&format!("cert={number}\n"));
-    }
 }
 
 /// Adds the line of a fact.
@@ -110,14 +83,10 @@ pub fn read_text(text: &[u8]) -> Result<Procap, Answer> {
 
 /// The procap on these lines, if they have the form of one, whether or not its values go together.
 fn read_lines(lines: &mut Lines) -> Option<Procap> {
-    let version = lines.field(b"procap=", read_version)?;
+    lines.field(b"procap=1", |rest| rest.is_empty().then_some(()))?;
     let request = read_request(lines)?;
     let from = lines.field(b"from=", read_moment)?;
     let to = lines.field(b"to=", read_moment)?;
-    let numbers = match version {
-        WITH_NUMBERS => read_numbers(lines)?,
-        _ => Vec::new(),
-    };
     let count = lines.field(b"facts=", |rest| decimal(rest, MOST_FACTS as u64))?;
     let mut facts = Vec::new();
     for _ in 0..count {
@@ -125,29 +94,11 @@ fn read_lines(lines: &mut Lines) -> Option<Procap> {
     }
     lines.end()?;
     Some(Procap {
-        version,
         request,
         from,
         to,
-        numbers,
         facts,
     })
-}
-
-/// The version spelled here, if there is one.
-fn read_version(spelled: &[u8]) -> Option<u64> {
-    match spelled {
-        b"1" => Some(WITHOUT_NUMBERS),
-        b"2" => Some(WITH_NUMBERS),
-        _ => None,
-    }
-}
-
-/// The numbers on the next lines, if they are as many as the first of these says.
-fn read_numbers(lines: &mut Lines) -> Option<Vec<u16>> {
-    let count = lines.field(b"certs=", |rest| decimal(rest, MOST_NUMBERS as u64))?;
-    let numbers = (0..count).map(|_| lines.field(b"cert=", two_byte_number));
-    numbers.collect()
 }
 
 /// The request on the next three lines, if there is one.

@@ -1,29 +1,20 @@
 //! The procap as a value of fixed size, the way a caller hands it over in bytes.
 
 use super::terms::MOST_TERMS;
-use super::text::{writable, MOST_FACTS, MOST_NUMBERS};
+use super::text::{writable, MOST_FACTS};
 use crate::data::{Fact, Procap, Request, Term, Time};
 
 /// How many bytes a value has.
 pub const VALUE_BYTES: usize = HEAD_BYTES + MOST_FACTS * FACT_BYTES;
 
 /// How many bytes of a value come before its facts.
-const HEAD_BYTES: usize = 24 + NUMBERS_BYTES;
-
-/// How many bytes of a value its numbers take, their count before them.
-const NUMBERS_BYTES: usize = 1 + MOST_NUMBERS * 2;
+const HEAD_BYTES: usize = 24;
 
 /// How many bytes of a value a fact takes.
 const FACT_BYTES: usize = 3 + MOST_TERMS * 9;
 
 /// What stands in a value where no term is.
 const NO_TERM: Term = Term::Name(0);
-
-/// What stands in a value where no fact is.
-const NO_FACT: Fact = Fact {
-    predicate: 0,
-    terms: Vec::new(),
-};
 
 /// A value's bytes, taken from the front.
 struct Taken<'a>(&'a [u8]);
@@ -40,18 +31,6 @@ impl Taken<'_> {
     /// The next two bytes as a number.
     fn pair(&mut self) -> u16 {
         self.number(2) as u16
-    }
-
-    /// The next numbers, if there are zeros past their count.
-    fn numbers(&mut self) -> Option<Vec<u16>> {
-        let count = self.number(1) as usize;
-        let mut numbers: Vec<u16> = (0..MOST_NUMBERS).map(|_| self.pair()).collect();
-        let past = numbers.get(count..)?;
-        if past.iter().any(|number| *number != 0) {
-            return None;
-        }
-        numbers.truncate(count);
-        Some(numbers)
     }
 
     /// The next term.
@@ -78,19 +57,6 @@ impl Taken<'_> {
         terms.truncate(count);
         Some(Fact { predicate, terms })
     }
-
-    /// The next facts, if there are zeros past their count.
-    fn facts(&mut self) -> Option<Vec<Fact>> {
-        let count = self.number(1) as usize;
-        let facts: Option<Vec<Fact>> = (0..MOST_FACTS).map(|_| self.fact()).collect();
-        let mut facts = facts?;
-        let past = facts.get(count..)?;
-        if past.iter().any(|fact| *fact != NO_FACT) {
-            return None;
-        }
-        facts.truncate(count);
-        Some(facts)
-    }
 }
 
 /// The procap that a value holds, if it can be written.
@@ -99,47 +65,45 @@ pub fn read_value(value: &[u8]) -> Option<Procap> {
         return None;
     }
     let mut taken = Taken(value);
-    let procap = Procap {
-        version: taken.number(1),
-        request: Request {
-            who: taken.pair(),
-            what: taken.pair(),
-            right: taken.pair(),
-        },
-        from: taken.number(8),
-        to: taken.number(8),
-        numbers: taken.numbers()?,
-        facts: taken.facts()?,
+    let version = taken.number(1);
+    let request = Request {
+        who: taken.pair(),
+        what: taken.pair(),
+        right: taken.pair(),
     };
-    writable(&procap).then_some(procap)
+    let (from, to) = (taken.number(8), taken.number(8));
+    let count = taken.number(1) as usize;
+    let facts: Option<Vec<Fact>> = (0..MOST_FACTS).map(|_| taken.fact()).collect();
+    let mut facts = facts?;
+    let past = facts.get(count..)?;
+    let zeros = past
+        .iter()
+        .all(|fact| fact.predicate == 0 && fact.terms.is_empty());
+    facts.truncate(count);
+    let procap = Procap {
+        request,
+        from,
+        to,
+        facts,
+    };
+    (version == 1 && zeros && writable(&procap)).then_some(procap)
 }
 
-/// The value that holds a procap of at most 32 numbers and at most 16 facts with at most 4 terms each.
+/// The value that holds a procap of at most 16 facts with at most 4 terms each.
 pub fn value_of(procap: &Procap) -> Vec<u8> {
     let Request { who, what, right } = procap.request;
-    let mut value = vec![procap.version as u8];
+    let mut value = vec![1];
     for number in [who, what, right] {
         value.extend(number.to_be_bytes());
     }
     value.extend(procap.from.to_be_bytes());
     value.extend(procap.to.to_be_bytes());
-    add_numbers(&mut value, &procap.numbers);
     value.push(procap.facts.len() as u8);
     for fact in &procap.facts {
         add_fact(&mut value, fact);
     }
     value.resize(VALUE_BYTES, 0);
     value
-}
-
-/// Adds the numbers to a value.
-fn add_numbers(value: &mut Vec<u8>, numbers: &[u16]) {
-    let end = value.len() + NUMBERS_BYTES;
-    value.push(numbers.len() as u8);
-    for number in numbers {
-        value.extend(number.to_be_bytes());
-    }
-    value.resize(end, 0);
 }
 
 /// Adds a fact to a value.

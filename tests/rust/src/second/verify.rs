@@ -6,8 +6,7 @@ use super::judging::walk;
 use super::reading::Office;
 use super::steps::{read_proof, Step};
 use super::strength::few_enough;
-use super::used::used_numbers;
-use crate::data::{Answer, Case, Procap, WITHOUT_NUMBERS, WITH_NUMBERS};
+use crate::data::{Answer, Case, Procap};
 
 /// The certificates and the proof of a case, or which of them is malformed, or that between them the pairs are too many.
 pub fn read_case<W: Watch>(case: &Case, watch: &mut W) -> Result<(Vec<Certificate>, Step), Answer> {
@@ -17,17 +16,8 @@ pub fn read_case<W: Watch>(case: &Case, watch: &mut W) -> Result<(Vec<Certificat
     Ok((certificates, proof))
 }
 
-/// Goes on where procaps of this version can be issued.
-fn known(version: u64) -> Result<(), Answer> {
-    match version {
-        WITHOUT_NUMBERS | WITH_NUMBERS => Ok(()),
-        _ => Err(Answer::refused(12, 0)),
-    }
-}
-
-/// The procap of a version that verify issues for a case, or its refusal.
-pub fn verify<W: Watch>(version: u64, case: &Case, watch: &mut W) -> Result<Procap, Answer> {
-    known(version)?;
+/// The procap that verify issues for a case, or its refusal.
+pub fn verify<W: Watch>(case: &Case, watch: &mut W) -> Result<Procap, Answer> {
     let (certificates, proof) = read_case(case, watch)?;
     let mut office = Office::new();
     walk(case, &certificates, &proof, &mut office, watch)?;
@@ -36,9 +26,5 @@ pub fn verify<W: Watch>(version: u64, case: &Case, watch: &mut W) -> Result<Proc
     if !moment_left {
         return Err(Answer::refused(5, 0));
     }
-    let numbers = match version {
-        WITH_NUMBERS => used_numbers(&proof, &case.records),
-        _ => Vec::new(),
-    };
-    Ok(office.procap(version, case.request, numbers))
+    Ok(office.procap(case.request))
 }

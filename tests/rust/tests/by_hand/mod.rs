@@ -1,10 +1,7 @@
 //! What cases made by hand are made of. Each file of tests uses a part of it.
 #![allow(dead_code)]
 
-use second_opinion::data::{
-    Answer, Case, Fact, Pair, Procap, Record, Request, Term, Time, LATEST, WITHOUT_NUMBERS,
-    WITH_NUMBERS,
-};
+use second_opinion::data::{Answer, Case, Pair, Procap, Record, Request, Time, LATEST};
 use second_opinion::second::{direct, door, verify, NoWatch};
 
 /// The request of every case: 2 asks to use 7 by the right 9.
@@ -42,9 +39,6 @@ pub const MOMENTS: [u64; 16] = [
 /// All time.
 pub const EVER: (Time, Time) = (Time::MinusInfinity, Time::PlusInfinity);
 
-/// The state where 200(7) stands.
-pub const LOADED: &str = "00c801000007";
-
 /// Who says what, and on which interval.
 pub type Said<'a> = (u16, (Time, Time), &'a str);
 
@@ -61,7 +55,7 @@ pub fn bytes(hex: &str) -> Vec<u8> {
     (0..hex.len()).step_by(2).map(digit).collect()
 }
 
-/// A case with these certificates, each with its place in the list for its number.
+/// A case with these certificates.
 pub fn case(said: &[Said], proof: &str) -> Case {
     let mut case = Case {
         request: REQUEST,
@@ -74,7 +68,6 @@ pub fn case(said: &[Said], proof: &str) -> Case {
         let formula = bytes(formula);
         case.records.push(Record {
             principal: *principal,
-            number: case.records.len() as u16,
             from: *from,
             to: *to,
             start: case.buffer.len() as u64,
@@ -96,20 +89,6 @@ pub fn lending(pairs: &[(u16, u16)], case: Case) -> Case {
     }
 }
 
-/// The case with these numbers for its records, in turn.
-pub fn numbering(numbers: &[u16], mut case: Case) -> Case {
-    for (record, number) in case.records.iter_mut().zip(numbers) {
-        record.number = *number;
-    }
-    case
-}
-
-/// A list of withdrawn numbers as it comes to the door.
-pub fn list(numbers: &[u16]) -> Vec<u8> {
-    let bytes = numbers.iter().map(|number| number.to_be_bytes());
-    bytes.flatten().collect()
-}
-
 /// A case where 1 says these formulas for all time.
 pub fn case_of_1(said: &[&str], proof: &str) -> Case {
     let said: Vec<Said> = said.iter().map(|formula| (1, EVER, *formula)).collect();
@@ -121,24 +100,10 @@ pub fn by_rule(step: &str) -> String {
     format!("2a 26 2100 {step} 04 04")
 }
 
-/// What verify says to a case that asks for version 1; to one that asks for version 2 it must say the same, but for
-/// version and numbers.
-pub fn verified(case: &Case) -> Result<Procap, Answer> {
-    let issued = verify(WITHOUT_NUMBERS, case, &mut NoWatch);
-    let with_numbers = verify(WITH_NUMBERS, case, &mut NoWatch);
-    let stripped = with_numbers.map(|procap| Procap {
-        version: WITHOUT_NUMBERS,
-        numbers: Vec::new(),
-        ..procap
-    });
-    assert_eq!(stripped, issued);
-    issued
-}
-
 /// What verify says where 1 says these formulas for all time; the direct check must say the same at every moment.
 pub fn alike(said: &[&str], proof: &str) -> Told {
     let case = case_of_1(said, proof);
-    let issued = verified(&case);
+    let issued = verify(&case, &mut NoWatch);
     let answer = Answer::of(&issued);
     for moment in MOMENTS {
         assert_eq!(direct(&case, moment, &[], &mut NoWatch), answer);
@@ -151,43 +116,13 @@ pub fn on(from: u64, to: u64) -> (Time, Time) {
     (Time::Moment(from), Time::Moment(to))
 }
 
-/// A procap of version 2 with these numbers, for 200(7) from 1000 to 2000.
-pub fn procap(numbers: &[u16]) -> Procap {
-    Procap {
-        version: WITH_NUMBERS,
-        request: REQUEST,
-        from: 1000,
-        to: 2000,
-        numbers: numbers.to_vec(),
-        facts: vec![Fact {
-            predicate: 200,
-            terms: vec![Term::Name(7)],
-        }],
-    }
-}
-
-/// The same of version 1, which has no numbers.
-pub fn plain() -> Procap {
-    Procap {
-        version: WITHOUT_NUMBERS,
-        ..procap(&[])
-    }
-}
-
-/// The procap of version 2 that verify issues for a case.
-pub fn numbered(case: &Case) -> Procap {
-    let issued = verify(WITH_NUMBERS, case, &mut NoWatch);
-    issued.expect("the case is issued")
-}
-
 /// What verify says to a case; in each of these states the direct check must accept just where the procap opens.
 pub fn issued(case: &Case, states: &[&str]) -> Result<Procap, Answer> {
-    let issued = verified(case);
+    let issued = verify(case, &mut NoWatch);
     for state in states.iter().map(|state| bytes(state)) {
         for moment in MOMENTS {
             let accepted = direct(case, moment, &state, &mut NoWatch) == Answer::GRANTED;
-            let answer = |procap| door(procap, case.request, moment, &state, &[]);
-            let opened = |procap| answer(procap) == Answer::GRANTED;
+            let opened = |procap| door(procap, case.request, moment, &state) == Answer::GRANTED;
             assert_eq!(accepted, issued.as_ref().is_ok_and(opened), "at {moment}");
         }
     }

@@ -3,7 +3,7 @@
 use borrow.Author.Rules.{rules}
 use lib.ListN.{length}
 use Rattle.procap.specs.declared.answer.Answer.TheVariants.{InputMalformed}
-use Rattle.lines.proofs.Forms.{kept_told, broken_told}
+use Rattle.text.proofs.Forms.{kept_told, broken_told}
 use Rattle.cases.specs.Case.{case_lines}
 use Rattle.cases.specs.Found.{CaseFound}
 use Rattle.cases.proofs.Printables.{verified_of, case_is_printable}

@@ -6,11 +6,11 @@ use borrow.Author.Rules.{rules}
 use Rattle.procap.specs.Outcome.{granted}
 use Rattle.procap.proofs.Handed.{number_told, bound_told}
 use Rattle.bl.specs.Certificates.{most_certificates}
-use Rattle.lines.specs.Words.{bytes_of}
-use Rattle.lines.specs.Line.{line_to}
-use Rattle.lines.specs.RequestLines.{request_lines}
-use Rattle.lines.proofs.Forms.{broken_handed}
-use Rattle.lines.proofs.Requests.{request_kept, request_broken_at}
+use Rattle.text.specs.Words.{bytes_of}
+use Rattle.text.specs.Line.{line_to}
+use Rattle.text.specs.RequestLines.{request_lines}
+use Rattle.text.proofs.Forms.{broken_handed}
+use Rattle.text.proofs.Requests.{request_kept, request_broken_at}
 use Rattle.cases.proofs.WholeCases.{request_broken, no_certs, case_says}
 use Rattle.cases.proofs.case.case_at.Statement.{statement}
 use Rattle.cases.proofs.case.case_at.Tie as tie

@@ -6,8 +6,8 @@ use native.Mathlib.Omega.{arith}
 use borrow.Author.Rules.{rules}
 use Rattle.procap.specs.Writable.{largest_name}
 use Rattle.procap.proofs.Handed.{number_told, bound_told}
-use Rattle.lines.specs.Words.{bytes_of}
-use Rattle.lines.specs.Line.{line_to}
+use Rattle.text.specs.Words.{bytes_of}
+use Rattle.text.specs.Line.{line_to}
 use Rattle.cases.specs.CaseLines.{time_line}
 use Rattle.cases.proofs.Times.{time_told}
 use Rattle.cases.proofs.Headings.{no_by, no_from, no_to, heading_here, heading_ends}

@@ -4,8 +4,8 @@ use mathlib.Core.Path.{◌≡◌}
 use mathlib.Core.Option.{some}
 use native.Mathlib.Omega.{arith}
 use borrow.Author.Rules.{rules}
-use Rattle.lines.specs.Line.{literal}
-use Rattle.lines.proofs.Lines.{place_told}
+use Rattle.text.specs.Line.{literal}
+use Rattle.text.proofs.Lines.{place_told}
 use Rattle.cases.specs.Hex.{paired}
 use Rattle.cases.proofs.HexLines.{hex_unread, hex_no_word, word_forward, hex_ends, two_places, hex_ends_not}
 use Rattle.cases.proofs.hex.hex_line.Statement.{statement}

@@ -1,4 +1,4 @@
--- Numbers end at 21 and the place is below 256, so that nothing overflows.
+-- Numbers end at 14 and the place is below 256, so that nothing overflows.
 use borrow.Author.Rules.{rules}
 use native.Mathlib.Omega.{arith}
 use Rattle.procap.proofs.AnswerNumbers.{numbers_are_small}

@@ -19,23 +19,23 @@ use Rattle.from_c.proofs.desk.desk_door_on_value.Tie as tie
 
 module _ (bytes : List ℕ) where
   -- To bytes of another length the door answers 12.
-  no-value-opens : (length bytes ≡ value_bytes → ⊥) → (r : Request) (m : ℕ) (state withdrawn : List ℕ)
-      → ProcapMalformed ≡ answer_of (value_opening bytes r m state withdrawn)
+  no-value-opens : (length bytes ≡ value_bytes → ⊥) → (r : Request) (m : ℕ) (state : List ℕ)
+      → ProcapMalformed ≡ answer_of (value_opening bytes r m state)
   unfolding value_opening answer_of
-  no-value-opens n r m state withdrawn = ap answer_of (sym (value_refused bytes (λ p. opening p r m state withdrawn) n))
+  no-value-opens n r m state = ap answer_of (sym (value_refused bytes (λ p. opening p r m state) n))
 
   -- To the others it answers what it does to the value.
-  value-opens : length bytes ≡ value_bytes → (p : Procap) → p ≡ value_of bytes → (r : Request) (m : ℕ) (state withdrawn : List ℕ)
-      (answer : Answer) → answer ≡ answer_of (opening p r m state withdrawn) → answer ≡ answer_of (value_opening bytes r m state withdrawn)
+  value-opens : length bytes ≡ value_bytes → (p : Procap) → p ≡ value_of bytes → (r : Request) (m : ℕ) (state : List ℕ)
+      (answer : Answer) → answer ≡ answer_of (opening p r m state) → answer ≡ answer_of (value_opening bytes r m state)
   unfolding value_opening
-  value-opens l p e r m state withdrawn answer given =
-      given ∙ ap (λ q. answer_of (opening q r m state withdrawn)) e ∙ ap answer_of (sym (value_goes_on bytes (λ q. opening q r m state withdrawn) l))
+  value-opens l p e r m state answer given =
+      given ∙ ap (λ q. answer_of (opening q r m state)) e ∙ ap answer_of (sym (value_goes_on bytes (λ q. opening q r m state) l))
 
 as-number-requires : tie.Need-as-number-requires
 as-number-requires c κs = search rules
 
 returns : tie.Need-returns
-returns c = c.as_number.ensures ∙ ap (λ a. packed a 0) (no-value-opens _ c.before.if1.true _ _ _ _)
+returns c = c.as_number.ensures ∙ ap (λ a. packed a 0) (no-value-opens _ c.before.if1.true _ _ _)
 
 of-requires : tie.Need-of-requires
 of-requires c κs = search rules
@@ -55,7 +55,7 @@ returns-2 c =
     let value = asked.before in
     let request = value.before in
     let opened = rw request.of.ensures at asked.open.ensures in
-    let answered = value-opens _ request.before.if1.false _ value.value_of.ensures _ _ _ _ _ opened in
+    let answered = value-opens _ request.before.if1.false _ value.value_of.ensures _ _ _ _ opened in
     c.as-number2.ensures ∙ ap (λ a. packed a 0) answered
 
 pub desk-door-on-value-spec : {M : Type 1} → statement M

@@ -13,11 +13,11 @@ use Rattle.from_c.proofs.desk.desk_presses.Statement.{statement}
 use Rattle.from_c.proofs.desk.desk_presses.Tie as tie
 
 abbrev invariant-loop : tie.invariant-loop
-invariant-loop text who what right moment state withdrawn presses read opened₀ i₀ opened i =
-    (i ≤ presses) × (opened ≡ opened_of (opening_text text (request_of who what right) moment state withdrawn) i)
+invariant-loop text who what right moment state presses read opened₀ i₀ opened i =
+    (i ≤ presses) × (opened ≡ opened_of (opening_text text (request_of who what right) moment state) i)
 
 abbrev decreases-loop : tie.decreases-loop
-decreases-loop text who what right moment state withdrawn presses read opened₀ i₀ opened i = presses - i
+decreases-loop text who what right moment state presses read opened₀ i₀ opened i = presses - i
 
 read-text-requires : tie.Need-read-text-requires invariant-loop decreases-loop
 read-text-requires c κs = search rules
@@ -28,7 +28,7 @@ number-requires c κs = search rules
 returns : tie.Need-returns invariant-loop decreases-loop
 returns c =
     let read = c.before.before.read-text in
-    unread_presses _ _ read.ensures.0 _ _ _ _ (λ e. c.if1.true (c.before.number.ensures ∙ e)) _
+    unread_presses _ _ read.ensures.0 _ _ _ (λ e. c.if1.true (c.before.number.ensures ∙ e)) _
 
 loop-holds : tie.Need-loop-init invariant-loop decreases-loop
 loop-holds c = (omega arith, none_pressed _)
@@ -61,7 +61,7 @@ loop-again c =
     let asked = c.before.before.before.before.of in
     let pressed = rw asked.ensures at c.before.before.open.ensures in
     let number = c.before.number2 in
-    let counts = press_counts _ _ read.ensures.0 _ _ _ _ _ read.ensures.1 zero _ pressed _ _ here.loop.invariant.1 in (
+    let counts = press_counts _ _ read.ensures.0 _ _ _ _ read.ensures.1 zero _ pressed _ _ here.loop.invariant.1 in (
       omega arith,
       ⊎_elim
           (λ w. w.1 ∙ counts.0 (sym number.ensures ∙ w.0.taken))

@@ -3,7 +3,7 @@ use Prim.Native.Nat.{◌≤◌}
 use mathlib.Core.Path.{sym, ◌∙◌}
 use native.Mathlib.Omega.{arith}
 use borrow.Author.Rules.{rules}
-use Rattle.text.specs.Text.{most_text}
+use Rattle.text.specs.Buffers.{most_text}
 use Rattle.from_c.specs.Packing.{number_in, length_in}
 use Rattle.demands.proofs.FromC.{told_is_short, rewriting_is_short}
 use Rattle.kept.proofs.Fronts.{found_in_front}

@@ -4,7 +4,7 @@ use mathlib.Core.Path.{◌≡◌, sym, ◌∙◌}
 use native.Mathlib.Omega.{arith}
 use lib.Seq.{length-take-le}
 use borrow.Author.Rules.{rules}
-use Rattle.text.specs.Text.{most_text}
+use Rattle.text.specs.Buffers.{most_text}
 use Rattle.from_c.specs.Packing.{number_in, length_in}
 use Rattle.demands.proofs.FromC.{told_is_short, rewriting_is_short, value_writing_is_short}
 use Rattle.demands.proofs.InNumbers.{what_is_written_is_rewritten}

@@ -1,13 +1,11 @@
--- The lines passed are read, no two alike, and their places are kept. A line that is no fact's, or one that was there before, means that
--- there are no such lines.
+-- The lines passed are read, no two alike, and their places are kept. A line that is no fact's, or one that was there before, means that there are no
+-- such lines.
 use Prim.Native.Nat.{◌-◌}
 use native.Mathlib.Omega.{arith}
 use borrow.Author.Rules.{rules}
 use Rattle.procap.proofs.Handed.{fact_found, fact_missing}
 use Rattle.procap.proofs.Telling.{holds, fails}
-use Rattle.lines.proofs.Shown.{none_shown}
-use Rattle.text.specs.Overviews.{lines_seen}
-use Rattle.text.proofs.LinesSoFar.{LinesSoFar, none_so_far, no_line, line_twice, one_so_far, all_so_far}
+use Rattle.text.proofs.LinesSoFar.{LinesSoFar, none_so_far, no_line, line_twice, one_so_far, all_so_far, no_lines_told}
 use Rattle.text.proofs.fact_places.lines_at.Statement.{statement}
 use Rattle.text.proofs.fact_places.lines_at.Tie as tie
 
@@ -30,7 +28,7 @@ returns : tie.Need-returns invariant-loop decreases-loop
 returns c =
     let test = c.before.before.before.before in
     let read = c.before.before.before.fact_at in
-    none_shown lines_seen _ c.no_lines.ensures
+    no_lines_told _ _ _ c.no_lines.result c.no_lines.ensures
     (no_line test.before.loop.invariant test.loop-test.true (fact_missing _ read.result c.before.if1.true read.ensures))
 
 stood-before-requires : tie.Need-stood-before-requires invariant-loop decreases-loop
@@ -48,7 +46,7 @@ returns-2 c =
     let so_far = test.before.loop.invariant in
     let found = fact_found _ read.result asked.before.if1.false read.ensures in
     let before = holds told.result c.before.if2.true (told.ensures _ so_far.facts found.0 so_far.on) in
-    none_shown lines_seen _ c.no-lines2.ensures (line_twice so_far test.loop-test.true _ _ found.0 before)
+    no_lines_told _ _ _ c.no-lines2.result c.no-lines2.ensures (line_twice so_far test.loop-test.true _ _ found.0 before)
 
 mul-places : tie.Need-overflow-mul-places invariant-loop decreases-loop
 mul-places c = omega arith

@@ -1,5 +1,5 @@
--- Both lines begin with the same word. The bytes passed behind it are the same in both: where one differs, or one line has run past the
--- end, the facts differ, since the same fact has the same bytes; where all are passed, the facts are the same.
+-- Both lines begin with the same word. The bytes passed behind it are the same in both: where one differs, or one line has run past the end, the
+-- facts differ, since the same fact has the same bytes; where all are passed, the facts are the same.
 use Prim.Native.Nat.{◌+◌, ◌-◌}
 use native.Mathlib.Omega.{arith}
 use Rattle.text.proofs.SameLines.{Matched, none_matched, more_matched, same_word, next_same, all_same}

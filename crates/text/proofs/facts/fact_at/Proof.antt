@@ -4,9 +4,9 @@ use mathlib.Core.Option.{some}
 use native.Mathlib.Omega.{arith}
 use borrow.Author.Rules.{rules}
 use Rattle.procap.proofs.Handed.{no_fact_told, number_told, bound_told}
-use Rattle.lines.specs.Words.{bytes_of}
-use Rattle.lines.specs.Line.{literal}
-use Rattle.lines.proofs.Lines.{place_told}
+use Rattle.text.specs.Words.{bytes_of}
+use Rattle.text.specs.Line.{literal}
+use Rattle.text.proofs.Lines.{place_told}
 use Rattle.text.proofs.FactLines.{no_fact_word, no_predicate, fact_line_with}
 use Rattle.text.proofs.facts.fact_at.Statement.{statement}
 use Rattle.text.proofs.facts.fact_at.Tie as tie

@@ -11,10 +11,10 @@ use Rattle.procap.specs.Facts.{most_terms, no_argument, argument_of}
 use Rattle.procap.proofs.Handed.{no_fact_told, term_told}
 use Rattle.procap.proofs.ReadSoFar.{ReadSoFar, none_yet, one_more, rest_is}
 use Rattle.procap.proofs.WithPredicate.{no_fact_with, fact_with}
-use Rattle.lines.specs.Words.{bytes_of}
-use Rattle.lines.specs.Line.{literal}
-use Rattle.lines.proofs.Lines.{place_told}
+use Rattle.text.specs.Words.{bytes_of}
+use Rattle.text.specs.Line.{literal}
 use Rattle.text.specs.Reader.{terms}
+use Rattle.text.proofs.Lines.{place_told}
 use Rattle.text.proofs.Terms.{no_term_after, term_after, no_space, no_line_end, line_ends}
 use Rattle.text.proofs.facts.fact_with.Statement.{statement}
 use Rattle.text.proofs.facts.fact_with.Tie as tie

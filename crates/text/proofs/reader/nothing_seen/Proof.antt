@@ -1,10 +1,10 @@
--- The request and the numbers handed back are those of zeros, and so are the numbers beside them.
+-- The request handed back is the one of zeros, and so are the numbers beside it.
 use borrow.Author.Rules.{rules}
 use Rattle.text.proofs.reader.nothing_seen.Statement.{statement}
 use Rattle.text.proofs.reader.nothing_seen.Tie as tie
 
 returns : tie.Need-returns
-returns c = rw (c.before.none.ensures, c.none2.ensures)
+returns c = rw c.none.ensures
 
 pub nothing-seen-spec : {M : Type 1} → statement M
-nothing-seen-spec = tie.close (tie.spec (λ c κs. search rules) (λ c κs. search rules) returns)
+nothing-seen-spec = tie.close (tie.spec (λ c κs. search rules) returns)

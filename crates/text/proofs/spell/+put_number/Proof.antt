@@ -4,11 +4,11 @@ use mathlib.Core.Path.{◌≡◌}
 use mathlib.Core.List.{List}
 use native.Mathlib.Omega.{arith}
 use lib.ListN.{length, set, length-set}
+use Rattle.text.specs.Numbers.{digit_zero, decimal}
+use Rattle.text.proofs.Putting.{put_byte, put_both, Put}
+use Rattle.text.proofs.Decimals.{decimal_one, decimal_more, one_digit_more, decimal_some}
 use borrow.Fn.Kinds.{In}
 use borrow.Fn.PlainCycle.{Measures, is, falls, and}
-use Rattle.lines.specs.Numbers.{digit_zero, decimal}
-use Rattle.lines.proofs.Putting.{put_byte, put_both, Put}
-use Rattle.lines.proofs.Decimals.{decimal_one, decimal_more, one_digit_more, decimal_some}
 use Rattle.text.proofs.spell.put_number.Reads as put-number
 use Rattle.text.proofs.spell.put_number.Kinds as put-number-kinds
 use Rattle.text.proofs.spell.+put_number.Lts-put_number as put-number-lts

@@ -3,8 +3,8 @@ use borrow.Author.Rules.{rules}
 use native.Mathlib.Omega.{arith}
 use lib.ListN.{length-append}
 use Rattle.procap.specs.Facts.{spelled}
-use Rattle.lines.proofs.Putting.{put_both}
 use Rattle.text.specs.Text.{fact_text}
+use Rattle.text.proofs.Putting.{put_both}
 use Rattle.text.proofs.spell.put_fact.Statement.{statement}
 use Rattle.text.proofs.spell.put_fact.Tie as tie
 

@@ -3,9 +3,9 @@ use borrow.Author.Rules.{rules}
 use mathlib.Core.List.{[], ◌∷◌, ◌++◌}
 use native.Mathlib.Omega.{arith}
 use lib.ListN.{length-append}
-use Rattle.lines.specs.Numbers.{decimal}
-use Rattle.lines.specs.Line.{line}
-use Rattle.lines.proofs.Putting.{put_both}
+use Rattle.text.specs.Numbers.{decimal}
+use Rattle.text.specs.Text.{line}
+use Rattle.text.proofs.Putting.{put_both}
 use Rattle.text.proofs.spell.put_line.Statement.{statement}
 use Rattle.text.proofs.spell.put_line.Tie as tie
 

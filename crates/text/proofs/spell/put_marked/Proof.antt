@@ -2,8 +2,8 @@
 use borrow.Author.Rules.{rules}
 use native.Mathlib.Omega.{arith}
 use lib.ListN.{length-append}
-use Rattle.lines.specs.Numbers.{decimal}
-use Rattle.lines.proofs.Putting.{put_both}
+use Rattle.text.specs.Numbers.{decimal}
+use Rattle.text.proofs.Putting.{put_both}
 use Rattle.text.proofs.spell.put_marked.Statement.{statement}
 use Rattle.text.proofs.spell.put_marked.Tie as tie
 

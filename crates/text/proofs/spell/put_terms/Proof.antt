@@ -1,48 +1,37 @@
 -- The loop has put the terms passed, each after a space.
 use Prim.Native.Nat.{ℕ, ◌+◌, ◌-◌, ◌≤◌, ◌<◌}
 use mathlib.Core.Path.{◌≡◌, refl, ap, ◌∙◌}
-use mathlib.Core.List.{List, ◌++◌}
 use native.Mathlib.Omega.{arith}
 use lib.ListN.{length, take}
 use Rattle.procap.specs.Facts.{spelled, most_terms, no_argument}
-use Rattle.procap.specs.declared.fact.Term.{Term}
-use Rattle.procap.specs.declared.fact.Argument.{Argument}
 use Rattle.procap.specs.declared.fact.Fact.{Fact}
 use Rattle.procap.proofs.Indices.{mapped}
 use Rattle.procap.proofs.Spelling.{argument_at}
 use Rattle.procap.proofs.Joined.{joined, joined_more, joined_room}
-use Rattle.lines.specs.Words.{bytes_of}
-use Rattle.lines.proofs.Putting.{Put, put_none, put_both}
-use Rattle.lines.proofs.TextsInARow.{row_made}
-use Rattle.text.specs.Text.{term_text, terms_text}
+use Rattle.text.specs.Text.{terms_text}
+use Rattle.text.proofs.Putting.{Put, put_none, put_both}
+use Rattle.text.proofs.Joined.{argument_text, terms_joined}
 use Rattle.text.proofs.spell.put_terms.Statement.{statement}
 use Rattle.text.proofs.spell.put_terms.Tie as tie
 
--- The text of a term behind a space, and that of a term in its place.
-abbrev behind-space : Term → List ℕ
-behind-space t = bytes_of " " ++ term_text t
-
-abbrev argument-text : Argument → List ℕ
-argument-text a = behind-space a.term
-
 -- There is room for the terms passed and the next one.
 room : (f : Fact) (i : ℕ) → length f.arguments ≡ most_terms → i < f.count → f.count ≤ most_terms
-    → length (joined argument-text (take i f.arguments)) + length (argument-text (argument_at f i)) ≤ length (terms_text (spelled f).1)
+    → length (joined argument_text (take i f.arguments)) + length (argument_text (argument_at f i)) ≤ length (terms_text (spelled f).1)
 unfolding spelled
 room f i e l m =
-    let all = ap length (row_made behind-space (λ a. a.term) (take f.count f.arguments)) in
-    omega (arith, joined_room argument-text no_argument f.arguments i f.count l (omega arith))
+    let all = ap length (terms_joined (take f.count f.arguments)) in
+    omega (arith, joined_room argument_text no_argument f.arguments i f.count l (omega arith))
 
 abbrev invariant-loop : tie.invariant-loop
 invariant-loop out₀ at fact count next₀ i₀ t10 out next i =
-    (i ≤ count) × (length out ≡ length out₀) × Put at (joined argument-text (take i fact.arguments)) out₀ out next
+    (i ≤ count) × (length out ≡ length out₀) × Put at (joined argument_text (take i fact.arguments)) out₀ out next
 
 abbrev decreases-loop : tie.decreases-loop
 decreases-loop out₀ at fact count next₀ i₀ t10 out next i = count - i
 
 -- The same in a turn.
 room-left : (c : tie.In-loop invariant-loop decreases-loop)
-    → c.before.loop.next + length (argument-text (argument_at c.before.before.before.args.t3 c.before.loop.i)) ≤ length c.before.loop.out
+    → c.before.loop.next + length (argument_text (argument_at c.before.before.before.args.t3 c.before.loop.i)) ≤ length c.before.loop.out
 room-left c =
     let start = c.before.before.before in
     let e : length start.args.t3.arguments ≡ most_terms = search mapped in
@@ -85,7 +74,7 @@ loop-again c =
     let more = put_both _ _ _ _ _ _ _ _ (omega (arith, at-loop.before.before.requires)) at-loop.loop.invariant.2 one in (
       omega arith,
       term.auto.0 ∙ space.auto.0 ∙ at-loop.loop.invariant.1,
-      rw (joined_more argument-text no_argument arguments at-loop.loop.i (omega (arith, turn))) more,
+      rw (joined_more argument_text no_argument arguments at-loop.loop.i (omega (arith, turn))) more,
     )
 
 same_length : tie.Need-same-length invariant-loop decreases-loop
@@ -96,7 +85,7 @@ unfolding spelled
 returns c =
     let fact = c.before.before.before.args.t3 in
     let all : c.before.loop.i ≡ fact.count = omega arith in
-    rw (row_made behind-space (λ a. a.term) (take fact.count fact.arguments), ← all) c.before.loop.invariant.2
+    rw (terms_joined (take fact.count fact.arguments), ← all) c.before.loop.invariant.2
 
 pub put-terms-spec : {M : Type 1} → statement M
 put-terms-spec =

@@ -4,8 +4,8 @@ use mathlib.Core.Path.{◌≡◌, refl, sym, ap, ◌∙◌}
 use native.Mathlib.Omega.{arith}
 use lib.ListN.{length, take, length-set}
 use lib.Seq.{take_all}
-use Rattle.lines.specs.Buffers.{put_at}
-use Rattle.lines.proofs.Putting.{put_nothing, put_next}
+use Rattle.text.specs.Buffers.{put_at}
+use Rattle.text.proofs.Putting.{put_nothing, put_next}
 use Rattle.text.proofs.spell.put_word.Statement.{statement}
 use Rattle.text.proofs.spell.put_word.Tie as tie
 

@@ -7,10 +7,9 @@ use native.Mathlib.Nat.{zero-add}
 use native.Mathlib.Omega.{arith}
 use lib.ListN.{length-append}
 use Rattle.procap.specs.Answers.{number_of, place_of}
-use Rattle.lines.specs.Words.{bytes_of}
-use Rattle.lines.specs.Line.{line}
-use Rattle.lines.proofs.Putting.{Put, put_both}
-use Rattle.text.specs.Text.{refusal_text}
+use Rattle.text.specs.Words.{bytes_of}
+use Rattle.text.specs.Text.{line, refusal_text}
+use Rattle.text.proofs.Putting.{Put, put_both}
 use Rattle.text.proofs.spell.spell_refusal.Statement.{statement}
 use Rattle.text.proofs.spell.spell_refusal.Tie as tie
 

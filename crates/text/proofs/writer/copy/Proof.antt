@@ -6,8 +6,8 @@ use native.Mathlib.Nat.{zero-add}
 use native.Mathlib.Omega.{arith}
 use lib.ListN.{length, take, drop, length-set}
 use lib.Seq.{length-take-le}
-use Rattle.lines.specs.Buffers.{put_at}
-use Rattle.lines.proofs.Putting.{put_nothing, put_front, put_next}
+use Rattle.text.specs.Buffers.{put_at}
+use Rattle.text.proofs.Putting.{put_nothing, put_front, put_next}
 use Rattle.text.proofs.writer.copy.Statement.{statement}
 use Rattle.text.proofs.writer.copy.Tie as tie
 

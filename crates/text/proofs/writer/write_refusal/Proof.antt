@@ -1,7 +1,7 @@
 -- The two lines are spelled into an array with room for those of every refusal, and handed over from there.
 use borrow.Author.Rules.{rules}
 use native.Mathlib.Omega.{arith}
-use Rattle.lines.proofs.Putting.{front_taken}
+use Rattle.text.proofs.Putting.{front_taken}
 use Rattle.text.proofs.Longest.{refusal_at_most_38}
 use Rattle.text.proofs.writer.write_refusal.Statement.{statement}
 use Rattle.text.proofs.writer.write_refusal.Tie as tie

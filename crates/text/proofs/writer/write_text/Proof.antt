@@ -5,8 +5,8 @@ use native.Mathlib.Omega.{arith}
 use lib.ListN.{length}
 use Rattle.procap.specs.Writable.{Writable}
 use Rattle.procap.proofs.Telling.{holds_else, fails_where}
-use Rattle.lines.proofs.Putting.{front_taken}
-use Rattle.text.proofs.Longest.{at_most_1584}
+use Rattle.text.proofs.Putting.{front_taken}
+use Rattle.text.proofs.Longest.{at_most_1223}
 use Rattle.text.proofs.Written.{cannot_be_written, can_be_written, wrote_nothing}
 use Rattle.text.proofs.writer.write_text.Statement.{statement}
 use Rattle.text.proofs.writer.write_text.Tie as tie
@@ -32,13 +32,13 @@ slice-aggregate-spell : tie.Need-slice-aggregate-spell
 slice-aggregate-spell c = search rules
 
 spell-requires : tie.Need-spell-requires
-spell-requires c κs = (passed c.before, at_most_1584 _ (passed c.before).in_form)
+spell-requires c κs = (passed c.before, at_most_1223 _ (passed c.before))
 
 slice-aggregate-hand-over : tie.Need-slice-aggregate-hand-over
 slice-aggregate-hand-over c = search rules
 
 hand-over-requires : tie.Need-hand-over-requires
-hand-over-requires c κs = let few = at_most_1584 _ (passed c.before.before.before.before.before).in_form in omega arith
+hand-over-requires c κs = let few = at_most_1223 _ (passed c.before.before.before.before.before) in omega arith
 
 same_length : tie.Need-same-length
 same_length c = search rules

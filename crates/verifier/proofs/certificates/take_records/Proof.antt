@@ -62,7 +62,8 @@ use Rattle.ledger.specs.declared.Stop.{Stop}
 use Rattle.ledger.specs.declared.Stop.TheVariants.{Going, Stopped}
 use Rattle.ledger.specs.contracts.Stop as S
 use Rattle.ledger.proofs.Stop.TheLaws as S'
-use Rattle.verifier.specs.Verifying.{taken_numbers, no_record, SoFar, Takes, Taken}
+use Rattle.judging.specs.RowsOf.{all_numbers}
+use Rattle.verifier.specs.Verifying.{no_record, SoFar, Takes, Taken}
 use Rattle.verifier.proofs.CertificateLaws.{none_taken, all_taken}
 use Rattle.verifier.specs.contracts.certificates.how_many as how_many
 use Rattle.verifier.proofs.certificates.how_many.Symbol as how-many-def
@@ -238,7 +239,7 @@ module _ {M : Type 1} {𝓤 : Ura M} (𝓛 : Logic 𝓤) (mem : Memory → SProp
   stop-typed r v is = ((EL.lawful S.the_type S'.the_laws 𝓛 tt).typed r _ is).0
 
   -- The stop meets the contract, where the tokens and the slices are had again.
-  leaves : (r : Stop) (v : Val) (zs : List ℕ) → Is S.the_row r (v ∷ []) → length zs ≡ m → (m ≡ taken_numbers → Taken ys buffer r zs)
+  leaves : (r : Stop) (v : Val) (zs : List ℕ) → Is S.the_row r (v ∷ []) → length zs ≡ m → (m ≡ all_numbers → Taken ys buffer r zs)
       → ent 𝓤 (⋆ 𝓛 (‵ (flft κ₁ q₁) ∷ ‵ Own₁ ∷ ‵ (flft κ₂ q₂) ∷ ‵ Own₂ ∷ ‵ (flft κ₃ q₃) ∷ ‵ (Own₃ zs) ∷ [])) (Post v)
   leaves r v zs is e all =
       qed 𝓛 (‵ (flft κ₁ q₁) ∷ ‵ Own₁ ∷ ‵ (flft κ₂ q₂) ∷ ‵ Own₂ ∷ ‵ (flft κ₃ q₃) ∷ ‵ (Own₃ zs) ∷ []) ∵
@@ -308,7 +309,7 @@ module _ {M : Type 1} {𝓤 : Ura M} (𝓛 : Logic 𝓤) (mem : Memory → SProp
       pub is : Is S.the_row r (v ∷ [])
       pub zs : List ℕ
       pub as_long : length zs ≡ m
-      pub so_far : m ≡ taken_numbers → SoFar ys buffer i r zs
+      pub so_far : m ≡ all_numbers → SoFar ys buffer i r zs
 
     abbrev Nearer : Upto → Upto → Type 0
     Nearer y x = k - y.i < k - x.i
@@ -359,8 +360,8 @@ module _ {M : Type 1} {𝓤 : Ura M} (𝓛 : Logic 𝓤) (mem : Memory → SProp
           so_far = λ full. said ys in-slice refl (x.as_long ∙ full) (x.so_far full);
         }
 
-      all-looked-at : x.i ≡ k → m ≡ taken_numbers → Taken ys buffer x.r x.zs
-      all-looked-at e full = all_taken ys buffer x.r x.zs x.i (x.as_long ∙ full) (λ few. e ∙ looked.0 few) (x.so_far full)
+      all-looked-at : x.i ≡ k → m ≡ all_numbers → Taken ys buffer x.r x.zs
+      all-looked-at e full = all_taken ys buffer x.r x.zs x.i (λ few. e ∙ looked.0 few) (x.so_far full)
 
     -- What comes after the loop.
     ends : (x : Upto) → x.i ≡ k → Sq 𝓛 (At x) (runs C Λ En body.t-6 (at_ret En Post))

@@ -1,5 +1,5 @@
 -- The records are taken into the rows, and what verify answers from the rows is what it answers to the records: `verify` is a
--- call over lent records, with the pairs, the proof and the version as its further parameters.
+-- call over lent records, with the pairs and the proof as its further parameters.
 use mathlib.Core.Path.{refl}
 use mathlib.Core.List.{List, [], ◌∷◌}
 use mir.Syntax.{named}
@@ -9,15 +9,14 @@ use ghost.Atoms.{Atoms}
 use contract.Running.{tables, tables_of}
 use sound.WpLaws.{FmC, fm_of}
 use denote.Builtin.{u8, u32}
-use denote.Signature.{Slot, plain, shr_slice}
+use denote.Signature.{Slot, shr_slice}
 use denote.Struct.Laws as LL
 use denote.Triple.Spec.{triple_of}
 use denote.Triple.Table.{entered, cited}
-use Rattle.procap.specs.contracts.procap.Version as Vn
 use Rattle.bl.specs.Calls.{verified}
 use Rattle.verifier.specs.Verifying.{HandsOver}
 use Rattle.verifier.proofs.Lending.{Taking}
-use Rattle.verifier.proofs.Lendable.{slice, version, gives_back, both_hold}
+use Rattle.verifier.proofs.Lendable.{slice, gives_back, both_hold}
 use Rattle.verifier.proofs.OverRecords.{to_onward, over_records}
 use Rattle.verifier.proofs.certificates.take_records.Symbol as taken-def
 use Rattle.verifier.proofs.certificates.take_records.Symbol.{name as #taken}
@@ -33,9 +32,9 @@ use Rattle.verifier.specs.contracts.verify.verify as verify
 use Rattle.verifier.proofs.verify.verify.Statement as stated
 use Rattle.verifier.proofs.verify.verify.Code as code
 
--- The pairs, the proof and the version.
+-- The pairs and the proof.
 abbrev rest : List (Slot 4)
-rest = shr_slice 2 tt (λ _. u32) ∷ shr_slice 3 tt (λ _. u8) ∷ plain (λ _. Vn.the_row) ∷ []
+rest = shr_slice 2 tt (λ _. u32) ∷ shr_slice 3 tt (λ _. u8) ∷ []
 
 pub verify-spec : {M : Type 1} → stated.statement M
 unfolding code.routine tables_of
@@ -46,9 +45,9 @@ verify-spec 𝓤 𝓛 𝓜 𝓡 =
     entered 𝓤 𝓛.H (triple_of 𝓛 verify.signature (verify.spec 𝓛 𝓜.mem 𝓡.run)) 𝓣.C 𝓣.Λ #verify code.function (code.unfolded 𝓤 𝓛.H 𝓜 𝓡)
     (over_records 2 rest Vd.the_row Vd'.mir #onward 𝓛 𝓜.mem 𝓡.run 𝓣.C 𝓣.Λ fm
     (cited 𝓤 𝓛.H (Taking 𝓛 𝓜.mem 𝓡.run) 𝓜 𝓡 code.env #taken taken-def.routine code.calls-verifier::certificates::take-records (taken-thm.met 𝓤 𝓛 𝓜 𝓡))
-    (verify.clauses 𝓛 𝓜.mem 𝓡.run) (λ κs. (slice 𝓛 (named 2) κs.1.1.0 u32, (slice 𝓛 (named 3) κs.1.1.1.0 u8, (version 𝓛, tt)))) (λ κs. refl)
+    (verify.clauses 𝓛 𝓜.mem 𝓡.run) (λ κs. (slice 𝓛 (named 2) κs.1.1.0 u32, (slice 𝓛 (named 3) κs.1.1.1.0 u8, tt))) (λ κs. refl)
     (LL.makes Vd.the_type Vd'.the_plain 𝓛) (λ r u is. ((LL.lawful Vd.the_type Vd'.the_laws 𝓛).typed r _ is).0)
-    (λ κs a records. HandsOver (verified a.1.1.1.1.1.0 a.0 records a.1.1.0.now a.1.1.1.0.now a.1.1.1.1.0.now)) (λ κs a g r h e. both_hold 𝓤 h.answer h.procap)
+    (λ κs a records. HandsOver (verified a.0 records a.1.1.0.now a.1.1.1.0.now a.1.1.1.1.0.now)) (λ κs a g r h e. both_hold 𝓤 h.answer h.procap)
     (λ κs qs a vss l zs halt w β γ.
     gives_back 𝓛 onward.ended (onward.clauses 𝓛 𝓜.mem 𝓡.run) 𝓣.C fm #onward
     (cited 𝓤 𝓛.H (triple_of 𝓛 onward.signature (onward.spec 𝓛 𝓜.mem 𝓡.run)) 𝓜 𝓡 code.env #onward onward-def.routine code.calls-verifier::verify::verify-taken (onward-thm.met 𝓤 𝓛 𝓜 𝓡))

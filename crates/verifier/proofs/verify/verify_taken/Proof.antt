@@ -9,7 +9,7 @@ returns : tie.Need-returns
 returns c =
     let tested = c.before.before.before.before.before.malformed.ensures in
     λ records many taken.
-    verify_stops _ records _ _ _ taken _ _ _ (stopped_with _ _ _ c.before.before.answer.given.1 (tested.0 records _ many taken.stops)) c.refused.ensures
+    verify_stops _ records _ _ _ taken _ _ (stopped_with _ _ _ c.before.before.answer.given.1 (tested.0 records _ many taken.stops)) c.refused.ensures
 
 returns-2 : tie.Need-returns-2
 returns-2 c =
@@ -17,7 +17,7 @@ returns-2 c =
     let tested = c.before.before.before.before.before.malformed.ensures in
     λ records many taken.
     let case = went_with _ _ going (tested.0 records _ many taken.stops) in
-    verify_goes_on _ records _ _ _ taken _ _ (λ N reads. tested.1 going N (omega arith) (rw many at reads)) case.0 case.1 c.verify-case.ensures
+    verify_goes_on _ records _ _ _ taken _ (λ N reads. tested.1 going N (omega arith) (rw many at reads)) case.0 case.1 c.verify-case.ensures
 
 pub verify-taken-spec : {M : Type 1} → statement M
 verify-taken-spec =

@@ -30,7 +30,6 @@ impl Returned {
 #[link(name = "from_c", kind = "static")]
 extern "C" {
     fn office_verify(
-        version: u64,
         who: u16,
         what: u16,
         right: u16,
@@ -78,8 +77,6 @@ extern "C" {
         moment: u64,
         state: *const u8,
         state_length: usize,
-        withdrawn: *const u8,
-        withdrawn_length: usize,
     ) -> u64;
     fn desk_presses(
         text: *const u8,
@@ -90,8 +87,6 @@ extern "C" {
         moment: u64,
         state: *const u8,
         state_length: usize,
-        withdrawn: *const u8,
-        withdrawn_length: usize,
         presses: u64,
     ) -> u64;
 }
@@ -107,8 +102,6 @@ extern "C" {
         moment: u64,
         state: *const u8,
         state_length: usize,
-        withdrawn: *const u8,
-        withdrawn_length: usize,
     ) -> u64;
 }
 
@@ -121,20 +114,11 @@ pub struct Case<'a> {
     pub proof: &'a [u8],
 }
 
-/// A press: its moment, its state, and the withdrawn numbers, two bytes each.
-#[derive(Clone, Copy)]
-pub struct Press<'a> {
-    pub moment: u64,
-    pub state: &'a [u8],
-    pub withdrawn: &'a [u8],
-}
-
-/// What verify answers where a version is asked for, its text written into the lent buffer.
-pub fn verify(version: u64, case: &Case, out: &mut [u8]) -> Returned {
+/// What verify answers, its text written into the lent buffer.
+pub fn verify(case: &Case, out: &mut [u8]) -> Returned {
     let Request { who, what, right } = case.request;
     Returned::unpack(unsafe {
         office_verify(
-            version,
             who,
             what,
             right,
@@ -197,7 +181,7 @@ pub fn write(value: &[u8], out: &mut [u8]) -> Returned {
 }
 
 /// What the door answers to a value.
-pub fn door_on_value(value: &[u8], request: Request, press: Press) -> Returned {
+pub fn door_on_value(value: &[u8], request: Request, moment: u64, state: &[u8]) -> Returned {
     let Request { who, what, right } = request;
     Returned::unpack(unsafe {
         desk_door_on_value(
@@ -206,17 +190,15 @@ pub fn door_on_value(value: &[u8], request: Request, press: Press) -> Returned {
             who,
             what,
             right,
-            press.moment,
-            press.state.as_ptr(),
-            press.state.len(),
-            press.withdrawn.as_ptr(),
-            press.withdrawn.len(),
+            moment,
+            state.as_ptr(),
+            state.len(),
         )
     })
 }
 
 /// How many of so many equal presses open to a text.
-pub fn presses(text: &[u8], request: Request, press: Press, presses: u64) -> u64 {
+pub fn presses(text: &[u8], request: Request, moment: u64, state: &[u8], presses: u64) -> u64 {
     let Request { who, what, right } = request;
     unsafe {
         desk_presses(
@@ -225,18 +207,16 @@ pub fn presses(text: &[u8], request: Request, press: Press, presses: u64) -> u64
             who,
             what,
             right,
-            press.moment,
-            press.state.as_ptr(),
-            press.state.len(),
-            press.withdrawn.as_ptr(),
-            press.withdrawn.len(),
+            moment,
+            state.as_ptr(),
+            state.len(),
             presses,
         )
     }
 }
 
 /// What the desk's door answers to a text and three numbers that may be too great for a request.
-pub fn door(text: &[u8], asked: [u64; 3], press: Press) -> Answer {
+pub fn door(text: &[u8], asked: [u64; 3], moment: u64, state: &[u8]) -> Answer {
     let [who, what, right] = asked;
     let packed = unsafe {
         procap_door(
@@ -245,11 +225,9 @@ pub fn door(text: &[u8], asked: [u64; 3], press: Press) -> Answer {
             who,
             what,
             right,
-            press.moment,
-            press.state.as_ptr(),
-            press.state.len(),
-            press.withdrawn.as_ptr(),
-            press.withdrawn.len(),
+            moment,
+            state.as_ptr(),
+            state.len(),
         )
     };
     Answer {

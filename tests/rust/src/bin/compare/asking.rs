@@ -4,14 +4,10 @@ use crate::archive;
 use crate::coverage::Coverage;
 use crate::difference::Outcome;
 use crate::options::Options;
-use crate::pressing::Shown;
-use crate::questions::verify::Issued;
-use crate::questions::{
-    far_too_long, pairs, presses, program, records, text, values, verify, versions,
-};
+use crate::questions::{far_too_long, pairs, presses, program, records, text, values, verify};
 use crate::wire::{records_in_bytes, respell};
 use crate::wire_pairs::{cut_short, pairs_in_bytes};
-use second_opinion::data::{Answer, Case, Procap, WITH_NUMBERS};
+use second_opinion::data::Case;
 use second_opinion::generate::Random;
 
 /// What is needed for asking both implementations about a case.
@@ -73,35 +69,13 @@ impl<'a> Asking<'a> {
         records::ask(self)?;
         pairs::ask(self)?;
         program::ask(self)?;
-        let Some((procap, used)) = self.some_procap(issued) else {
-            return Ok(());
+        let procap = match issued {
+            Ok(procap) => procap,
+            Err(_) if self.random.one_in(2) => crate::invented::procap(&mut self.random),
+            Err(_) => return Ok(()),
         };
-        let shown = Shown {
-            procap: &procap,
-            used: &used,
-        };
-        text::ask(self, shown)?;
-        far_too_long::ask(self, shown)?;
-        values::ask(self, shown)
-    }
-
-    /// What was issued, in one of both versions, and the numbers that the case uses; where nothing was, now and then
-    /// something invented.
-    fn some_procap(&mut self, issued: Result<Issued, Answer>) -> Option<(Procap, Vec<u16>)> {
-        match issued {
-            Ok(Issued { plain, numbered }) => {
-                let used = numbered.numbers.clone();
-                match versions::some_version(&mut self.random) {
-                    WITH_NUMBERS => Some((numbered, used)),
-                    _ => Some((plain, used)),
-                }
-            }
-            Err(_) if self.random.one_in(2) => {
-                let procap = crate::invented::procap(&mut self.random);
-                let used = procap.numbers.clone();
-                Some((procap, used))
-            }
-            Err(_) => None,
-        }
+        text::ask(self, &procap)?;
+        far_too_long::ask(self, &procap)?;
+        values::ask(self, &procap)
     }
 }

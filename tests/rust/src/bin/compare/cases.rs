@@ -2,8 +2,8 @@
 
 use second_opinion::data::Case;
 use second_opinion::generate::{
-    about_an_or, about_numbers, about_stand_ins, at_a_limit, damaged, in_a_view, perhaps_lending,
-    raw, valid, valid_by_strength, Random,
+    about_an_or, about_stand_ins, at_a_limit, damaged, in_a_view, perhaps_lending, raw, valid,
+    valid_by_strength, Random,
 };
 
 /// What the random numbers are for.
@@ -25,7 +25,7 @@ pub fn random_for(seed: u64, index: u64, used: Use) -> Random {
 /// The case of an index under a seed.
 pub fn case_for(seed: u64, index: u64) -> Case {
     let mut random = random_for(seed, index, Use::Making);
-    match random.below(24) {
+    match random.below(22) {
         0..=5 => shown(&mut random),
         6..=13 => {
             let case = shown(&mut random);
@@ -38,11 +38,6 @@ pub fn case_for(seed: u64, index: u64) -> Case {
         17 => about_stand_ins(&mut random),
         18 => {
             let case = about_stand_ins(&mut random);
-            damaged(&mut random, &case)
-        }
-        19 => about_numbers(&mut random),
-        20 => {
-            let case = about_numbers(&mut random);
             damaged(&mut random, &case)
         }
         _ => raw(&mut random),

@@ -1,6 +1,5 @@
 //! What came up in a run, and what should have.
 
-use crate::lists::Like;
 use crate::strengths::Way;
 use second_opinion::data::{Pair, Time};
 use second_opinion::second::{Clause, Verdict, Watch};
@@ -16,8 +15,6 @@ pub enum Call {
     Rewrite,
     Write,
     Program,
-    Presses,
-    Demand3,
 }
 
 /// The kinds of times.
@@ -51,12 +48,6 @@ pub struct Coverage {
     pub lines: BTreeMap<u64, u64>,
     /// How many facts the issued procaps list.
     pub facts: BTreeMap<u64, u64>,
-    /// How many numbers the issued procaps of version 2 have.
-    pub numbers: BTreeMap<u64, u64>,
-    /// By the call that took a list, the version of the procap, what the list was like, and the answer.
-    pub lists: BTreeMap<(Call, u64, Like, u64), u64>,
-    /// By the door, the answer that it gave and the next in its order, which was due too.
-    pub said_first: BTreeMap<(Call, u64, u64), u64>,
     /// How often a question was asked, by its name.
     pub asked: BTreeMap<&'static str, u64>,
 }
@@ -157,9 +148,6 @@ impl Coverage {
             answers: BTreeMap::new(),
             lines: BTreeMap::new(),
             facts: BTreeMap::new(),
-            numbers: BTreeMap::new(),
-            lists: BTreeMap::new(),
-            said_first: BTreeMap::new(),
             asked: BTreeMap::new(),
         }
     }
@@ -184,24 +172,6 @@ impl Coverage {
         *self.facts.entry(facts as u64).or_default() += 1;
     }
 
-    /// A procap of version 2 was issued that has so many numbers.
-    pub fn numbered(&mut self, numbers: usize) {
-        *self.numbers.entry(numbers as u64).or_default() += 1;
-    }
-
-    /// A call gave this answer to a procap of a version with a list that is like this.
-    pub fn pressed(&mut self, call: Call, version: u64, likes: &[Like], number: u64) {
-        for like in likes {
-            let came = (call, version, *like, number);
-            *self.lists.entry(came).or_default() += 1;
-        }
-    }
-
-    /// A door gave the first of two answers, and the second was due too.
-    pub fn said_first(&mut self, call: Call, first: u64, second: u64) {
-        *self.said_first.entry((call, first, second)).or_default() += 1;
-    }
-
     /// Adds what came up elsewhere.
     pub fn add(&mut self, other: &Coverage) {
         self.verify.add(&other.verify);
@@ -209,9 +179,6 @@ impl Coverage {
         add_named(&mut self.answers, &other.answers);
         add_named(&mut self.lines, &other.lines);
         add_named(&mut self.facts, &other.facts);
-        add_named(&mut self.numbers, &other.numbers);
-        add_named(&mut self.lists, &other.lists);
-        add_named(&mut self.said_first, &other.said_first);
         add_named(&mut self.asked, &other.asked);
     }
 }

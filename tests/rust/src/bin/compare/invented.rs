@@ -1,11 +1,9 @@
 //! Procaps out of nothing, most of which can be written.
 
-use second_opinion::data::{
-    Fact, Procap, Request, Term, Time, LATEST, WITHOUT_NUMBERS, WITH_NUMBERS,
-};
-use second_opinion::generate::{some_number, Random};
+use second_opinion::data::{Fact, Procap, Request, Term, Time, LATEST};
+use second_opinion::generate::Random;
 
-/// A procap of at most 32 numbers and at most 16 facts with at most 4 terms each.
+/// A procap of at most 16 facts with at most 4 terms each.
 pub fn procap(random: &mut Random) -> Procap {
     let (one, other) = (moment(random), moment(random));
     let ordered = !random.one_in(12);
@@ -14,9 +12,7 @@ pub fn procap(random: &mut Random) -> Procap {
         false => (one, other),
     };
     let count = *random.pick(&[0, 1, 2, 3, 15, 16]);
-    let (version, numbers) = version_and_numbers(random);
     Procap {
-        version,
         request: Request {
             who: name(random),
             what: name(random),
@@ -24,28 +20,8 @@ pub fn procap(random: &mut Random) -> Procap {
         },
         from,
         to,
-        numbers,
         facts: (0..count).map(|_| fact(random)).collect(),
     }
-}
-
-/// A version and its numbers, which rise, seldom another version or numbers that it cannot have.
-fn version_and_numbers(random: &mut Random) -> (u64, Vec<u16>) {
-    if random.one_in(3) {
-        return (WITHOUT_NUMBERS, Vec::new());
-    }
-    let count = *random.pick(&[0, 1, 2, 3, 31, 32]);
-    let mut numbers: Vec<u16> = (0..count).map(|_| some_number(random)).collect();
-    if !random.one_in(16) {
-        numbers.sort_unstable();
-        numbers.dedup();
-    }
-    let version = match random.below(24) {
-        0 => WITHOUT_NUMBERS,
-        1 => *random.pick(&[0, 3, 255]),
-        _ => WITH_NUMBERS,
-    };
-    (version, numbers)
 }
 
 /// A name or a predicate.

@@ -1,12 +1,11 @@
 //! The demands as the archive offers them: calls that are proved to answer yes.
 
-use crate::archive::{Case, Press};
+use crate::archive::Case;
 use second_opinion::data::Request;
 
 #[link(name = "kept", kind = "static")]
 extern "C" {
     fn kept_demand_3(
-        version: u64,
         who: u16,
         what: u16,
         right: u16,
@@ -21,19 +20,16 @@ extern "C" {
         moment: u64,
         state: *const u8,
         state_length: usize,
-        withdrawn: *const u8,
-        withdrawn_length: usize,
     ) -> bool;
     fn kept_demand_2_reading(text: *const u8, text_length: usize) -> bool;
     fn kept_demand_2_writing(value: *const u8, value_length: usize) -> bool;
 }
 
-/// Whether verify, the direct check and the door answer as demand 3 says of a version at a press.
-pub fn demand_3(version: u64, case: &Case, press: Press) -> bool {
+/// Whether verify, the direct check and the door answer as demand 3 says at a press.
+pub fn demand_3(case: &Case, moment: u64, state: &[u8]) -> bool {
     let Request { who, what, right } = case.request;
     unsafe {
         kept_demand_3(
-            version,
             who,
             what,
             right,
@@ -45,11 +41,9 @@ pub fn demand_3(version: u64, case: &Case, press: Press) -> bool {
             case.pairs.len(),
             case.proof.as_ptr(),
             case.proof.len(),
-            press.moment,
-            press.state.as_ptr(),
-            press.state.len(),
-            press.withdrawn.as_ptr(),
-            press.withdrawn.len(),
+            moment,
+            state.as_ptr(),
+            state.len(),
         )
     }
 }

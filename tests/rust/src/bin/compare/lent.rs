@@ -7,7 +7,7 @@ use second_opinion::data::Answer;
 use second_opinion::generate::Random;
 
 /// More room than any text needs.
-pub const AMPLE: usize = 1700;
+const AMPLE: usize = 1300;
 
 /// How many bytes stand behind a lent buffer, which are not lent.
 const BEHIND: usize = 16;

@@ -5,34 +5,26 @@ mod asking;
 mod cases;
 mod coverage;
 mod difference;
-mod faults;
 mod invented;
 mod kept;
 mod lent;
-mod lists;
-mod lists_made;
 mod moments;
 mod options;
 mod pressing;
 mod questions;
 mod run;
 mod spoiled;
-mod spoiled_numbers;
-mod spoiled_text;
 mod states;
 mod strengths;
 mod tables;
 mod tables_orders;
 mod tables_strengths;
-mod tables_withdrawn;
 mod wire;
 mod wire_pairs;
 
 use coverage::Coverage;
 use options::{seed_from_the_clock, Options, USAGE};
 use questions::program::output_of;
-use second_opinion::data::{WITHOUT_NUMBERS, WITH_NUMBERS};
-use second_opinion::second::{verify, NoWatch};
 use std::process::ExitCode;
 use std::time::Instant;
 use tables::Report;
@@ -109,10 +101,8 @@ fn one_case(options: &Options, index: u64) -> bool {
     };
     println!("--seed {} --only {index}", options.seed);
     println!("--case {}", wire::case_in_words(&case));
-    for version in [WITHOUT_NUMBERS, WITH_NUMBERS] {
-        let issued = verify(version, &case, &mut NoWatch);
-        println!("verify for version {version}: {issued:?}");
-    }
+    let issued = second_opinion::second::verify(&case, &mut second_opinion::second::NoWatch);
+    println!("verify: {issued:?}");
     let difference = run::run_case(options, index, &case, &mut Coverage::new());
     if difference.is_none() {
         println!("no difference");

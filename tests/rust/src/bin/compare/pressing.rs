@@ -1,73 +1,11 @@
 //! One press on a procap, whatever case it came from.
 
-use crate::archive;
-use crate::lists::List;
-use crate::lists_made::some_list;
 use crate::states::{fact_at, some_states};
-use crate::wire::hex;
-use second_opinion::data::{Answer, Fact, Procap, Request, LATEST};
+use second_opinion::data::{Fact, Procap, Request, LATEST};
 use second_opinion::generate::Random;
-use second_opinion::second;
-
-/// A procap at hand, and the numbers that its case uses, whichever version it is of.
-#[derive(Clone, Copy)]
-pub struct Shown<'a> {
-    pub procap: &'a Procap,
-    pub used: &'a [u16],
-}
-
-/// One press: its moment, its state, and the list of withdrawn numbers that comes with it.
-pub struct Press {
-    pub moment: u64,
-    pub state: Vec<u8>,
-    pub list: List,
-}
-
-impl Press {
-    /// The press in words.
-    pub fn words(&self, what: &str) -> String {
-        let (state, list) = (hex(&self.state), hex(&self.list.bytes));
-        format!(
-            "{what} at {} in state {state}, withdrawn {list}",
-            self.moment
-        )
-    }
-
-    /// The press as the archive takes it.
-    pub fn for_archive(&self) -> archive::Press<'_> {
-        archive::Press {
-            moment: self.moment,
-            state: &self.state,
-            withdrawn: &self.list.bytes,
-        }
-    }
-
-    /// What the second implementation's door answers to a procap.
-    pub fn door(&self, procap: &Procap, request: Request) -> Answer {
-        let list = &self.list.bytes;
-        second::door(procap, request, self.moment, &self.state, list)
-    }
-
-    /// What it answers to a text.
-    pub fn door_on_text(&self, text: &[u8], [who, what, right]: [u64; 3]) -> Answer {
-        let list = &self.list.bytes;
-        second::door_on_text(text, who, what, right, self.moment, &self.state, list)
-    }
-}
-
-/// A press on a procap, often such that the door opens.
-pub fn some_press(random: &mut Random, shown: Shown) -> Press {
-    let (moment, state) = some_time_and_state(random, shown.procap);
-    let list = some_list(random, shown.used);
-    Press {
-        moment,
-        state,
-        list,
-    }
-}
 
 /// A moment and a state to press at, often such that the door opens.
-fn some_time_and_state(random: &mut Random, procap: &Procap) -> (u64, Vec<u8>) {
+pub fn some_press(random: &mut Random, procap: &Procap) -> (u64, Vec<u8>) {
     let Procap { from, to, .. } = *procap;
     let inside = from + to.saturating_sub(from) / 2;
     let others = [
@@ -94,17 +32,12 @@ fn some_time_and_state(random: &mut Random, procap: &Procap) -> (u64, Vec<u8>) {
 
 /// Three numbers to ask for, mostly those of the request.
 pub fn some_asked(random: &mut Random, request: Request) -> [u64; 3] {
-    let mut asked = numbers_of(request);
+    let mut asked = [request.who, request.what, request.right].map(u64::from);
     if random.one_in(4) {
         let field = random.pick(&[0, 1, 2]);
         asked[*field] = another_number(random, asked[*field]);
     }
     asked
-}
-
-/// The three numbers of a request.
-pub fn numbers_of(request: Request) -> [u64; 3] {
-    [request.who, request.what, request.right].map(u64::from)
 }
 
 /// A request, mostly this one.

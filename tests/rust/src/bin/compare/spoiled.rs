@@ -5,11 +5,10 @@ use second_opinion::generate::{damaged_bytes, Random};
 /// Where the fields of a value's head stand.
 const FROM: usize = 7;
 const TO: usize = 15;
-const NUMBERS: usize = 23;
-const COUNT: usize = 88;
+const COUNT: usize = 23;
 
 /// Where the facts begin, and how long each is.
-const FACTS: usize = 89;
+const FACTS: usize = 24;
 const FACT_BYTES: usize = 39;
 
 /// The value with one damage, which may leave it a value that can be written.
@@ -18,8 +17,8 @@ pub fn spoiled(random: &mut Random, value: &[u8]) -> Vec<u8> {
     match random.below(14) {
         0 => other[0] = random.next() as u8,
         1 => other[FROM..TO].copy_from_slice(&random.next().to_be_bytes()),
-        2 => other[TO..NUMBERS].copy_from_slice(&(1u64 << 40).to_be_bytes()),
-        3 => other[FROM..NUMBERS].rotate_left(8),
+        2 => other[TO..COUNT].copy_from_slice(&(1u64 << 40).to_be_bytes()),
+        3 => other[FROM..COUNT].rotate_left(8),
         4 => other[COUNT] = another_count(random, value[COUNT], 16),
         5 => fact_count(random, &mut other),
         6 => fact_repeated(random, &mut other),

@@ -1,21 +1,19 @@
 //! The tables at the end of a run, and what is missing in them.
 
 use crate::coverage::{Call, Coverage, Walked};
+use crate::questions::pairs;
 use crate::questions::presses::DEMAND_3_WHERE;
 use crate::questions::text::DEMAND_2_OF_A_TEXT;
 use crate::questions::values::DEMAND_2_OF_A_VALUE;
-use crate::questions::{pairs, program, versions};
-use crate::{spoiled_numbers, spoiled_text};
-use second_opinion::generate::Uneven;
 use second_opinion::second::Clause;
 use std::collections::BTreeMap;
 
 /// The answers that a call gives; any other never comes. 6 is no answer of any: the number is withdrawn.
 const ANSWERS: [(Call, &[u64]); 7] = [
-    (Call::Verify, &[0, 1, 2, 3, 4, 5, 12, 13, 21]),
+    (Call::Verify, &[0, 1, 2, 3, 4, 5, 13, 21]),
     (Call::Direct, &[0, 1, 2, 3, 4, 7, 10, 11, 21]),
-    (Call::DoorOnText, &[0, 7, 8, 9, 10, 11, 12, 15, 16]),
-    (Call::DoorOnValue, &[0, 7, 8, 9, 10, 11, 12, 15, 16]),
+    (Call::DoorOnText, &[0, 7, 8, 9, 10, 11, 12]),
+    (Call::DoorOnValue, &[0, 7, 8, 9, 10, 11, 12]),
     (Call::Rewrite, &[0, 12, 13]),
     (Call::Write, &[0, 12, 13]),
     (Call::Program, &[0, 1, 2, 3, 4, 5, 14]),
@@ -81,11 +79,11 @@ impl Report {
             missing: Vec::new(),
         };
         report.questions(coverage);
-        report.named(coverage);
+        report.demands(coverage);
+        report.pairs(coverage);
         report.answers(coverage);
         report.input_lines(coverage);
         report.facts(coverage);
-        report.all_withdrawn(coverage);
         report.tags("verify, steps", &coverage.verify.steps, 0x20..=0x31);
         report.tags("direct, steps", &coverage.direct.steps, 0x20..=0x31);
         report.tags("verify, formulas", &coverage.verify.formulas, 0x10..=0x1b);
@@ -121,22 +119,18 @@ impl Report {
         }
     }
 
-    /// What has a name must have come up: each demand, demand 3 wherever it can come out in another way; lists of pairs
-    /// of every kind; both versions and their numbers in every form, sound and damaged.
-    fn named(&mut self, coverage: &Coverage) {
+    /// Each demand must have been asked, demand 3 wherever it can come out in another way.
+    fn demands(&mut self, coverage: &Coverage) {
         let demands_2 = [DEMAND_2_OF_A_TEXT, DEMAND_2_OF_A_VALUE];
-        let uneven = Uneven::ALL.map(program::name_of);
-        let names: [&[&str]; 8] = [
-            &DEMAND_3_WHERE,
-            &demands_2,
-            &pairs::WHERE,
-            &versions::WHERE,
-            &program::ISSUED,
-            &uneven,
-            &spoiled_text::WAYS,
-            &spoiled_numbers::WAYS,
-        ];
-        for name in names.concat() {
+        for name in DEMAND_3_WHERE.iter().chain(&demands_2) {
+            let count = coverage.asked.get(name).copied().unwrap_or(0);
+            self.expect(true, count, || name.to_string());
+        }
+    }
+
+    /// Lists of pairs of every kind must have been asked about.
+    fn pairs(&mut self, coverage: &Coverage) {
+        for name in pairs::WHERE {
             let count = coverage.asked.get(name).copied().unwrap_or(0);
             self.expect(true, count, || name.to_string());
         }
@@ -178,7 +172,7 @@ impl Report {
     }
 
     /// How often each number of a range came up, as part of a line; each must have.
-    pub fn each_of(
+    fn each_of(
         &mut self,
         numbers: std::ops::RangeInclusive<u64>,
         counts: &BTreeMap<u64, u64>,

@@ -4,16 +4,8 @@ use crate::wire_pairs::{pairs_from_bytes, pairs_in_bytes};
 use second_opinion::data::{Case, Fact, Record, Request, Term, Time};
 use second_opinion::generate::Random;
 
-/// How many bytes a record has: two for the principal, two for the number, nine for each of its times, and eight each
-/// for where its part begins and how long it is.
-pub const RECORD_BYTES: usize = 38;
-
-/// Where the times of a record stand.
-const FROM: usize = 4;
-const TO: usize = 13;
-
-/// How many bytes a time of a record has.
-const TIME_BYTES: usize = 9;
+/// How many bytes a record has.
+pub const RECORD_BYTES: usize = 36;
 
 /// The kinds of a record's times, where all that are not listed are ctime.
 const MOMENT: u8 = 1;
@@ -41,7 +33,6 @@ pub fn records_in_bytes(records: &[Record]) -> Vec<u8> {
     let mut bytes = Vec::with_capacity(records.len() * RECORD_BYTES);
     for record in records {
         bytes.extend(record.principal.to_be_bytes());
-        bytes.extend(record.number.to_be_bytes());
         add_time(&mut bytes, record.from);
         add_time(&mut bytes, record.to);
         bytes.extend(record.start.to_be_bytes());
@@ -65,8 +56,8 @@ fn add_time(bytes: &mut Vec<u8>, time: Time) {
 /// Changes what records in bytes say in more than one way: the value beside an infinity or ctime, and ctime's kind.
 pub fn respell(random: &mut Random, records: &mut [u8]) {
     for record in records.chunks_exact_mut(RECORD_BYTES) {
-        for place in [FROM, TO] {
-            let time = &mut record[place..place + TIME_BYTES];
+        for place in [2, 11] {
+            let time = &mut record[place..place + 9];
             if time[0] != MOMENT {
                 time[1..].copy_from_slice(&random.next().to_be_bytes());
             }
@@ -94,11 +85,10 @@ fn records_from_bytes(bytes: &[u8]) -> Option<Vec<Record>> {
     };
     let records = chunks.map(|record| Record {
         principal: number(&record[..2]) as u16,
-        number: number(&record[2..FROM]) as u16,
-        from: time(&record[FROM..TO]),
-        to: time(&record[TO..22]),
-        start: number(&record[22..30]),
-        length: number(&record[30..]),
+        from: time(&record[2..11]),
+        to: time(&record[11..20]),
+        start: number(&record[20..28]),
+        length: number(&record[28..]),
     });
     whole.then(|| records.collect())
 }

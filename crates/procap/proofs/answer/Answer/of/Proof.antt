@@ -1,4 +1,4 @@
--- A number that is an answer's picks it; a number that is none of the seventeen picks what stands for no answer's.
+-- A number that is an answer's picks it; a number that is none of the fifteen picks what stands for no answer's.
 use Prim.Native.Nat.{ℕ}
 use borrow.Author.Tests.{ne_eqb}
 use mathlib.Core.Path.{◌≡◌, ap, sym}
@@ -10,12 +10,10 @@ use Rattle.procap.proofs.answer.Answer.of.Tie as tie
 row : (place : ℕ) {n k : ℕ} → n ≡ k → answer_with k place ≡ answer_with n place
 row place e = sym (ap (λ n. answer_with n place) e)
 
-returns-18 : tie.Need-returns-18
+returns-16 : tie.Need-returns-16
 unfolding answer_with
-returns-18 c =
+returns-16 c =
     simp (
-      ne_eqb _ _ c.match.rest.0.0.0.0.0.0.0.0.0.0.0.0.0.0.0.0.1,
-      ne_eqb _ _ c.match.rest.0.0.0.0.0.0.0.0.0.0.0.0.0.0.0.1,
       ne_eqb _ _ c.match.rest.0.0.0.0.0.0.0.0.0.0.0.0.0.0.1,
       ne_eqb _ _ c.match.rest.0.0.0.0.0.0.0.0.0.0.0.0.0.1,
       ne_eqb _ _ c.match.rest.0.0.0.0.0.0.0.0.0.0.0.0.1,
@@ -53,6 +51,4 @@ of_spec =
     (λ c. row _ c.match.keys13)
     (λ c. row _ c.match.keys14)
     (λ c. row _ c.match.keys15)
-    (λ c. row _ c.match.keys16)
-    (λ c. row _ c.match.keys17)
-    returns-18)
+    returns-16)

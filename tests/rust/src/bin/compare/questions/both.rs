@@ -2,21 +2,18 @@
 
 use crate::archive::{self, Returned};
 use crate::difference::{same, Outcome};
-use crate::lent::AMPLE;
 use second_opinion::data::{Answer, Case};
 use second_opinion::second::{self, NoWatch};
 
-/// Asks verify for a version, and the direct check at a moment in an empty state, about a case that the archive has in
-/// these bytes.
+/// Asks verify, and the direct check at a moment in an empty state, about a case that the archive has in these bytes.
 pub fn both(
-    version: u64,
     case: &Case,
     for_archive: &archive::Case,
     moment: u64,
     words: impl Fn(&str) -> String,
 ) -> Outcome {
-    let verified = second::verify(version, case, &mut NoWatch);
-    let returned = archive::verify(version, for_archive, &mut [0; AMPLE]);
+    let verified = second::verify(case, &mut NoWatch);
+    let returned = archive::verify(for_archive, &mut [0; 1300]);
     same(&Answer::of(&verified), &returned.answer, || words("verify"))?;
     let answer = second::direct(case, moment, &[], &mut NoWatch);
     let returned = archive::direct(for_archive, moment, &[]);

@@ -1,7 +1,6 @@
 //! The questions, by what they are about.
 
 pub mod both;
-pub mod doors;
 pub mod far_too_long;
 pub mod pairs;
 pub mod presses;
@@ -10,4 +9,3 @@ pub mod records;
 pub mod text;
 pub mod values;
 pub mod verify;
-pub mod versions;

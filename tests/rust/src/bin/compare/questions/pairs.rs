@@ -1,13 +1,12 @@
 //! Lists of pairs: which of them came up, and lists that end within a pair or have more of them.
 
 use super::both::both;
-use super::versions::some_version;
 use crate::archive;
 use crate::asking::Asking;
 use crate::difference::Outcome;
 use crate::wire::hex;
 use crate::wire_pairs::{pairs_from_bytes, pairs_in_bytes, PAIR_BYTES};
-use second_opinion::data::{Answer, Case, Procap, WITHOUT_NUMBERS};
+use second_opinion::data::{Answer, Case, Procap};
 use second_opinion::second::{self, NoWatch};
 
 /// What must have come up about pairs, by the names under which it is counted.
@@ -64,7 +63,7 @@ pub fn note(asking: &mut Asking, issued: &Result<Procap, Answer>) {
         pairs: pairs[..pairs.len() - 1].to_vec(),
         ..asking.case.clone()
     };
-    if issued.is_ok() && second::verify(WITHOUT_NUMBERS, &without, &mut NoWatch).is_err() {
+    if issued.is_ok() && second::verify(&without, &mut NoWatch).is_err() {
         asking.coverage.asked(ISSUED_BY_A_PART);
     }
 }
@@ -123,7 +122,6 @@ fn with_more(asking: &mut Asking) -> Outcome {
 /// Asks verify and the direct check about the case with these bytes for its pairs.
 fn ask_both(asking: &mut Asking, bytes: &[u8]) -> Outcome {
     let moment = asking.random.below(3000);
-    let version = some_version(&mut asking.random);
     let case = Case {
         pairs: pairs_from_bytes(bytes),
         ..asking.case.clone()
@@ -134,5 +132,5 @@ fn ask_both(asking: &mut Asking, bytes: &[u8]) -> Outcome {
     };
     let (count, first) = (case.pairs.len(), &bytes[..bytes.len().min(SHOWN)]);
     let words = |what: &str| format!("{what} with {count} pairs, first {}", hex(first));
-    both(version, &case, &for_archive, moment, words)
+    both(&case, &for_archive, moment, words)
 }

@@ -1,17 +1,15 @@
-//! Presses: the direct check and the door at many moments, in many states, with many lists, and what joins them.
+//! Presses: the direct check and the door at many moments, in many states, and what joins them.
 
-use super::verify::Issued;
-use super::{pairs, versions};
+use super::pairs;
 use crate::archive::{self, Returned};
 use crate::asking::Asking;
 use crate::coverage::Call;
 use crate::difference::{promised, same, Difference, Outcome};
 use crate::kept;
-use crate::lists_made::some_list;
 use crate::moments::{all_moments, some_moments};
-use crate::pressing::{numbers_of, Press};
 use crate::states::{all_states, some_states};
-use second_opinion::data::{Answer, Procap, LATEST, WITH_NUMBERS};
+use crate::wire::hex;
+use second_opinion::data::{Answer, Procap, LATEST};
 use second_opinion::second;
 
 /// Of every so many cases one is also put to the call that is demand 3.
@@ -29,144 +27,100 @@ const MOMENTS: usize = 10;
 const STATES: usize = 4;
 
 /// A procap in all its forms.
-struct Forms<'a> {
+struct Shown<'a> {
     procap: &'a Procap,
     text: Vec<u8>,
     value: Vec<u8>,
 }
 
-impl Forms<'_> {
-    /// A procap in all its forms.
-    fn of(procap: &Procap) -> Forms<'_> {
-        Forms {
-            procap,
-            text: second::text_of(procap).unwrap_or_default(),
-            value: second::value_of(procap),
-        }
+/// One press.
+#[derive(Clone, Copy)]
+struct Press<'a> {
+    moment: u64,
+    state: &'a [u8],
+}
+
+impl Press<'_> {
+    /// The press in words.
+    fn words(&self, what: &str) -> String {
+        format!("{what} at {} in state {}", self.moment, hex(self.state))
     }
 }
 
-/// Asks about presses on a case, which verify has answered; each with one of both versions and with one list.
-pub fn ask(asking: &mut Asking, issued: &Result<Issued, Answer>) -> Outcome {
-    let procaps = issued.as_ref().ok();
-    let forms = procaps.map(|both| [&both.plain, &both.numbered].map(Forms::of));
-    let used = numbers_used(asking);
-    for moment in moments(asking, issued) {
-        for state in states(asking, moment) {
-            let list = some_list(&mut asking.random, &used);
-            let version = versions::some_version(&mut asking.random);
-            let forms = forms.as_ref().map(|[plain, numbered]| match version {
-                WITH_NUMBERS => numbered,
-                _ => plain,
-            });
-            let press = Press {
-                moment,
-                state,
-                list,
-            };
-            one_press(asking, &press, version, forms)?;
+/// Asks about presses on a case, which verify has answered.
+pub fn ask(asking: &mut Asking, issued: &Result<Procap, Answer>) -> Outcome {
+    let shown = issued.as_ref().ok().map(|procap| Shown {
+        procap,
+        text: second::text_of(procap).unwrap_or_default(),
+        value: second::value_of(procap),
+    });
+    let malformed = matches!(issued, Err(refusal) if matches!(refusal.number, 1 | 2 | 21));
+    let all = asking.options.all_presses;
+    let candidates = all_moments(asking.case, issued.as_ref().ok());
+    let moments = match (all, malformed) {
+        (true, _) => candidates,
+        (false, true) => some_moments(&mut asking.random, &candidates, &[], 2),
+        (false, false) => {
+            let edges = edges(issued);
+            some_moments(&mut asking.random, &candidates, &edges, MOMENTS)
+        }
+    };
+    for moment in moments {
+        let wanted = second::facts_wanted(asking.case, moment.min(LATEST));
+        let states = match (all, moment <= LATEST) {
+            (true, _) => all_states(&mut asking.random, &wanted),
+            (false, true) => some_states(&mut asking.random, &wanted, STATES - 1),
+            (false, false) => some_states(&mut asking.random, &wanted, 1),
+        };
+        for state in &states {
+            press(asking, Press { moment, state }, shown.as_ref())?;
         }
     }
     Ok(())
 }
 
-/// The numbers of the records that the proof of the case names, rising.
-fn numbers_used(asking: &Asking) -> Vec<u16> {
-    let used = second::used_records(asking.case).into_iter();
-    let mut numbers: Vec<u16> = used
-        .map(|place| asking.case.records[place].number)
-        .collect();
-    numbers.sort_unstable();
-    numbers.dedup();
-    numbers
-}
-
-/// The moments to press at.
-fn moments(asking: &mut Asking, issued: &Result<Issued, Answer>) -> Vec<u64> {
-    let procap = issued.as_ref().ok().map(|both| &both.plain);
-    let malformed = matches!(issued, Err(refusal) if matches!(refusal.number, 1 | 2 | 21));
-    let candidates = all_moments(asking.case, procap);
-    match (asking.options.all_presses, malformed) {
-        (true, _) => candidates,
-        (false, true) => some_moments(&mut asking.random, &candidates, &[], 2),
-        (false, false) => {
-            let edges = procap.map_or(Vec::new(), edges);
-            some_moments(&mut asking.random, &candidates, &edges, MOMENTS)
-        }
-    }
-}
-
-/// The states to press in at a moment.
-fn states(asking: &mut Asking, moment: u64) -> Vec<Vec<u8>> {
-    let wanted = second::facts_wanted(asking.case, moment.min(LATEST));
-    match (asking.options.all_presses, moment <= LATEST) {
-        (true, _) => all_states(&mut asking.random, &wanted),
-        (false, true) => some_states(&mut asking.random, &wanted, STATES - 1),
-        (false, false) => some_states(&mut asking.random, &wanted, 1),
-    }
-}
-
 /// The moments at which a procap begins and ends to open, and their neighbours outside.
-fn edges(procap: &Procap) -> Vec<u64> {
-    let Procap { from, to, .. } = *procap;
-    vec![from.saturating_sub(1), from, to, to + 1]
+fn edges(issued: &Result<Procap, Answer>) -> Vec<u64> {
+    let Ok(Procap { from, to, .. }) = issued else {
+        return Vec::new();
+    };
+    vec![from.saturating_sub(1), *from, *to, to + 1]
 }
 
-/// Asks about one press with one version.
-fn one_press(asking: &mut Asking, press: &Press, version: u64, forms: Option<&Forms>) -> Outcome {
+/// Asks about one press.
+fn press(asking: &mut Asking, press: Press, shown: Option<&Shown>) -> Outcome {
     let direct = direct(asking, press)?;
     let accepted = direct == Answer::GRANTED;
-    let answer = match forms {
-        Some(forms) => Some(door(asking, press, forms)?),
-        None => None,
-    };
     if asking.index.is_multiple_of(DEMAND_3_EACH) {
-        demand_3(asking, press, version, answer)?;
+        demand_3(asking, press, shown.is_some(), accepted)?;
     }
-    let Some(answer) = answer else {
+    let Some(shown) = shown else {
         let wanted = "no acceptance, as verify refused";
         let question = || press.words("direct check of a refused case");
         return promised(!accepted, question, wanted, direct);
     };
-    let withdrawn = version == WITH_NUMBERS && press.list.withdraws();
-    let opens = accepted && !press.list.malformed() && !withdrawn;
-    let wanted = "the door opens exactly when the direct check accepts and no list forbids it";
-    let question = || press.words(&format!("direct check and door, version {version}"));
-    let joined = opens == (answer == Answer::GRANTED);
-    if opens && press.list.withdraws() {
-        asking.coverage.asked(versions::UNTOUCHED);
-    }
-    promised(joined, question, wanted, (direct, answer))
+    let opened = door(asking, press, shown)?;
+    let wanted = "the door opens exactly when the direct check accepts";
+    let question = || press.words("direct check and door");
+    let joined = accepted == (opened == Answer::GRANTED);
+    promised(joined, question, wanted, (direct, opened))
 }
 
-/// Asks the call that is demand 3 whether it is kept at a press, where the door has answered if anything was issued.
-fn demand_3(asking: &mut Asking, press: &Press, version: u64, answer: Option<Answer>) -> Outcome {
-    let unknown = asking.random.one_in(16);
-    let version = match unknown {
-        true => versions::unknown(&mut asking.random),
-        false => version,
-    };
-    let kept = kept::demand_3(version, &asking.for_archive(), press.for_archive());
-    match (unknown, answer) {
-        (true, _) => asking.coverage.asked(versions::UNKNOWN_TO_DEMAND_3),
-        (false, None) => asking.coverage.asked(DEMAND_3_WHERE[0]),
-        (false, Some(answer)) => {
-            let opened = usize::from(answer == Answer::GRANTED);
-            asking.coverage.asked(DEMAND_3_WHERE[1 + opened]);
-            let (likes, number) = (&press.list.likes, answer.number);
-            asking
-                .coverage
-                .pressed(Call::Demand3, version, likes, number);
-        }
-    }
+/// Asks the call that is demand 3 whether it is kept at a press.
+fn demand_3(asking: &mut Asking, press: Press, issued: bool, accepted: bool) -> Outcome {
+    let kept = kept::demand_3(&asking.for_archive(), press.moment, press.state);
+    asking.coverage.asked(match (issued, accepted) {
+        (false, _) => DEMAND_3_WHERE[0],
+        (true, false) => DEMAND_3_WHERE[1],
+        (true, true) => DEMAND_3_WHERE[2],
+    });
     pairs::note_demand_3(asking);
-    let question = || press.words(&format!("demand 3 for version {version}"));
-    promised(kept, question, "yes", kept)
+    promised(kept, || press.words("demand 3"), "yes", kept)
 }
 
 /// What both direct checks answer.
-fn direct(asking: &mut Asking, press: &Press) -> Result<Answer, Difference> {
-    let (moment, state) = (press.moment, &press.state);
+fn direct(asking: &mut Asking, press: Press) -> Result<Answer, Difference> {
+    let Press { moment, state } = press;
     let answer = second::direct(asking.case, moment, state, &mut asking.coverage.direct);
     let returned = archive::direct(&asking.for_archive(), moment, state);
     asking.coverage.asked("direct check");
@@ -178,17 +132,16 @@ fn direct(asking: &mut Asking, press: &Press) -> Result<Answer, Difference> {
 }
 
 /// What all doors answer to a procap that was issued.
-fn door(asking: &mut Asking, press: &Press, forms: &Forms) -> Result<Answer, Difference> {
-    let (request, lent) = (asking.case.request, press.for_archive());
-    let answer = press.door(forms.procap, request);
-    let on_text = archive::door(&forms.text, numbers_of(request), lent);
-    let on_value = archive::door_on_value(&forms.value, request, lent);
+fn door(asking: &mut Asking, press: Press, shown: &Shown) -> Result<Answer, Difference> {
+    let Press { moment, state } = press;
+    let request = asking.case.request;
+    let asked = [request.who, request.what, request.right].map(u64::from);
+    let answer = second::door(shown.procap, request, moment, state);
+    let on_text = archive::door(&shown.text, asked, moment, state);
+    let on_value = archive::door_on_value(&shown.value, request, moment, state);
     asking.coverage.asked("door on an issued procap");
-    for call in [Call::DoorOnText, Call::DoorOnValue] {
-        let (version, likes) = (forms.procap.version, &press.list.likes);
-        asking.coverage.answered(call, answer.number);
-        asking.coverage.pressed(call, version, likes, answer.number);
-    }
+    asking.coverage.answered(Call::DoorOnText, answer.number);
+    asking.coverage.answered(Call::DoorOnValue, answer.number);
     same(&answer, &on_text, || press.words("door on text"))?;
     same(&Returned::plain(answer), &on_value, || {
         press.words("door on value")

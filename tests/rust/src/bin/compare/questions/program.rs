@@ -1,31 +1,23 @@
 //! The program `check`: what it prints for an input.
 
-use super::versions::some_version;
 use crate::archive;
 use crate::asking::Asking;
 use crate::coverage::Call;
-use crate::difference::{promised, same, Outcome};
+use crate::difference::{same, Outcome};
 use crate::lent::written;
 use crate::wire::hex;
-use second_opinion::data::{WITHOUT_NUMBERS, WITH_NUMBERS};
-use second_opinion::generate::{
-    damaged_bytes, input_of, uneven_input, Random, Uneven, UnevenInput,
-};
+use second_opinion::generate::{damaged_bytes, input_of, Random};
 use second_opinion::second;
 use std::io::{Error, ErrorKind, Write};
 use std::path::Path;
 use std::process::{Command, Stdio};
 
-/// The program issued each version, by the names under which that is counted.
-pub const ISSUED: [&str; 2] = ["program issues version 1", "program issues version 2"];
-
 /// How long an input can be.
 const MOST_BYTES: usize = 65_536;
 
-/// Asks about the case as an input that asks for one of both versions, and about damaged inputs.
+/// Asks about the case as an input, and about damaged inputs.
 pub fn ask(asking: &mut Asking) -> Outcome {
-    let version = some_version(&mut asking.random);
-    let Some(input) = input_of(version, asking.case) else {
+    let Some(input) = input_of(asking.case) else {
         return Ok(());
     };
     one_input(asking, &input)?;
@@ -34,59 +26,18 @@ pub fn ask(asking: &mut Asking) -> Outcome {
         other = damaged_bytes(&mut asking.random, &other);
     }
     one_input(asking, &other)?;
-    if asking.random.one_in(4) {
-        with_uneven_groups(asking)?;
-    }
     match asking.random.below(200) {
         0 => other = lengthened(&mut asking.random, input),
-        1..=4 => other = regrouped(&mut asking.random, version, &input),
+        1..=4 => other = regrouped(&mut asking.random, &input),
         _ => return Ok(()),
     }
     one_input(asking, &other)
 }
 
-/// Asks about the case as an input whose groups differ in having a number, which is refused at the line at fault.
-fn with_uneven_groups(asking: &mut Asking) -> Outcome {
-    let Some(uneven) = uneven_input(&mut asking.random, asking.case) else {
-        return Ok(());
-    };
-    let UnevenInput { way, input, line } = uneven;
-    let refused = format!("refused=14\nplace={line}\n").into_bytes();
-    let printed = second::printed(&input);
-    let question = || format!("{way:?}: {}", hex(&input));
-    promised(
-        printed == refused,
-        question,
-        "14 at the line at fault",
-        &printed,
-    )?;
-    asking.coverage.asked(name_of(way));
-    one_input(asking, &input)
-}
-
-/// The name under which it is counted that groups differed in this way.
-pub fn name_of(way: Uneven) -> &'static str {
-    match way {
-        Uneven::FirstOnly => "14: the first group alone has a number",
-        Uneven::LaterOnly => "14: a later group alone has a number",
-        Uneven::NotTheFirst => "14: all groups but the first have one",
-        Uneven::MissingBetween => "14: a group between has no number",
-        Uneven::MissingLast => "14: the last group has no number",
-        Uneven::Twice => "14: a group has two numbers",
-        Uneven::MalformedFirst => "14: the first number is malformed",
-        Uneven::MalformedLater => "14: a later number is malformed",
-    }
-}
-
 /// The input with its first group as often as makes up some count close to the most, or to none.
-fn regrouped(random: &mut Random, version: u64, input: &[u8]) -> Vec<u8> {
+fn regrouped(random: &mut Random, input: &[u8]) -> Vec<u8> {
     let lines: Vec<&[u8]> = input.split_inclusive(|byte| *byte == b'\n').collect();
-    let end = match version {
-        WITH_NUMBERS => 9,
-        _ => 8,
-    };
-    let (Some(request), Some(group), Some(proof)) =
-        (lines.get(..3), lines.get(4..end), lines.last())
+    let (Some(request), Some(group), Some(proof)) = (lines.get(..3), lines.get(4..8), lines.last())
     else {
         return input.to_vec();
     };
@@ -137,11 +88,6 @@ fn note(asking: &mut Asking, printed: &[u8]) {
     };
     let number = after("refused=").unwrap_or(0);
     asking.coverage.answered(Call::Program, number);
-    match after("procap=") {
-        Some(WITHOUT_NUMBERS) => asking.coverage.asked(ISSUED[0]),
-        Some(WITH_NUMBERS) => asking.coverage.asked(ISSUED[1]),
-        _ => {}
-    }
     if number == 14 {
         asking.coverage.line(after("place=").unwrap_or(u64::MAX));
     }

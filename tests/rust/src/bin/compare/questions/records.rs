@@ -1,7 +1,6 @@
 //! Lists of records that are too long or end within a record.
 
 use super::both::both;
-use super::versions::some_version;
 use crate::archive;
 use crate::asking::Asking;
 use crate::difference::Outcome;
@@ -11,7 +10,6 @@ use second_opinion::data::{Case, Record, Time};
 /// A record that is malformed whatever the buffer.
 const MALFORMED: Record = Record {
     principal: 1,
-    number: 0,
     from: Time::Ctime,
     to: Time::PlusInfinity,
     start: 0,
@@ -63,11 +61,10 @@ fn with_more(asking: &mut Asking) -> Outcome {
 /// Asks verify and the direct check about a case with these bytes for its records.
 fn ask_both(asking: &mut Asking, case: &Case, bytes: &[u8]) -> Outcome {
     let moment = asking.random.below(3000);
-    let version = some_version(&mut asking.random);
     let for_archive = archive::Case {
         records: bytes,
         ..asking.for_archive()
     };
     let words = |what: &str| format!("{what} with the records {}", hex(bytes));
-    both(version, case, &for_archive, moment, words)
+    both(case, &for_archive, moment, words)
 }

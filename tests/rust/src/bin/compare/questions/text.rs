@@ -1,17 +1,14 @@
 //! The procap text: read and written again, and at the door.
 
-use super::doors::{self, Answered};
-use super::versions;
 use crate::archive;
 use crate::asking::Asking;
 use crate::coverage::Call;
 use crate::difference::{promised, same, Outcome};
 use crate::kept;
 use crate::lent::written;
-use crate::pressing::{numbers_of, some_asked, some_press, Shown};
-use crate::spoiled_text::spoiled_text;
+use crate::pressing::{some_asked, some_press};
 use crate::wire::hex;
-use second_opinion::data::Answer;
+use second_opinion::data::{Answer, Procap, Request};
 use second_opinion::generate::damaged_bytes;
 use second_opinion::second;
 
@@ -22,47 +19,32 @@ pub const DEMAND_2_OF_A_TEXT: &str = "demand 2 of a text";
 const MOST_PRESSES: u64 = 5;
 
 /// Asks about a procap's text and about damaged ones.
-pub fn ask(asking: &mut Asking, shown: Shown) -> Outcome {
-    let Ok(text) = second::text_of(shown.procap) else {
+pub fn ask(asking: &mut Asking, procap: &Procap) -> Outcome {
+    let Ok(text) = second::text_of(procap) else {
         return Ok(());
     };
-    one_text(asking, shown, &text)?;
-    with_other_numbers(asking, shown)?;
+    one_text(asking, procap, &text)?;
     let mut other = text;
     for _ in 0..2 {
         other = damaged_bytes(&mut asking.random, &other);
-        one_text(asking, shown, &other)?;
+        one_text(asking, procap, &other)?;
     }
     Ok(())
 }
 
-/// Asks about the text with a damage to its numbers or its version, which leaves it no text.
-fn with_other_numbers(asking: &mut Asking, shown: Shown) -> Outcome {
-    let Some((way, text)) = spoiled_text(&mut asking.random, shown.procap) else {
-        return Ok(());
-    };
-    let read = second::read_text(&text);
-    let question = || format!("{way}: {}", hex(&text));
-    promised(read.is_err(), question, "no procap", &read)?;
-    asking.coverage.asked(way);
-    one_text(asking, shown, &text)
-}
-
 /// Asks about one text, which is a procap's or nearly so.
-fn one_text(asking: &mut Asking, shown: Shown, text: &[u8]) -> Outcome {
+fn one_text(asking: &mut Asking, procap: &Procap, text: &[u8]) -> Outcome {
     rewrite(asking, text)?;
-    door(asking, shown, text)?;
+    door(asking, procap, text)?;
     match asking.random.one_in(8) {
-        true => presses(asking, shown, text),
+        true => presses(asking, procap, text),
         false => Ok(()),
     }
 }
 
 /// Asks what comes of reading a text and writing it again.
 fn rewrite(asking: &mut Asking, text: &[u8]) -> Outcome {
-    let read = second::read_text(text);
-    versions::note_text(asking, text, read.as_ref().ok());
-    let again = read.and_then(|procap| second::text_of(&procap));
+    let again = second::read_text(text).and_then(|procap| second::text_of(&procap));
     let answer = written(
         &mut asking.random,
         &again,
@@ -78,46 +60,35 @@ fn rewrite(asking: &mut Asking, text: &[u8]) -> Outcome {
 }
 
 /// Asks what the door answers to a text.
-fn door(asking: &mut Asking, shown: Shown, text: &[u8]) -> Outcome {
-    let asked = some_asked(&mut asking.random, shown.procap.request);
-    let press = some_press(&mut asking.random, shown);
-    let answer = press.door_on_text(text, asked);
-    let returned = archive::door(text, asked, press.for_archive());
+fn door(asking: &mut Asking, procap: &Procap, text: &[u8]) -> Outcome {
+    let asked = some_asked(&mut asking.random, procap.request);
+    let (moment, state) = some_press(&mut asking.random, procap);
+    let [who, what, right] = asked;
+    let answer = second::door_on_text(text, who, what, right, moment, &state);
+    let returned = archive::door(text, asked, moment, &state);
     asking.coverage.asked("door on a text");
+    asking.coverage.answered(Call::DoorOnText, answer.number);
     same(&answer, &returned, || {
-        press.words(&format!("door on text {}, asked {asked:?}", hex(text)))
-    })?;
-    let read = second::read_text(text);
-    let answered = Answered {
-        call: Call::DoorOnText,
-        read: read.as_ref(),
-        asked,
-        press: &press,
-        answer,
-    };
-    doors::note(asking, shown, answered)
+        let (text, state) = (hex(text), hex(&state));
+        format!("door on text {text}, asked {asked:?} at {moment} in state {state}")
+    })
 }
 
 /// Asks how many equal presses in a row open.
-fn presses(asking: &mut Asking, shown: Shown, text: &[u8]) -> Outcome {
-    let request = shown.procap.request;
-    let press = some_press(&mut asking.random, shown);
+fn presses(asking: &mut Asking, procap: &Procap, text: &[u8]) -> Outcome {
+    let Request { who, what, right } = procap.request;
+    let (moment, state) = some_press(&mut asking.random, procap);
     let count = asking.random.below(MOST_PRESSES + 1);
-    let answer = press.door_on_text(text, numbers_of(request));
+    let [w, x, r] = [who, what, right].map(u64::from);
+    let answer = second::door_on_text(text, w, x, r, moment, &state);
     let open = match answer {
         Answer::GRANTED => count,
         _ => 0,
     };
-    let returned = archive::presses(text, request, press.for_archive(), count);
+    let returned = archive::presses(text, procap.request, moment, &state, count);
     asking.coverage.asked("presses in a row");
-    if second::read_text(text).is_ok_and(|read| read == *shown.procap) {
-        let (version, likes) = (shown.procap.version, &press.list.likes);
-        let number = answer.number;
-        asking
-            .coverage
-            .pressed(Call::Presses, version, likes, number);
-    }
     same(&open, &returned, || {
-        press.words(&format!("{count} presses on text {}", hex(text)))
+        let (text, state) = (hex(text), hex(&state));
+        format!("{count} presses on text {text} at {moment} in state {state}")
     })
 }

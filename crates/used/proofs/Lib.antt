@@ -1,7 +1,0 @@
--- Laws of the pass.
-pub mod TagsApart
-pub mod Passed
-pub mod Turns
-pub mod Keeping
-pub mod ShortOf
-pub mod UsedKept
