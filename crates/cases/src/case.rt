@@ -13,7 +13,7 @@ use text::request::request_at;
 use verifier::certificates::MOST_CERTIFICATES;
 
 // Whether a case was read, and what it asks. In the buffer the certificates' bytes end at `split`, and the proof's at `end`.
-#[derive(Drop)]
+#[derive(Clone, Copy)]
 pub struct CaseRead {
     pub form: Form,
     pub request: Request,

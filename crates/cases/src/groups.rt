@@ -20,14 +20,14 @@ pub const FIRST_GROUP_LINE: u16 = 5;
 pub const GROUP_LINES: u16 = 4;
 
 // The records of the groups that were read: the first `count` of them.
-#[derive(Drop)]
+#[derive(Clone, Copy)]
 pub struct Records {
     pub count: usize,
     pub records: [Certificate; MOST_CERTIFICATES],
 }
 
 // Whether the lines of a group before its formula were read, what they say, and the place after them.
-#[derive(Drop)]
+#[derive(Clone, Copy)]
 pub struct HeadingRead {
     pub form: Form,
     pub by: u16,
@@ -37,7 +37,7 @@ pub struct HeadingRead {
 }
 
 // Whether a group was read, its record, and the places after it and after the bytes of its formula.
-#[derive(Drop)]
+#[derive(Clone, Copy)]
 pub struct GroupRead {
     pub form: Form,
     pub certificate: Certificate,
@@ -46,7 +46,7 @@ pub struct GroupRead {
 }
 
 // Whether all groups were read, their records, and the places after them and after the bytes of their formulas.
-#[derive(Drop)]
+#[derive(Clone, Copy)]
 pub struct GroupsRead {
     pub form: Form,
     pub certificates: Records,

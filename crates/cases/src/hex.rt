@@ -6,21 +6,21 @@ ghost use Rattle.cases.specs.Found.{DigitSays, DigitReads, PairsPut, HexReads};
 use text::line::{Place, after};
 
 // A hex digit, by its value, or none.
-#[derive(Drop)]
+#[derive(Clone, Copy)]
 pub enum HexDigit {
     Value(u8),
     NoDigit,
 }
 
 // The place after some pairs of hex digits, and the place after the bytes that they say.
-#[derive(Drop)]
+#[derive(Clone, Copy)]
 pub struct PairsRead {
     pub next: usize,
     pub end: usize,
 }
 
 // Whether a line of hex was read, the place after it, and the place after the bytes that it says.
-#[derive(Drop)]
+#[derive(Clone, Copy)]
 pub struct HexRead {
     pub found: bool,
     pub next: usize,

@@ -7,7 +7,7 @@ use procap::time::{LATEST_SECOND, Time};
 use text::line::{Place, after, number};
 
 // A time that was read and the place after it, or none.
-#[derive(Drop)]
+#[derive(Clone, Copy)]
 pub enum TimeRead {
     Found(Time, usize),
     NoTime,

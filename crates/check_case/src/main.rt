@@ -1,4 +1,6 @@
 // [D53, D64, D66, D67] The program `check`: a case from standard input, and what is printed for it to standard output.
+#![tactic(auto)]
+
 use cases::answering::{MOST_INPUT, answer_case};
 use libc::{STDERR_FILENO, STDIN_FILENO, STDOUT_FILENO};
 use text::writer::MOST_TEXT;

@@ -16,7 +16,7 @@ use procap::bytes::past;
 use procap::fact::Term;
 
 // What a comparison comes to: the ledger, and where both formulas end.
-#[derive(Drop)]
+#[derive(Clone, Copy)]
 pub struct Compared {
     pub ledger: Ledger,
     pub left_next: usize,
@@ -24,7 +24,7 @@ pub struct Compared {
 }
 
 // Two formulas to compare, under so many binders that no term was put in for, and the offset of the step that asks.
-#[derive(Drop)]
+#[derive(Clone, Copy)]
 struct Pair {
     left: FormulaAt,
     right: FormulaAt,

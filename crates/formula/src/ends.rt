@@ -16,21 +16,21 @@ use procap::fact::{MOST_TERMS, Term};
 use procap::tag::TermTag;
 
 // Where something ends, or that it is not there.
-#[derive(Drop)]
+#[derive(Clone, Copy)]
 pub enum End {
     At(usize),
     Nowhere,
 }
 
 // Where a place ends and whether it is a time or a time variable, not a name or a name variable; or that there is none.
-#[derive(Drop)]
+#[derive(Clone, Copy)]
 enum PlaceEnd {
     Found(bool, usize),
     NoPlace,
 }
 
 // The binders around a place, the innermost last: for each, whether it ranges over times, not over names.
-#[derive(Drop)]
+#[derive(Clone, Copy)]
 struct Binders {
     count: usize,
     times: [bool; MOST_BINDERS],

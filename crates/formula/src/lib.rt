@@ -1,4 +1,6 @@
 // Formulas as they stand in bytes: well formed or not, taken apart, compared.
+#![tactic(auto)]
+
 pub mod compare; // whether two formulas are the same
 pub mod ends; // whether a part holds one formula
 pub mod parts; // tags, places and ends

@@ -17,14 +17,14 @@ use procap::tag::TermTag;
 use procap::time::{Time, TimeNumbers};
 
 // A formula as it stands in bytes: where it begins, and the terms put in for the binders passed.
-#[derive(Drop)]
+#[derive(Clone, Copy)]
 pub struct FormulaAt {
     pub at: usize,
     pub terms: Terms,
 }
 
 // A formula on an interval, the two times of which are held in numbers.
-#[derive(Drop)]
+#[derive(Clone, Copy)]
 pub struct Judgement {
     pub formula: FormulaAt,
     pub from: TimeNumbers,
@@ -50,7 +50,7 @@ impl Judgement {
 }
 
 // What stands where a term may, and the place after it.
-#[derive(Drop)]
+#[derive(Clone, Copy)]
 pub struct PlaceRead {
     pub place: Place,
     pub next: usize,
@@ -180,7 +180,7 @@ fn variable_at(bytes: &[u8], at: usize, terms: Terms, under: usize) -> PlaceRead
 }
 
 // The predicate at a place, the count after it, and where the terms begin.
-#[derive(Drop)]
+#[derive(Clone, Copy)]
 pub struct Head {
     pub predicate: u16,
     pub count: usize,

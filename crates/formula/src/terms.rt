@@ -13,14 +13,14 @@ pub const MOST_BINDERS: usize = 8;
 pub const TERMS_NUMBERS: usize = MOST_BINDERS;
 
 // The terms put in for the binders passed, the latest last: one number each.
-#[derive(Drop)]
+#[derive(Clone, Copy)]
 pub struct Terms {
     pub count: usize,
     pub numbers: [u64; TERMS_NUMBERS],
 }
 
 // What stands where a term may: a term, or a variable that no term was put in for.
-#[derive(Drop)]
+#[derive(Clone, Copy)]
 pub enum Place {
     Fixed(Term),
     Bound(u64),

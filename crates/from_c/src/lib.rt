@@ -1,4 +1,6 @@
 // Every call of the office and the desk on numbers and byte slices, so that C can make it: for tests from outside, and for measuring.
+#![tactic(auto)]
+
 pub mod desk; // the door on a procap value, and presses in a row
 pub mod office; // verify, the direct check, the program's work, the texts
 pub mod packing; // an answer as one number, and what a caller takes out of it

@@ -11,7 +11,7 @@ const PAIR_BYTES: usize = 4;
 pub const PAIRS_AT_MOST: usize = 129;
 
 // The pairs that are lent on, each as one number: the first `count` of them.
-#[derive(Drop)]
+#[derive(Clone, Copy)]
 pub struct PairNumbers {
     pub count: usize,
     pub numbers: [u32; PAIRS_AT_MOST],

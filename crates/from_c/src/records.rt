@@ -14,7 +14,7 @@ const RECORD_BYTES: usize = 36;
 pub const LENT_AT_MOST: usize = 33;
 
 // The records that are lent on: the first `count` of them.
-#[derive(Drop)]
+#[derive(Clone, Copy)]
 pub struct Records {
     pub count: usize,
     pub records: [Certificate; LENT_AT_MOST],

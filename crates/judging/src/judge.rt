@@ -24,7 +24,7 @@ use steps::time_at;
 use strength::asking::as_strong;
 
 // In whose view a step stands, and on which interval, in plain numbers: 0 for nobody's view, where the rest says nothing, and 1 for a principal's.
-#[derive(Drop)]
+#[derive(Clone, Copy)]
 pub struct View {
     pub kind: u64,
     pub principal: u64,
@@ -33,7 +33,7 @@ pub struct View {
 }
 
 // Where a step stands: how many assumptions are around it, below which of them the plain ones are shut out, and its view.
-#[derive(Drop)]
+#[derive(Clone, Copy)]
 pub struct Scope {
     pub count: usize,
     pub shut: usize,
@@ -41,7 +41,7 @@ pub struct Scope {
 }
 
 // What a step infers, and where it ends. Where the ledger has stopped, the rest says nothing.
-#[derive(Drop)]
+#[derive(Clone, Copy)]
 pub struct Inferred {
     pub ledger: Ledger,
     pub judgement: Judgement,
@@ -49,14 +49,14 @@ pub struct Inferred {
 }
 
 // What a step that checks leaves: the ledger, and where it ends. Where the ledger has stopped, the end says nothing.
-#[derive(Drop)]
+#[derive(Clone, Copy)]
 pub struct Checked {
     pub ledger: Ledger,
     pub next: usize,
 }
 
 // Where the two sides of a formula begin, each on the interval of the whole. Where the ledger has stopped, the rest says nothing.
-#[derive(Drop)]
+#[derive(Clone, Copy)]
 pub struct Sides {
     pub ledger: Ledger,
     pub first: usize,
@@ -64,7 +64,7 @@ pub struct Sides {
 }
 
 // What stands around a formula that a step takes out, or puts in: an "at", a "says", or an "or" around its left or its right side.
-#[derive(Drop)]
+#[derive(Clone, Copy)]
 pub enum Shell {
     AtShell,
     SaysShell,
@@ -73,14 +73,14 @@ pub enum Shell {
 }
 
 // A judgement inside of another, as the row that it is assumed by: a plain one, or a claim of who says it.
-#[derive(Drop)]
+#[derive(Clone, Copy)]
 pub struct Inside {
     pub ledger: Ledger,
     pub row: Row,
 }
 
 // Two times that stand one after the other, and where they end. Where the ledger has stopped, the rest says nothing.
-#[derive(Drop)]
+#[derive(Clone, Copy)]
 struct Span {
     pub ledger: Ledger,
     pub from: TimeNumbers,
@@ -89,7 +89,7 @@ struct Span {
 }
 
 // What a 26 has to check, where on the same interval begins what it then infers, and where its second step begins and it ends.
-#[derive(Drop)]
+#[derive(Clone, Copy)]
 pub struct Application {
     pub ledger: Ledger,
     pub premise: Judgement,

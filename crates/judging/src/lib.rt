@@ -1,4 +1,6 @@
 // What each step of a proof makes of a goal or of what was inferred; the walk over the steps stands above.
+#![tactic(auto)]
+
 pub mod either; // the steps of an "or" and of falsity
 pub mod judge; // what one step makes of a goal, or of what was inferred
 pub mod rows; // assumptions and certificates as rows of numbers

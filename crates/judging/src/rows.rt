@@ -18,7 +18,7 @@ pub const ROW_NUMBERS: usize = 16;
 pub const ALL_NUMBERS: usize = 512;
 
 // Whose an assumption is: a plain one, or a claim of this principal.
-#[derive(Drop)]
+#[derive(Clone, Copy)]
 pub enum Whose {
     Plain,
     Claim(u64),
@@ -47,7 +47,7 @@ impl Whose {
 }
 
 // An assumption, or a certificate, which is a claim of its principal.
-#[derive(Drop)]
+#[derive(Clone, Copy)]
 pub struct Row {
     pub whose: Whose,
     pub judgement: Judgement,

@@ -1,6 +1,6 @@
 -- What the questions of a walk leave of the ledger, and of the list of facts that is lent beside it.
 use Rattle.std.specs.Prelude.{ℕ, zero, suc, ◌+◌, ◌-◌, ◌*◌, ◌≤◌, min, max, ◌≡◌, List, [], ◌∷◌, ◌++◌, length, eqb}
-use Rattle.std.proofs.Math.Logic.{ite, Dec·and}
+use Rattle.std.proofs.Math.Logic.{ite, Dec}
 use Rattle.std.proofs.Math.Decide.{ℕ_discrete, dec_lt}
 use Rattle.std.proofs.lemmas.List.Edits.{sets}
 use Rattle.procap.specs.Lists.{pad}
@@ -42,7 +42,7 @@ order_asked l q t u = asked_by l l (narrowed_by l q (decided t u)) (ite (at_most
 -- The book after the office is asked for a fact, which goes to the end of the list, unless it stands there or there is no room for it.
 unfoldable pub fact_listed : List ℕ → Ledger → Fact → Book
 fact_listed list l f =
-    ite (Dec·and (ℕ_discrete (length list) list_numbers) (dec_lt l.count most_facts))
+    ite (Dec.and (ℕ_discrete (length list) list_numbers) (dec_lt l.count most_facts))
     (ite (in? spelled? (spelled f) (facts_in list l.count))
     (book l list)
     (book (keeping l l.from l.to (l.count + 1)) (sets list (l.count * fact_numbers) (numbers_of_fact f))))

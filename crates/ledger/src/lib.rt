@@ -1,4 +1,6 @@
 // The ledger of a walk: what stopped it, how it is read, and what verify keeps; and the questions that a walk asks.
+#![tactic(auto)]
+
 ghost use Rattle.std.specs.Prelude.{◌≡◌, ◌+◌, ◌*◌, ◌≤◌, ◌<◌, min, max, [], ◌∷◌, length, get_or};
 ghost use Rattle.std.proofs.lemmas.List.Edits.{sets};
 ghost use Rattle.procap.specs.Lists.{In};
@@ -23,21 +25,21 @@ pub const FACT_NUMBERS: usize = 10;
 pub const LIST_NUMBERS: usize = 160;
 
 // How a walk is read: at the office with the clock open, or at a press at its moment.
-#[derive(Drop)]
+#[derive(Clone, Copy)]
 pub enum Reading {
     Office,
     Press(u64),
 }
 
 // Whether a walk goes on, or the answer that stopped it.
-#[derive(Drop)]
+#[derive(Clone, Copy)]
 pub enum Stop {
     Going,
     Stopped(Answer),
 }
 
 // What a walk has come to, in plain numbers, which are handed on faster than enums: the number and the place of the answer that stopped it, zeros while it goes on; 0 where it is read at the office, and else the moment of the press plus one; the moments that are left; and how many facts are listed.
-#[derive(Drop)]
+#[derive(Clone, Copy)]
 pub struct Ledger {
     pub number: u64,
     pub place: usize,

@@ -46,7 +46,7 @@ fn kinds_of(left: Time, right: Time) -> u64
 }
 
 // What verify makes of an order: it holds, it fails, or it narrows the moments at which the procap opens.
-#[derive(Drop)]
+#[derive(Clone, Copy)]
 pub enum Decision {
     Holds,
     Fails,

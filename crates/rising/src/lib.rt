@@ -1,4 +1,6 @@
 // Numbers in strictly rising order at the front of a lent slice: where one stands, and one put among them.
+#![tactic(auto)]
+
 ghost use Rattle.std.specs.Prelude.{◌≡◌, ◌+◌, ◌≤◌, ◌<◌, length, take};
 ghost use Rattle.rising.specs.Rising.{CountsBelow, Puts, with_at};
 

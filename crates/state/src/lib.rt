@@ -1,4 +1,6 @@
 // The state of the machine: whether its bytes are well formed, whether a fact stands in it, and which fact stands at a place.
+#![tactic(auto)]
+
 ghost use Rattle.std.specs.Prelude.{◌≡◌, ◌≤◌};
 ghost use Rattle.procap.specs.Tells.{Tells};
 ghost use Rattle.procap.specs.Facts.{spelled, most_terms};
@@ -15,7 +17,7 @@ use procap::tag::TermTag;
 pub const MOST_STATE_BYTES: usize = 4_096;
 
 // What a pass over a state finds of a fact.
-#[derive(Drop)]
+#[derive(Clone, Copy)]
 enum Found {
     Malformed,
     Absent,

@@ -7,7 +7,7 @@ use procap::bytes::{TermRead, past, term_by};
 use procap::tag::TermTag;
 
 // The lent bytes of a proof and a place in them.
-#[derive(Drop)]
+#[derive(Clone, Copy)]
 pub struct Reader<'a> {
     pub proof: &'a [u8],
     pub at: usize,

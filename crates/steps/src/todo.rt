@@ -11,7 +11,7 @@ use procap::fact::Term;
 
 // The two times of the 26 whose second part began at a place; a step that must infer, or one that checks; the second part of a 26, which checks, and its times; two steps that check.
 // A step has at most so many levels, and so many assumptions around it.
-#[derive(Drop)]
+#[derive(Clone, Copy)]
 pub(crate) enum Todo {
     Times(usize),
     Inferring(u64, u64),
@@ -21,7 +21,7 @@ pub(crate) enum Todo {
 }
 
 // What is there at a place: nothing of that kind; or something that goes on at a next place, and leaves nothing to be read (with so many steps 2C), one part, or two.
-#[derive(Drop)]
+#[derive(Clone, Copy)]
 pub(crate) enum Opened {
     Nothing,
     Leaf(usize, usize),

@@ -10,7 +10,7 @@ use crate::names::{Listed, known_place_in, place_in, put_names, side_of};
 use crate::{MARKS_AT, MOST_PAIRS, STRENGTH_NUMBERS, WEAKERS_AT};
 
 // What a pair brings: the column of its stronger one, if there is one, the row of that one, and the marks that are gained.
-#[derive(Drop)]
+#[derive(Clone, Copy)]
 struct Brought {
     column: Listed,
     row: usize,

@@ -1,4 +1,6 @@
 // Who is at least as strong as whom, found once for all pairs, and then told in a few steps.
+#![tactic(auto)]
+
 pub mod asking;
 pub mod finding;
 mod marks;

@@ -9,7 +9,7 @@ ghost use Rattle.strength.specs.Gaining.{mark_words, OneMark, ColumnMarked, Gain
 use crate::names::Listed;
 
 // A row of marks by itself.
-#[derive(Drop)]
+#[derive(Clone, Copy)]
 pub(crate) struct MarkRow {
     pub low: u64,
     pub high: u64,

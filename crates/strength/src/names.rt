@@ -9,7 +9,7 @@ use crate::MOST_PAIRS;
 use rising::{below, put};
 
 // Where a name stands in a list, if it does.
-#[derive(Drop)]
+#[derive(Clone, Copy)]
 pub(crate) enum Listed {
     Absent,
     At(usize),

@@ -13,7 +13,7 @@ use procap::procap::MOST_FACTS;
 const WORD_BYTES: usize = 5;
 
 // Whether lines of facts were read, no two of them alike, where each begins, and the place after them.
-#[derive(Drop)]
+#[derive(Clone, Copy)]
 pub struct LinesRead {
     pub found: bool,
     pub places: [usize; MOST_FACTS],

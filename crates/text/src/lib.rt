@@ -1,4 +1,6 @@
 // The procap text: its reader and its writer.
+#![tactic(auto)]
+
 pub mod line; // bytes, numbers and lines of the text
 pub mod request; // the three lines of a request
 pub mod reader; // from a text to a procap

@@ -7,21 +7,21 @@ ghost use Rattle.text.specs.Places.{PlaceReads, DigitReads};
 use procap::bytes::NumberRead;
 
 // The place after what was read, or none.
-#[derive(Drop)]
+#[derive(Clone, Copy)]
 pub enum Place {
     At(usize),
     Nowhere,
 }
 
 // Whether lines keep their form, or which is the first that breaks it.
-#[derive(Drop)]
+#[derive(Clone, Copy)]
 pub enum Form {
     Kept,
     BrokenAt(usize),
 }
 
 // A digit, by its value, or none.
-#[derive(Drop)]
+#[derive(Clone, Copy)]
 enum Digit {
     Value(u64),
     NoDigit,

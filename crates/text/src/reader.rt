@@ -16,14 +16,14 @@ use procap::procap::{MOST_FACTS, Procap, Request, VERSION};
 use procap::time::LATEST_SECOND;
 
 // The answer of reading a text, and the procap that it says.
-#[derive(Drop)]
+#[derive(Clone, Copy)]
 pub struct ReadText {
     pub answer: Answer,
     pub procap: Procap,
 }
 
 // Whether bytes are a text, and then its request, its moments, how many facts it has and where their lines begin.
-#[derive(Drop)]
+#[derive(Clone, Copy)]
 pub struct Overview {
     pub found: bool,
     pub request: Request,
@@ -34,7 +34,7 @@ pub struct Overview {
 }
 
 // Whether two moments were read, the two, and the place after them.
-#[derive(Drop)]
+#[derive(Clone, Copy)]
 struct MomentsRead {
     found: bool,
     from: u64,

@@ -10,7 +10,7 @@ use procap::procap::Request;
 use procap::writable::LARGEST_NAME;
 
 // Whether the lines of a request were read, the request, and the place after them.
-#[derive(Drop)]
+#[derive(Clone, Copy)]
 pub struct RequestRead {
     pub form: Form,
     pub request: Request,

@@ -14,7 +14,7 @@ pub const MOST_TEXT: usize = 1_223;
 const MOST_REFUSAL: usize = 38;
 
 // The answer of writing a text, and the text's length.
-#[derive(Drop)]
+#[derive(Clone, Copy)]
 pub struct WrittenText {
     pub answer: Answer,
     pub length: usize,

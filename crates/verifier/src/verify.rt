@@ -31,14 +31,14 @@ use walk::{Here, check};
 pub const GOAL_BYTES: usize = 17;
 
 // What verify answers, and the procap that it hands over.
-#[derive(Drop)]
+#[derive(Clone, Copy)]
 pub struct Verified {
     pub answer: Answer,
     pub procap: Procap,
 }
 
 // What is asked of a proof: whether it shows a request, at the office or at a press.
-#[derive(Drop)]
+#[derive(Clone, Copy)]
 struct Asked {
     pub request: Request,
     pub reading: Reading,

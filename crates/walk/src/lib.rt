@@ -1,5 +1,7 @@
 // The walk over a proof: steps that infer and steps that check, in one cycle of calls. At each call levels fall, or, where a tag was read and is handed on, bytes.
 // Each call hands on all that is lent, so the calls stand on one line each, out of the formatter's reach.
+#![tactic(auto)]
+
 ghost use Rattle.std.specs.Prelude.{◌≡◌, ◌-◌, ◌<◌};
 ghost use Rattle.walk.specs.WalkCalls.{sources, Infers, Checks, ChecksPair, ChecksPut, ChecksTaken, ChecksCases, KeepsRows};
 
@@ -17,7 +19,7 @@ use steps::ends::end_in;
 use steps::{check_tag_at, infer_tag_at, term_at};
 
 // Where the walk stands: in which scope, at which step, with what ledger, and how many levels are left there.
-#[derive(Drop)]
+#[derive(Clone, Copy)]
 pub struct Here {
     pub scope: Scope,
     pub at: usize,
@@ -26,7 +28,7 @@ pub struct Here {
 }
 
 // The cases that what was inferred leaves: the two sides of an "or"; or none, where it is falsity.
-#[derive(Drop)]
+#[derive(Clone, Copy)]
 pub enum Cases {
     BothSides,
     NoCase,
