@@ -1,8 +1,8 @@
 -- The pair of kinds of two times says in which row of the order's table they stand: its two hex digits are their kinds, and a time is told by its kind
 -- and the second that it holds. The one pair that no row before the last names is ctime <= moment.
-use Prim.Native.Nat.{ℕ, ◌+◌, ◌*◌, ◌/◌, ◌%◌, ◌≤◌}
+use Prim.Native.Nat.{ℕ, ◌/◌, ◌%◌, ◌≤◌}
 use mathlib.Core.Bool.{Bool, true}
-use mathlib.Core.Logic.{◌⊎◌, inl, inr}
+use mathlib.Core.Logic.{inl, inr}
 use mathlib.Core.List.{List, [], ◌∷◌}
 use mathlib.Core.Path.{◌≡◌, refl, ap, ap₂, ◌∙◌}
 use native.Mathlib.Decide.{ℕ_discrete}
