@@ -1,7 +1,6 @@
 -- The list grows by one at the most for each fact asked: so the facts listed and those that a walk still asks for are never more than they were.
 use Prim.Native.Nat.{ℕ, ◌+◌, ◌≤◌}
 use mathlib.Core.Path.{◌≡◌, ap}
-use mathlib.Core.List.{List}
 use mathlib.Core.Logic.{ite}
 use native.Mathlib.Omega.{arith}
 use lib.ListN.{length, length-append}
