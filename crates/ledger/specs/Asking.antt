@@ -7,7 +7,7 @@ use Rattle.std.proofs.lemmas.List.Edits.{sets}
 use Rattle.procap.specs.Lists.{pad}
 use Rattle.procap.specs.Tells.{pick}
 use Rattle.procap.specs.Deciding.{in?, spelled?, at_most?, holds_at?}
-use Rattle.procap.specs.Lent.{Lent}
+use Rattle.procap.specs.Lent.{Lent, LentToWrite}
 use Rattle.procap.specs.Order.{decided}
 use Rattle.procap.specs.Facts.{spelled, fact_of, no_fact, most_terms}
 use Rattle.procap.specs.Procaps.{most_facts, version_one}
@@ -56,13 +56,13 @@ fact_asked state list l q f =
     (ite (holds_at? (l.press - 1) (facts_said (stated state)) (spelled f)) (book l list) (book (stopped_by (FactMissing q) l) list))
 
 -- The call leads where the question of the fact does, for a fact of few terms with zeros past them.
-abbrev pub AsksFact : Lent → Lent → Ledger → ℕ → Fact → Ledger → Type 0
+abbrev pub AsksFact : Lent → LentToWrite → Ledger → ℕ → Fact → Ledger → Type 0
 AsksFact state facts l offset f r =
     Sound (book l facts.entry.now) → f ≡ fact_of (spelled f) → f.count ≤ most_terms
     → Gives state.entry.now (book l facts.entry.now) (ask_fact offset (spelled f)) (book r facts.exit.now) tt
 
 -- The same at the office, which looks at no state.
-abbrev pub ListsFact : Lent → Ledger → Fact → Ledger → Type 0
+abbrev pub ListsFact : LentToWrite → Ledger → Fact → Ledger → Type 0
 ListsFact facts l f r =
     (state : List ℕ) (offset : ℕ) → Sound (book l facts.entry.now) → reading_in l ≡ Office → f ≡ fact_of (spelled f)
     → Gives state (book l facts.entry.now) (ask_fact offset (spelled f)) (book r facts.exit.now) tt
