@@ -51,6 +51,7 @@ pub struct Ledger {
 
 impl Ledger {
     // The ledger at the start of a walk, at the office or at a press; a moment above the latest has stopped it.
+    #[tactic(auto, unfolding(crate::specs::Books::begun))]
     pub fn begin(reading: Reading) -> Ledger
         ensures { result ≡ begun reading }
     {

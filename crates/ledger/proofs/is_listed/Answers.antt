@@ -1,5 +1,4 @@
 -- The loop has not met the fact among those passed.
-use Prim.Native.Nat.{◌-◌}
 use mathlib.Core.Path.{◌≡◌}
 use native.Mathlib.Omega.{arith}
 use Rattle.procap.proofs.Telling.{holds, fails}

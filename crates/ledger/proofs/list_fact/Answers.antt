@@ -28,7 +28,8 @@ returns-then-is_listed c =
 pub put_fact-requires : goal.put_fact-requires
 put_fact-requires c =
     let room = c.has_room in
-    holds_else room.result c.if-not-has_room.false-raw room.ensures
+    let fits = holds_else room.result c.if-not-has_room.false-raw room.ensures in
+    record { room = fits.0; few = fits.1 }
 
 pub overflow_add-count : goal.overflow_add-count
 overflow_add-count c =
@@ -44,6 +45,6 @@ returns c =
     let room = c.has_room in
     let fits = holds_else room.result c.if-not-has_room.false-raw room.ensures in record {
       leads = λ state offset s o form.
-          listed_last _ _ _ _ _ s o new _ _ fits.1 (put.auto.0 ∙ fits.0) put.ensures.put put.ensures.kept form c.keeping.ensures;
+          listed_last _ _ _ _ _ s o new _ _ fits.1 (put.auto.facts ∙ fits.0) put.ensures.put put.ensures.kept form c.keeping.ensures;
       leaves = list_lacks _ _ _ fits new c.keeping.ensures put.ensures.stored;
     }

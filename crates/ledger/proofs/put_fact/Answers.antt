@@ -14,7 +14,7 @@ pub put_terms-requires : goal.put_terms-requires
 put_terms-requires c = simp length-set (omega arith)
 
 pub shape_of-facts : goal.shape_of-facts
-shape_of-facts c = c.put_terms.auto.0 ∙ simp length-set
+shape_of-facts c = c.put_terms.auto.facts ∙ simp length-set
 
 pub returns : goal.returns
 returns c =

@@ -11,4 +11,4 @@ pub returns : goal.returns
 returns c =
     let facts = c.args.facts.now in
     let fits : (n : ℕ) → c.args.term ≡ Name n → n < 65536 = λ n e. let h = rw e at c.well_formed.1.1.0 in omega arith in
-    rw (c.kind.ensures, c.value.ensures) (term_put facts _ _ c.requires fits, (term_kept facts _ c.args.term, rw add-one))
+    rw (c.kind.ensures, c.value.ensures) (record { put = term_put facts _ _ c.requires fits; kept = term_kept facts _ c.args.term; stored = rw add-one })
