@@ -5,7 +5,7 @@ use mathlib.Core.Bool.{true, false}
 use mathlib.Core.List.{List, []}
 use mathlib.Core.Logic.{inl}
 use native.Mathlib.Omega.{arith}
-use lib.ListN.{length, get_or, take, replicate, length-replicate}
+use lib.ListN.{length, get_or, replicate, length-replicate}
 use lib.Seq.{get_or-drop}
 use borrow.Rule.Slice.PartMut.{put_mid}
 use Rattle.bl.specs.Strength.{pairs_of, most_pairs}

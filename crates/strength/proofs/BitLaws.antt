@@ -17,9 +17,9 @@ digit_or (suc zero) (suc zero) p q = (λ e. inl refl, λ s. refl)
 digit_or (suc zero) (suc (suc y)) p q = absurd (omega arith)
 digit_or (suc (suc x)) y p q = absurd (omega arith)
 
-pub bit_or : (a b s : ℕ) → Bit (bit_or a b) s ↔ (Bit a s ⊎ Bit b s)
+pub Bit-or : (a b s : ℕ) → Bit (bit_or a b) s ↔ (Bit a s ⊎ Bit b s)
 unfolding Bit
-bit_or a b s =
+Bit-or a b s =
     let x = a / 2 ^ s in
     let y = b / 2 ^ s in
     let e : bit_or a b / 2 ^ s % 2 ≡ bit_or (x % 2) (y % 2) = ap (λ n. n % 2) (or_shr a b s) ∙ or_mod x y 1 in

@@ -14,7 +14,7 @@ use Rattle.strength.specs.declared.names.Listed.{Listed}
 use Rattle.strength.specs.declared.names.Listed.TheVariants.{Absent, At}
 use Rattle.strength.specs.Marks.{Bit, Marked}
 use Rattle.strength.specs.Gaining.{MarkedIn, OneMark, Gained}
-use Rattle.strength.proofs.BitLaws.{bit_or, one_bit, no_bit}
+use Rattle.strength.proofs.BitLaws.{Bit-or, one_bit, no_bit}
 
 -- Two words joined with two, and two words of a list, by their index.
 two_or : (a b c d h : ℕ) → h < 2 → get_or (bit_or a b ∷ bit_or c d ∷ []) h 0 ≡ bit_or (get_or (a ∷ c ∷ []) h 0) (get_or (b ∷ d ∷ []) h 0)
@@ -31,7 +31,7 @@ two_of words i (suc (suc h)) l = absurd (omega arith)
 pub or_marks : (a b c d y : ℕ) → y < most_pairs
     → MarkedIn (record { low = bit_or a b; high = bit_or c d }) y
     ↔ (MarkedIn (record { low = a; high = c }) y ⊎ MarkedIn (record { low = b; high = d }) y)
-or_marks a b c d y l = rw (two_or a b c d (y / 64) (omega arith)) (bit_or _ _ (y % 64))
+or_marks a b c d y l = rw (two_or a b c d (y / 64) (omega arith)) (Bit-or _ _ (y % 64))
 
 -- Two words of a list are a row.
 pub row_marks : (words : List ℕ) (row y : ℕ) → y < most_pairs

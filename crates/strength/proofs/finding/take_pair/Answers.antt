@@ -18,5 +18,5 @@ gain-requires c =
 pub returns : goal.returns
 returns c =
     let gain = c.gain in
-    pair_taken c.args.pair c.args.strengths.now gain.new.0 c.brought_by-brought.result c.requires
-    c.brought_by-brought.ensures gain.auto.0 gain.ensures
+    pair_taken c.args.pair c.args.strengths.now gain.new.words c.brought_by-brought.result c.requires
+    c.brought_by-brought.ensures gain.auto.words gain.ensures

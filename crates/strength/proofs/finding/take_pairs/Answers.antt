@@ -18,7 +18,7 @@ loop-i-preserved c =
     let taken = c.take_pair in
     let inv = c.loop-i.invariant in
     let pairs = c.args.pairs.now in (
-      all_stand pairs _ inv.0 _ _ taken.auto.0 taken.ensures,
+      all_stand pairs _ inv.0 _ _ taken.auto.strengths taken.ensures,
       omega arith,
       λ s. strengths_grow pairs _ inv.0 _ c.loop-i.i c.loop-i-test.true inv.1 taken.ensures (inv.2 s),
     )

@@ -1,5 +1,6 @@
 -- The names have both sides of all pairs, and the strengths are those of the pairs from this one on.
 use Prim.Native.Nat.{◌≤◌}
+use mathlib.Core.List.{[]}
 use lib.ListN.{length, drop}
 use Rattle.bl.specs.Strength.{pairs_of}
 use Rattle.strength.specs.Strengths.{StrengthsOf}

@@ -1,5 +1,4 @@
 -- The list is in order and has the sides of the pairs passed, as many names as these at the most.
-use Prim.Native.Nat.{◌-◌}
 use mathlib.Core.Path.{sym, ◌∙◌}
 use native.Mathlib.Omega.{arith}
 use lib.Seq.{take_all}
@@ -16,9 +15,9 @@ loop-i-preserved c =
     let put = c.put in
     let side = c.side_of in
     let more =
-    one_named c.args.stronger c.args.pairs.now c.loop-i.names put.new.0 c.loop-i.i put.result side.result
+    one_named c.args.stronger c.args.pairs.now c.loop-i.names put.new.numbers c.loop-i.i put.result side.result
     c.loop-i.invariant.0 c.loop-i.invariant.1 c.loop-i-test.true c.requires.0
-    put.ensures.within put.auto.0 side.ensures put.ensures.puts in
+    put.ensures.within put.auto.numbers side.ensures put.ensures.puts in
     (more.0, more.1, omega arith)
 
 pub shape_of-names : goal.shape_of-names
