@@ -8,7 +8,7 @@ use Rattle.procap.specs.declared.fact.Term.{Term}
 use Rattle.procap.specs.declared.fact.Term.TheVariants.{Name, When}
 use Rattle.bl.specs.Trees.{Infer, local, certificate, first, second, apply, instance, Check, pair, trivial, at_in, at_out, says_in, says_out, state, compare, or_left, or_right, or_out, falsity_out, inferred, offset}
 use Rattle.bl.specs.Steps.{proof_in}
-use Rattle.procap.specs.Lent.{Lent}
+use Rattle.procap.specs.Lent.{Lent, LentToWrite}
 
 -- ── How many bytes a step takes ──
 
@@ -116,6 +116,6 @@ abbrev pub IsProof : Lent → ℕ → Type 0
 IsProof proof certificates = (N : Check) × (proof_in certificates proof.entry.now ≡ some N)
 
 -- Where the bytes are a proof, and the table is long enough, it has at the exit where each second part ends.
-abbrev pub EndsTold : Lent → ℕ → Lent → Type 0
+abbrev pub EndsTold : Lent → ℕ → LentToWrite → Type 0
 EndsTold proof certificates ends =
     (N : Check) → most_ends ≤ length ends.entry.now → proof_in certificates proof.entry.now ≡ some N → ToldChecking ends.exit.now N

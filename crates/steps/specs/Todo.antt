@@ -9,7 +9,7 @@ use Rattle.bl.specs.declared.CheckTag.{CheckTag}
 use Rattle.bl.specs.declared.CheckTag.TheVariants.{PairTag, TopStepTag, AtInTag, AtOutTag, SaysInTag, SaysOutTag, StateTag, OrderStepTag, OrLeftTag, OrRightTag, OrOutTag, FalsityOutTag, InferredTag, NoCheckTag}
 use Rattle.bl.specs.Tags.{infer_tag, check_tag}
 use Rattle.bl.specs.Steps.{most_proof_bytes, most_proof_levels, time}
-use Rattle.procap.specs.Lent.{Lent}
+use Rattle.procap.specs.Lent.{Lent, LentToWrite}
 use Rattle.steps.specs.Ends.{slot}
 use Rattle.steps.specs.declared.todo.Todo.{Todo}
 use Rattle.steps.specs.declared.todo.Todo.TheVariants.{Times, Inferring, Checking, Second, Both}
@@ -138,5 +138,5 @@ module _ (proof : Lent) where
   Opens c todo at r = left r ≡ parts proof.entry.now c todo at
 
 -- The table at the exit.
-abbrev pub Noted : Lent → Todo → ℕ → Type 0
+abbrev pub Noted : LentToWrite → Todo → ℕ → Type 0
 Noted ends todo at = ends.exit.now ≡ noted todo at ends.entry.now

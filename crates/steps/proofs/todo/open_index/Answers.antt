@@ -3,14 +3,12 @@ use Prim.Native.Nat.{ℕ, ◌+◌, ◌≤◌, ◌<◌}
 use mathlib.Core.Path.{◌≡◌, refl, sym}
 use mathlib.Core.List.{List, []}
 use mathlib.Core.Option.{some, none}
-use borrow.Author.Rules.{rules}
 use borrow.Author.Tests.{lt-ltb, le-ltb}
 use lib.ListN.{length, get_or}
 use Rattle.procap.specs.Bytes.{then, ensure}
 use Rattle.procap.proofs.ReadApart.{from_byte, past_bytes}
 use Rattle.steps.specs.Todo.{index_parts, left}
-use Rattle.steps.proofs.todo.open_index.Statement.{statement}
-use Rattle.steps.proofs.todo.open_index.Tie as tie
+use Rattle.steps.proofs.todo.open_index.Goals as goal
 
 -- Past the end, below the limit, and above it.
 module _ (proof : List ℕ) (limit at : ℕ) where
@@ -26,23 +24,16 @@ module _ (proof : List ℕ) (limit at : ℕ) where
   unfolding index_parts then ensure
   index-above r l e b = rw (from_byte proof at _ l, ← e, le-ltb r limit b) refl
 
-returns : tie.Need-returns
+pub returns-then-at-proof : goal.returns-then-at-proof
 unfolding left
-returns c = index-past _ _ _ c.if1.true
+returns-then-at-proof c = index-past _ _ _ c.if-at-proof.true
 
-returns-2 : tie.Need-returns-2
+pub returns-then-byte_or_zero-limit : goal.returns-then-byte_or_zero-limit
 unfolding left
-returns-2 c =
-    let read = c.before in
-    let inside = read.before in
-    index_below inside.before.before.args.proof.now _ _ _ inside.if1.false read.byte-or-zero.ensures c.if2.true
+returns-then-byte_or_zero-limit c =
+    index_below c.args.proof.now _ _ _ c.if-at-proof.false c.byte_or_zero.ensures c.if-byte_or_zero-limit.true
 
-returns-3 : tie.Need-returns-3
+pub returns-else-byte_or_zero-limit : goal.returns-else-byte_or_zero-limit
 unfolding left
-returns-3 c =
-    let read = c.before in
-    let inside = read.before in
-    index-above inside.before.before.args.proof.now _ _ _ inside.if1.false read.byte-or-zero.ensures c.if2.false
-
-pub open-index-spec : {M : Type 1} → statement M
-open-index-spec = tie.close (tie.spec returns (λ c κs. search rules) (λ c. search rules) (λ c. search rules) returns-2 returns-3)
+returns-else-byte_or_zero-limit c =
+    index-above c.args.proof.now _ _ _ c.if-at-proof.false c.byte_or_zero.ensures c.if-byte_or_zero-limit.false

@@ -1,0 +1,20 @@
+-- A time goes on from a term, and there is none at a name; then another time.
+use mathlib.Core.Path.{◌∙◌}
+use Rattle.procap.proofs.Handed.{term_told}
+use Rattle.steps.specs.Todo.{left}
+use Rattle.steps.proofs.TimesLeft.{no_terms, a_name_first, a_time_first}
+use Rattle.steps.proofs.todo.open_times.Goals as goal
+
+pub returns-in-Name : goal.returns-in-Name
+unfolding left
+returns-in-Name c = λ k.
+    a_name_first _ _ k _ _ (term_told _ c.in-Found.is c.term_read.ensures.reads) _ c.in-Name.is
+
+pub returns-in-When : goal.returns-in-When
+returns-in-When c = λ k.
+    c.open_time.ensures k
+    ∙ a_time_first _ _ k _ _ (term_told _ c.in-Found.is c.term_read.ensures.reads) _ c.in-When.is
+
+pub returns-in-NoTerm : goal.returns-in-NoTerm
+unfolding left
+returns-in-NoTerm c = λ k. no_terms _ _ k (term_told _ c.in-NoTerm.is c.term_read.ensures.reads)
