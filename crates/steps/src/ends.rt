@@ -22,6 +22,7 @@ pub fn end_in(ends: &[u16], at: usize) -> usize
 }
 
 // Where the times of a 26 are to be read, its second part has ended.
+#[tactic(auto, unfolding(crate::specs::Todo::noted))]
 pub(crate) fn note_end(ends: &mut [u16], todo: Todo, place: usize)
     requires { place ≤ most_proof_bytes }
     ensures { Noted ends todo place }

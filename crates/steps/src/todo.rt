@@ -38,6 +38,7 @@ fn step_number(kind: u64, levels: u64, assumptions: u64) -> u64
 }
 
 // What waits, as a number.
+#[tactic(auto, unfolding(crate::specs::Todo::todo_in, crate::specs::Todo::Small))]
 pub(crate) fn number_of(todo: Todo) -> u64
     requires { Small todo }
     ensures { todo_in result ≡ todo }
@@ -52,6 +53,7 @@ pub(crate) fn number_of(todo: Todo) -> u64
 }
 
 // What waits, from its number.
+#[tactic(auto, unfolding(crate::specs::Todo::todo_in))]
 pub(crate) fn todo_of(number: u64) -> Todo
     ensures { result ≡ todo_in number }
 {
