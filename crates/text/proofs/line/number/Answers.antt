@@ -16,6 +16,10 @@ overflow_add-next c = omega (arith, (digit_told _ _ c.in-Value.is c.digit_at.ens
 pub loop-digit-init : goal.loop-digit-init
 loop-digit-init c = started _ _ _ _ (digit_told _ _ c.in-Value.is c.digit_at.ensures) c.if-limit-first.false
 
+pub loop-digit-preserved : goal.loop-digit-preserved
+loop-digit-preserved c =
+    more _ _ _ _ _ c.loop-digit.invariant _ (digit_told _ _ c.in-Value-digit_at.is c.digit_at-in-loop-digit.ensures) (omega arith) (omega (arith, c.if-limit-value-2.false))
+
 pub returns-in_default-digit_at : goal.returns-in_default-digit_at
 returns-in_default-digit_at c =
     let read = c.loop-digit.invariant in record { reads = ended _ _ _ _ _ read (digit_told _ _ c.in_default-digit_at.is c.digit_at-in-loop-digit.ensures); bound = read.within }
@@ -34,7 +38,3 @@ overflow_add-next-in-loop-digit c = omega (arith, (digit_told _ _ c.in-Value-dig
 
 pub loop-digit-smaller : goal.loop-digit-smaller
 loop-digit-smaller c = omega (arith, (digit_told _ _ c.in-Value-digit_at.is c.digit_at-in-loop-digit.ensures).1)
-
-pub loop-digit-preserved : goal.loop-digit-preserved
-loop-digit-preserved c =
-    more _ _ _ _ _ c.loop-digit.invariant _ (digit_told _ _ c.in-Value-digit_at.is c.digit_at-in-loop-digit.ensures) c.if-value-eq0.false (omega (arith, c.if-limit-value-2.false))
