@@ -1,7 +1,7 @@
 -- Words as bytes.
 use Rattle.std.specs.Prelude.{ℕ, List, [], ◌∷◌}
 use Prim.Native.Char.{code}
-use Prim.Native.String.{String, [] as no-letters, ◌∷◌ as ◌and-then◌}
+use Prim.Native.String.{String, [] as no-letters, ◌∷◌ as ◌and_then◌}
 
 -- The bytes of a word: the text has plain letters only, and each of these is one byte.
 abbrev pub bytes_of : String → List ℕ
