@@ -1,6 +1,6 @@
 -- Two formulas are compared by their tags, and then part by part.
 -- At each part the levels left fall by one; a rank beside them falls from each function to the one that it calls.
-use Prim.Native.Nat.{◌+◌, ◌*◌, ◌-◌}
+use Prim.Native.Nat.{◌+◌, ◌*◌}
 use Rattle.formula.proofs.compare.+same_after_same_body_same_pair_same_tagged.Given as goal
 
 abbrev pub decreases-same_after : goal.decreases-same_after

@@ -1,14 +1,11 @@
 -- The levels left fall at each formula inside another: a formula is as its tag says, what begins where something else ends is a formula one level
 -- lower, and so are the two sides of a formula and the body of a binder.
-use Prim.Native.Nat.{ℕ, ◌-◌}
-use mathlib.Core.Path.{◌≡◌, refl}
+use mathlib.Core.Path.{refl}
 use native.Mathlib.Omega.{arith}
-use Rattle.bl.specs.declared.FormulaTag.{FormulaTag}
 use Rattle.bl.specs.declared.FormulaTag.TheVariants.{NoFormulaTag}
-use Rattle.bl.specs.Formulas.{formula_by, formula}
-use Rattle.formula.specs.declared.ends.End.{End}
+use Rattle.bl.specs.Formulas.{formula}
 use Rattle.formula.specs.declared.ends.End.TheVariants.{At, Nowhere}
-use Rattle.formula.specs.Ends.{Ends, sort_of, sorts_of}
+use Rattle.formula.specs.Ends.{sort_of, sorts_of}
 use Rattle.formula.proofs.SortsAround.{sorts_length}
 use Rattle.formula.proofs.Endings.{no_level, formula_announced, ninth_binder, body_ends, sides_end as both-sides-end, top_ends, and_ends, implies_ends, all_names_ends, all_times_ends, says_ends, at_ends, atom_ends, fact_ends, order_ends, or_ends, falsity_ends, no_formula}
 use Rattle.formula.proofs.ends.+body_end_formula_end_next_formula_end_sides_end.Goals as goal

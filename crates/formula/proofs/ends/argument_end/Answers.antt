@@ -1,14 +1,10 @@
 -- By cases of the tag.
-use mathlib.Core.Path.{◌≡◌, refl}
-use mathlib.Core.List.{List}
+use mathlib.Core.Path.{refl}
 use native.Mathlib.Omega.{arith}
 use Rattle.procap.proofs.Handed.{number_told, bound_told}
-use Rattle.procap.specs.declared.tag.TermTag.{TermTag}
-use Rattle.bl.specs.Trees.{Sort}
-use Rattle.bl.specs.Formulas.{place_by, argument}
-use Rattle.formula.specs.declared.ends.PlaceEnd.{PlaceEnd}
+use Rattle.bl.specs.Formulas.{place_by}
 use Rattle.formula.specs.declared.ends.PlaceEnd.TheVariants.{NoPlace}
-use Rattle.formula.specs.Ends.{PlaceEnds, sorts_of}
+use Rattle.formula.specs.Ends.{sorts_of}
 use Rattle.formula.proofs.Endings.{no_argument, argument_by}
 use Rattle.formula.proofs.ends.argument_end.Goals as goal
 

@@ -1,5 +1,4 @@
 -- What the arguments not passed end with, all of them end with.
-use Prim.Native.Nat.{◌-◌}
 use Rattle.formula.proofs.Endings.{place_told, all_left, one_passed, one_missing, none_left}
 use Rattle.formula.proofs.ends.many_end.Goals as goal
 

@@ -1,5 +1,4 @@
 -- The loop has read and stored the terms passed. A variable leaves no fact; with none left the terms make one.
-use Prim.Native.Nat.{◌-◌}
 use mathlib.Core.Path.{refl}
 use native.Mathlib.Omega.{arith}
 use Rattle.procap.specs.Lists.{pad}

@@ -1,5 +1,4 @@
 -- The loop has passed so many of the places, and the others are still to be read.
-use Prim.Native.Nat.{◌-◌}
 use Rattle.formula.proofs.PartsRead.{none_passed, one_passed, all_passed}
 use Rattle.formula.proofs.parts.past_places.Goals as goal
 

@@ -38,7 +38,7 @@ returns-in-CtimeTag c =
 
 pub returns-in-VariableTag : goal.returns-in-VariableTag
 returns-in-VariableTag c =
-    let found = variable_found _ _ _ _ _ _ c.of-tag.ensures c.in-VariableTag.is c.variable_at.ensures in
+    let found = variable_found _ _ _ _ _ _ c.of-tag.ensures c.in-VariableTag.is (c.variable_at.ensures.place, c.variable_at.ensures.next) in
     record { place = found.0; next = found.1 }
 
 pub returns-in-NoTermTag : goal.returns-in-NoTermTag
