@@ -13,8 +13,7 @@ use text::facts::fact_at;
 use text::reader::look_over;
 
 // [D6, D7] What the door answers, as 256 times the number plus the place. 12 comes first, for bytes that are no text; a number that is no name is in no request.
-#[unsafe(no_mangle)]
-pub extern "C" fn procap_door(
+pub fn procap_door(
     text: &[u8],
     who: u64,
     what: u64,
