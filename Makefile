@@ -1,5 +1,5 @@
 # The commands of the project. `make` builds the program bin/check; `make test` is the one test command.
-.PHONY: program run press kept test layout test-pages pictures test-pictures kit door archives test-check test-c test-c-linked test-c-memory test-stack test-rust soak fuzz bench bench-instructions
+.PHONY: program run press kept test proofs layout test-pages pictures test-pictures kit door archives test-check test-c test-c-linked test-c-memory test-stack test-rust soak fuzz bench bench-instructions
 SHELL := /bin/bash
 .SHELLFLAGS := -euo pipefail -c
 
@@ -13,7 +13,13 @@ C_MISSING := $(if $(shell command -v $(C_COMPILER)),,yes)
 # first call, the loader's work would count as the caller's stack.
 BOUND_AT_START := -Wl,-z,now
 STATIC := $(if $(filter /%,$(shell $(C_COMPILER) -print-file-name=libc.a 2> /dev/null)),-static)
-DOOR := target/staticlib/libdoor.a
+
+# The archives for C. What C calls is exported by a static library of its own, which nothing else uses: door_c has the exports of door and from_c_c
+# those of from_c; kept is one itself. C's programs find each under the name of what it offers, as libdoor.a.
+SHIPPED := target/staticlib
+DOOR := $(SHIPPED)/libdoor.a
+exporter = $(if $(wildcard crates/$(1)_c),$(1)_c,$(1))
+CODE := crates.txt $(shell find crates -name out -prune -o -type f \( -name '*.rt' -o -name '*.antt' \) -print)
 
 # Programs of this machine link these: the door, the crate from_c, which has every call on numbers and byte slices, and the crate kept, the demands as calls.
 NATIVE := target/native
@@ -28,12 +34,13 @@ CASES ?= 100000
 SEED ?= 1
 FUZZ_SECONDS ?= 60
 
-# The program `check`: every crate below it is proved, and then it is compiled and put at bin/check.
+# The program `check`: every crate below it is proved, then it is compiled, run on case P, and put at bin/check.
 program: kit
 	@mkdir -p bin
-	@[ -f target/bin/check_case ] || echo "proving and building bin/check: from nothing this takes about eight minutes" >&2
-	@rt check check_case 2>&1 | tee bin/check.log | { grep --line-buffered '^rt: .* proved ([0-9]' >&2 || true; } || { cat bin/check.log >&2; exit 1; }
-	@cp target/bin/check_case bin/check
+	@[ -f crates/check_case/out/check_case ] || echo "proving and building bin/check: from nothing this takes some ten minutes" >&2
+	@(cd crates/check_case && rt run < stdin) 2> bin/check.log > bin/printed || { cat bin/check.log >&2; exit 1; }
+	@cmp bin/printed crates/check_case/stdout
+	@cp crates/check_case/out/check_case bin/check
 	@tests/run_here.sh bin/check
 
 # The main job on an example: the proof of case P is checked, and its procap is printed.
@@ -52,24 +59,29 @@ bin/press: door examples/press.c include/procap.h
 kept: bin/kept
 	@bin/kept examples/loaded.state examples/*.case examples/*.procap
 
-bin/kept: $(NATIVE)/libkept.a tests/c/kept.c tests/c/case_bytes.c tests/c/calls.h
-	@$(call linked,,kept,tests/c/kept.c tests/c/case_bytes.c target/staticlib/libkept.a)
+bin/kept: $(SHIPPED)/libkept.a tests/c/kept.c tests/c/case_bytes.c tests/c/calls.h
+	@$(call linked,,kept,tests/c/kept.c tests/c/case_bytes.c $(SHIPPED)/libkept.a)
 
-# Everything that a landing must pass: the layout of the files, the pages and pictures, every proof, then the tests that run. The last line is the count that
-# decides.
-test: kit layout test-pages test-pictures
-	@mkdir -p bin
-	@rt ci | tee bin/proofs.log
-	@tests/axioms.sh < bin/proofs.log
+# Everything that a landing must pass: the pages and pictures, every proof and the layout of the files, then the tests that run. The last line is the count
+# that decides.
+test: test-pages test-pictures proofs
 	@$(MAKE) --no-print-directory test-check
 	@$(MAKE) --no-print-directory test-stack
 	@$(MAKE) --no-print-directory test-c
 	@$(MAKE) --no-print-directory test-rust
 	@tail -n 1 bin/proofs.log
 
-# Every source and proof file stands as `rt fmt` would write it.
+# Every proof, every edit that must be refused and the layout of every file, by the kit's own gate, which passes an edit that says nothing; and what the
+# proofs assume.
+proofs: kit
+	@mkdir -p bin
+	@rt ci | tee bin/proofs.log
+	@! grep -E '^rt: ok.*, [0-9]+ bad' bin/proofs.log || { echo "an edit in must-fail/ could not be tried" >&2; exit 1; }
+	@tests/axioms.sh bin/proofs.log
+
+# Lays out every source and proof file, and names those that were not laid out.
 layout: kit
-	@rt fmt --check
+	@for crate in crates/*/; do (cd "$$crate" && rt fmt | sed -n "s|^rt: formatted |$$crate|p"); done
 
 # What the pages and the comments name is there.
 test-pages:
@@ -86,9 +98,13 @@ test-pictures:
 	@tests/pictures.sh
 
 # The door for C, proved and compiled, as an archive.
-door: kit
-	@mkdir -p bin
-	@rt staticlib door > bin/door.log 2>&1 || { cat bin/door.log; exit 1; }
+door: $(DOOR)
+
+.PRECIOUS: $(SHIPPED)/lib%.a
+$(SHIPPED)/lib%.a: $(CODE) | kit
+	@mkdir -p bin $(SHIPPED)
+	@(cd crates/$(call exporter,$*) && rt lib) > bin/lib$*.log 2>&1 || { cat bin/lib$*.log; exit 1; }
+	@cp crates/$(call exporter,$*)/out/lib$(call exporter,$*).a $@
 
 # The program on every example and at the edges of its input and output, and what it prints shown at the door.
 test-check: program $(if $(C_MISSING),,bin/press)
@@ -114,11 +130,11 @@ test-c-linked: archives
 	@bin/door_test
 	@$(call linked,$(LINK),stack,tests/c/stack.c tests/c/own_stack.c $(DOOR))
 	@bin/stack
-	@$(call linked,$(LINK),office_stack,tests/c/office_stack.c tests/c/own_stack.c tests/c/case_bytes.c target/staticlib/libfrom_c.a)
+	@$(call linked,$(LINK),office_stack,tests/c/office_stack.c tests/c/own_stack.c tests/c/case_bytes.c $(SHIPPED)/libfrom_c.a)
 	@bin/office_stack $(DEEPEST:%=%.case)
-	@$(call linked,$(LINK),with_pairs,examples/with_pairs.c tests/c/case_bytes.c target/staticlib/libfrom_c.a)
+	@$(call linked,$(LINK),with_pairs,examples/with_pairs.c tests/c/case_bytes.c $(SHIPPED)/libfrom_c.a)
 	@tests/with_pairs.sh bin/with_pairs
-	@$(call linked,$(LINK),kept,tests/c/kept.c tests/c/case_bytes.c target/staticlib/libkept.a)
+	@$(call linked,$(LINK),kept,tests/c/kept.c tests/c/case_bytes.c $(SHIPPED)/libkept.a)
 	@bin/kept examples/loaded.state examples/*.case examples/*.procap
 
 # A program from C that this machine can start: how it is linked, its name in bin/, and what it is made of.
@@ -137,12 +153,14 @@ test-c-memory: archives
 # The archives of the proved code that programs of this machine can link; and the same with counters, for a fuzzer.
 archives: $(NATIVE)/libfrom_c.a $(NATIVE)/libdoor.a $(NATIVE)/libkept.a
 
-$(NATIVE)/lib%.a: tests/archive_here.sh $(shell find crates -name '*.rt') | kit
-	@mkdir -p bin
-	@tests/archive_here.sh $* > bin/archive_$*.log 2>&1 || { cat bin/archive_$*.log; exit 1; }
+$(NATIVE)/lib%.a: $(SHIPPED)/lib%.a
+	@mkdir -p $(NATIVE)
+	@$(if $(EMULATED),$(call compiled_again,$*),cp $< $@)
 
-$(NATIVE)/lib%_covered.a: $(NATIVE)/lib%.a
-	@tests/archive_here.sh $* covered
+$(NATIVE)/lib%_covered.a: $(SHIPPED)/lib%.a
+	@$(call compiled_again,$*,covered)
+
+compiled_again = tests/archive_here.sh $(1) $(call exporter,$(1)) $(2) > bin/archive_$(1).log 2>&1 || { cat bin/archive_$(1).log; exit 1; }
 
 # The second implementation: its own tests, and both implementations on the same cases, with the program on some of them.
 ifdef CARGO_MISSING

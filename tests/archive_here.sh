@@ -1,50 +1,37 @@
 #!/bin/bash
-# Makes archives of a crate that programs of this machine can link, in target/native. The crate is proved first.
-# The kit compiles for x86-64, and there libNAME.a is the archive that it makes. Where the Makefile says EMULATED, the kit's clang compiles the same
-# module of LLVM once more, with the same options, for the machine at hand: good for comparing and measuring, while the archive that is shipped is
-# the one for x86-64. With the word `covered` it is libNAME_covered.a instead: the module that was kept, compiled on every machine so that a fuzzer
-# sees which branches are taken.
-# usage: archive_here.sh NAME [covered]
+# Compiles the proved code of an archive once more, into target/native: where the Makefile says EMULATED for the machine at hand, good for comparing
+# and measuring, while the archive that is shipped is the one for x86-64; with the word `covered` so that a fuzzer sees which branches are taken, as
+# libNAME_covered.a. It is the same module of LLVM, compiled by the kit's clang with the kit's options, but for those that only x86-64 has.
+# usage: archive_here.sh NAME CRATE [covered], CRATE being the static library that libNAME.a is made of
 set -euo pipefail
-name=$1 machine=$(uname -m)
+name=$1 crate=$2 machine=$(uname -m)
 native=$PWD/target/native
-kit=$(cd "$(dirname "$(rt doc)")/.." && pwd -P)
-clang=$kit/on/$machine/toolchain/bin/clang
+kit=$(cd "$(dirname "$(rt doc)")" && pwd -P)
 mkdir -p "$native"
 
-# Compiles the module for this machine, with these options more.
-compile() { # ARCHIVE OPTION..
-    local archive=$native/$1
-    shift
-    "$clang" "--target=$machine-unknown-linux-gnu" -ffunction-sections -fdata-sections -fPIC -O3 -w "$@" -c -x ir "$native/$name.bc" -o "${archive%.a}.o" 2> "${archive%.a}.log"
-    rm -f "$archive"
-    ar rcs "$archive" "${archive%.a}.o"
-}
-if [ "${2:-}" = covered ]; then
-    compile "lib${name}_covered.a" -fsanitize-coverage=inline-8bit-counters,pc-table,trace-cmp
-    exit
-fi
-
 # A kit beside the kit, whose clang also keeps the module that it is given.
-beside=$PWD/target/kit_beside
-own=$beside/on/$machine
-rm -rf "$beside"
-mkdir -p "$own/toolchain/bin"
-link_all() { # FROM TO BUT
-    for part in "$1"/*; do [ "$(basename "$part")" = "$3" ] || ln -s "$part" "$2/"; done
+beside=$(mktemp -d)
+trap 'rm -rf "$beside"' EXIT
+mkdir -p "$beside/toolchain/bin"
+link_all() { # FROM TO BUT..
+    for part in "$1"/*; do [[ " ${*:3} " == *" $(basename "$part") "* ]] || ln -s "$part" "$2/"; done
 }
-link_all "$kit" "$beside" on
-link_all "$kit/on/$machine" "$own" toolchain
-link_all "$kit/on/$machine/toolchain" "$own/toolchain" bin
-link_all "$kit/on/$machine/toolchain/bin" "$own/toolchain/bin" clang
-cat > "$own/toolchain/bin/clang" << SCRIPT
+link_all "$kit" "$beside" bin toolchain
+cp -r "$kit/bin" "$beside/bin"
+link_all "$kit/toolchain" "$beside/toolchain" bin
+link_all "$kit/toolchain/bin" "$beside/toolchain/bin" clang
+cat > "$beside/toolchain/bin/clang" << SCRIPT
 #!/bin/sh
 if [ -f module.bc ]; then cp module.bc '$native/$name.bc'; fi
-exec '$clang' "\$@"
+exec '$kit/toolchain/bin/clang' "\$@"
 SCRIPT
-chmod +x "$own/toolchain/bin/clang"
-rm -f "$native/$name.bc"
-RATTLE_HOME=$beside "$beside/bin/rt" staticlib "$name"
-rm -rf "$beside"
+chmod +x "$beside/toolchain/bin/clang"
+rm -f "$native/$name.bc" "crates/$crate/out/lib$crate.a"
+(cd "crates/$crate" && "$beside/bin/rt" lib)
 
-if [ -z "${EMULATED:-}" ]; then cp "target/staticlib/lib$name.a" "$native/lib$name.a"; else compile "lib$name.a"; fi
+archive=$native/lib$name${3:+_$3}.a
+covers=()
+if [ "${3:-}" = covered ]; then covers=(-fsanitize-coverage=inline-8bit-counters,pc-table,trace-cmp); fi
+"$kit/toolchain/bin/clang" "--target=$machine-unknown-linux-gnu" -ffunction-sections -fdata-sections -fPIC -O3 -w "${covers[@]}" -c -x ir "$native/$name.bc" -o "${archive%.a}.o"
+rm -f "$archive"
+ar rcs "$archive" "${archive%.a}.o"

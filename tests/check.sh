@@ -88,8 +88,11 @@ for out in /dev/full closed; do
     echo "check: the answer could not be written" > "$room/expected"
     expect "an output that takes nothing ($out)" "$room/said" "$room/expected"
 done
-timeout 10 bash -c "'$check' < examples/p.case | true" || [ $? -ne 124 ]
+timeout 10 bash -c "'$check' < examples/p.case 2> /dev/null | true" || [ $? -ne 124 ]
 passed=$((passed + 1))
+# By the time that the case comes in, nobody reads what is printed.
+(sleep 0.5; cat examples/p.case) | "$check" 2> "$room/said" | true
+expect "an output whose reader has gone" "$room/said" "$room/expected"
 
 # ── From the office to the desk ──
 

@@ -28,7 +28,7 @@ not_in_both() { comm -3 <("$1" "${@:3}" | sort -u) <("$2" | sort -u) | tr -d '\t
 # The code spans of the pages, one on a line. A span may go over the end of a line.
 spans() { awk '!/^    /' "${PAGES[@]}" | tr '\n' ' ' | each '`[^`]+`' | tr -d '`' | sort -u; }
 
-# `bl/specs/Rules.antt: rule-26, rule-27` on a page: the file is there and defines each of the names. Without names, the file is there.
+# `bl/specs/Rules.antt: rule_26, rule_27` on a page: the file is there and defines each of the names. Without names, the file is there.
 definitions_missing() {
     spans | sed -nE 's/^([a-z_]+\/(specs|proofs|src)\/[A-Za-z_+\/]+\.(antt|rt))(: (.*))?$/\1|\5/p' > "$scratch/cited"
     while IFS='|' read -r file names; do
@@ -72,7 +72,7 @@ steps_defined() { tags_defined | each '^[23].'; }
 numbers_explained() { each '^\| \*\*[0-9]+\*\*' docs/ANSWERS.md | each '[0-9]+'; }
 limits_on_page() { sed -nE '/^## Limits/,/^## Presses/s/^\| .* \| ([0-9,]+) \| `([^:]+): ([^`]+)` \|$/\2: \3 = \1/p' $SCOPE | tr -d ','; }
 limits_defined() {
-    limits_on_page | while IFS=': ' read -r file name _; do sed -nE "s/^($name = [0-9_]+)\$/\1/p" "crates/$file" | tr -d '_' | sed "s|^|$file: |"; done
+    limits_on_page | while IFS=': ' read -r file name _; do sed -nE "s/^($name = [0-9_]+)\$/\1/p" "crates/$file" | sed -E 's/([0-9])_([0-9])/\1\2/g' | sed "s|^|$file: |"; done
 }
 long_lines() { awk -v most=$LONGEST 'length > most && !/^\|/ { print FILENAME ":" FNR }' "${PAGES[@]}"; }
 

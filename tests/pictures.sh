@@ -28,7 +28,7 @@ function leads(from, to, i) {
 }
 FNR == NR {
     if (/^#/ || NF == 0) next
-    sub(/:$/, "", $1); name[++count] = $1; crate[$1] = 1
+    sub(/ staticlib:/, ":"); sub(/:$/, "", $1); name[++count] = $1; crate[$1] = 1
     for (i = 2; i <= NF; i++) if ($i in crate) uses[$1, $i] = 1
     next
 }
@@ -66,7 +66,7 @@ written() { # FILE
 
 # Each `CRATE/specs/FILE.antt: NAME, NAME` in it, on a line of its own.
 definitions() { # FILE
-    written "$1" | grep -oE '[a-z_]+/(specs|proofs)/[A-Za-z]+\.antt: [A-Za-z0-9-]+(, [A-Za-z0-9-]+)*' || true
+    written "$1" | grep -oE '[a-z_]+/(specs|proofs)/[A-Za-z]+\.antt: [A-Za-z0-9_]+(, [A-Za-z0-9_]+)*' || true
 }
 
 found=$(definitions "$pictures/readings.dot")

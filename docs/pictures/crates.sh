@@ -3,13 +3,15 @@
 # usage: crates.sh CRATES.TXT | tred | dot -Tsvg; `tred` drops the arrows that follow from others
 set -euo pipefail
 
-# Where each crate stands, what it is (code, paper: no code, shipped), its name, and its words on two lines. Those of the kit are left out.
+# Where each crate stands, what it is (code, paper: no code, shipped), its name, and its words on two lines.
 places() {
     cat << 'END'
 above   code     kept        demands 2 and 3,|as calls
 above   paper    demands     three demands|and fifteen presses
+above   code     from_c_c    the same calls,|for C
 above   code     from_c      every call on numbers|and bytes
-desk    shipped  door        opens or refuses:|archive for firmware
+desk    shipped  door_c      the door for C:|archive for firmware
+desk    code     door        opens or|refuses
 desk    code     text        reads and writes|the procap text
 desk    code     state       which facts stand|in a state
 office  shipped  check_case  reads, answers, writes:|the program bin/check
@@ -25,8 +27,6 @@ office  paper    bl          the logic on paper,|no code
 below   code     rising      numbers in|rising order
 below   code     procap      the data that|both halves share
 below   paper    by_hand     laws for functions|proved by hand
-kit     code     io
-kit     code     libc
 END
 }
 
@@ -49,9 +49,10 @@ FNR == NR {
     sub(/^[^ ]+ +[^ ]+ +[^ ]+ +/, ""); words[name[listed]] = $0
     next
 }
-# crates.txt: `NAME: what it uses`. No arrow may lead from the desk to the office, nor up from below both.
+# crates.txt: `NAME: what it uses`, or `NAME staticlib: what it uses`. No arrow may lead from the desk to the office, nor up from below both.
 /^#/ || NF == 0 { next }
 {
+    sub(/ staticlib:/, ":")
     sub(/:$/, "", $1)
     if (!($1 in half)) stop("the crate " $1 " of crates.txt stands in no half: give it a line here")
     seen[$1] = 1
@@ -59,12 +60,12 @@ FNR == NR {
         if (!($i in half)) stop("the crate " $i ", which " $1 " uses, stands in no half: give it a line here")
         if (half[$1] == "desk" && half[$i] == "office") stop($1 " of the desk uses " $i " of the office")
         if (half[$1] == "below" && half[$i] != "below") stop($1 " is below both halves and uses " $i)
-        if (half[$i] != "kit") arrows = arrows $1 " -> " $i (half[$1] == "above" && half[$i] != "above" ? " [minlen=2]" : "") "\n"
+        arrows = arrows $1 " -> " $i (half[$1] == "above" && half[$i] != "above" ? " [minlen=2]" : "") "\n"
     }
 }
 END {
     if (stopped) exit 1
-    for (i = 1; i <= listed; i++) if (half[name[i]] != "kit" && !(name[i] in seen)) stop("no crate " name[i] " in crates.txt: take its line out here")
+    for (i = 1; i <= listed; i++) if (!(name[i] in seen)) stop("no crate " name[i] " in crates.txt: take its line out here")
     # The crates of the office stand under each other, but for steps and strength.
     for (crate in seen) if (half[crate] == "office" && crate != "steps" && crate != "strength") column[crate] = ", group=office"
     look["paper"] = ", fillcolor=\"#d6d6d6\""

@@ -14,8 +14,7 @@ use procap::procap::Request;
 use text::reader::read_text;
 
 // What the door answers to a procap value, as one number: 12 for bytes that are no value.
-#[unsafe(no_mangle)]
-pub extern "C" fn desk_door_on_value(
+pub fn desk_door_on_value(
     value: &[u8],
     who: u16,
     what: u16,
@@ -33,8 +32,7 @@ pub extern "C" fn desk_door_on_value(
 }
 
 // How many of so many presses in a row go through, all of them with the same procap, at the same moment and in the same state. Its text is read once.
-#[unsafe(no_mangle)]
-pub extern "C" fn desk_presses(
+pub fn desk_presses(
     text: &[u8],
     who: u16,
     what: u16,

@@ -18,8 +18,7 @@ use text::reader::read_text;
 use text::writer::write_text;
 
 // Verifies, and puts the text of the procap at the front of the buffer that is lent for it: 13 where it is shorter. The answer comes as one number.
-#[unsafe(no_mangle)]
-pub extern "C" fn office_verify(
+pub fn office_verify(
     who: u16,
     what: u16,
     right: u16,
@@ -51,8 +50,7 @@ pub extern "C" fn office_verify(
 }
 
 // Checks the proof directly, at a moment in a state. The answer comes as one number.
-#[unsafe(no_mangle)]
-pub extern "C" fn office_direct(
+pub fn office_direct(
     who: u16,
     what: u16,
     right: u16,
@@ -86,8 +84,7 @@ pub extern "C" fn office_direct(
 }
 
 // Puts what the program prints for a case at the front of the buffer: 13 where it is shorter.
-#[unsafe(no_mangle)]
-pub extern "C" fn office_answer_case(input: &[u8], out: &mut [u8]) -> u64
+pub fn office_answer_case(input: &[u8], out: &mut [u8]) -> u64
     ensures answer { result ≡ packed_text (answering input.now (length out.old)) }
     ensures buffer { out.new ≡ buffer_left (answering input.now (length out.old)) out.old }
 {
@@ -97,8 +94,7 @@ pub extern "C" fn office_answer_case(input: &[u8], out: &mut [u8]) -> u64
 }
 
 // Reads a text, and writes the procap that it says again: 12 for bytes that are no text, then 13.
-#[unsafe(no_mangle)]
-pub extern "C" fn office_rewrite(text: &[u8], out: &mut [u8]) -> u64
+pub fn office_rewrite(text: &[u8], out: &mut [u8]) -> u64
     ensures answer { result ≡ packed_text (rewriting text.now (length out.old)) }
     ensures buffer { out.new ≡ buffer_left (rewriting text.now (length out.old)) out.old }
 {
@@ -114,8 +110,7 @@ pub extern "C" fn office_rewrite(text: &[u8], out: &mut [u8]) -> u64
 }
 
 // Writes the text of a value: 12 for bytes that are no value and for a value that cannot be written, then 13.
-#[unsafe(no_mangle)]
-pub extern "C" fn office_write(value: &[u8], out: &mut [u8]) -> u64
+pub fn office_write(value: &[u8], out: &mut [u8]) -> u64
     ensures answer { result ≡ packed_text (value_writing_over value out) }
     ensures buffer { out.new ≡ buffer_left (value_writing_over value out) out.old }
 {
