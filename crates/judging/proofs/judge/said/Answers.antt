@@ -10,14 +10,6 @@ use Rattle.judging.proofs.PartsTaken.{part_on}
 use Rattle.judging.proofs.PlacesTaken.{is_fixed, is_bound, bound_no_name, time_no_name, says_read, SaysRead}
 use Rattle.judging.proofs.judge.said.Goals as goal
 
--- The place and the formula, where both are read.
-read : (c : tie.After-place-at) {F : Formula} → let args = c.before.before.before.before.before.before.before.args in
-    Means args.bytes.now 0 args.judgement.formula F → SaysRead args.bytes.now args.judgement.formula F c.place_at.result
-read c m =
-    let told = c.before.before in
-    let tag = holds_else told.before.is-a.result told.if1.false told.before.is-a.ensures in
-    says_read m c.before.past.ensures.0 tag c.place_at.ensures
-
 pub returns-then-not-is_a : goal.returns-then-not-is_a
 returns-then-not-is_a c =
     let told = c.is_a in
@@ -26,21 +18,22 @@ returns-then-not-is_a c =
 pub returns-in_default : goal.returns-in_default
 returns-in_default c =
     λ F m.
-    let r = read c m in
+    let tag = holds_else c.is_a.result c.if-not-is_a.false-raw c.is_a.ensures in
+    let r = says_read m c.past.ensures.there tag (c.place_at-read.ensures.place, c.place_at-read.ensures.next) in
     unfit (no_name _ r.is (bound_no_name (is_bound r.named c.in_default.is))) c.not_inside-in_default.ensures
 
 pub returns-in_default-term : goal.returns-in_default-term
 returns-in_default-term c =
     λ F m.
-    let term = c.place-1 in
-    let r = read c m in
-    let who = is_fixed r.named term.given.1 ∙ ap fixed c.in_default-term.is in
+    let tag = holds_else c.is_a.result c.if-not-is_a.false-raw c.is_a.ensures in
+    let r = says_read m c.past.ensures.there tag (c.place_at-read.ensures.place, c.place_at-read.ensures.next) in
+    let who = is_fixed r.named c.in-Fixed.is ∙ ap fixed c.in_default-term.is in
     unfit (no_name _ r.is (time_no_name who)) c.not_inside-in_default-term.ensures
 
 pub returns : goal.returns
 returns c =
-    let term = c.place-1 in
     λ F m.
-    let r = read c m in
-    let who = is_fixed r.named term.given.1 ∙ ap fixed c.in-Name.is in
+    let tag = holds_else c.is_a.result c.if-not-is_a.false-raw c.is_a.ensures in
+    let r = says_read m c.past.ensures.there tag (c.place_at-read.ensures.place, c.place_at-read.ensures.next) in
+    let who = is_fixed r.named c.in-Fixed.is ∙ ap fixed c.in-Name.is in
     takes (_, r.said) (says_there _ r.is who) refl (refl, part_on c.args.judgement c.part_at.ensures refl r.means)

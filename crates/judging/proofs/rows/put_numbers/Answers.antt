@@ -1,6 +1,7 @@
 -- The loop has stored the numbers passed, from the place on.
-use Prim.Native.Nat.{◌+◌, ◌-◌, ◌<◌}
+use Prim.Native.Nat.{ℕ, ◌+◌, ◌-◌, ◌<◌}
 use mathlib.Core.Path.{◌≡◌, refl, ap, ◌∙◌}
+use mathlib.Core.List.{List}
 use native.Mathlib.Omega.{arith}
 use lib.ListN.{length, take}
 use lib.Seq.{sets, length-sets, take_all}
@@ -10,15 +11,9 @@ use Rattle.formula.specs.PutIn.{terms_numbers}
 use Rattle.judging.proofs.RowLaws.{sets_more}
 use Rattle.judging.proofs.rows.put_numbers.Goals as goal
 
--- The array has as many numbers as terms take.
-full : (c : tie.Start invariant-loop decreases-loop) → length c.args.t3 ≡ terms_numbers
-full c = search mapped
-
 -- The rows keep their length.
-kept : (c : tie.At-loop invariant-loop decreases-loop) → length c.loop.rows ≡ length c.before.args.rows.now
-kept c =
-    let args = c.before.args in
-    ap length c.loop.invariant ∙ length-sets args.rows.now args.at (take c.loop.i args.t3)
+kept : {rows : List ℕ} (before : List ℕ) (at : ℕ) (numbers : List ℕ) → rows ≡ sets before at numbers → length rows ≡ length before
+kept before at numbers e = ap length e ∙ length-sets before at numbers
 
 pub loop-i-init : goal.loop-i-init
 loop-i-init c = refl
@@ -30,15 +25,17 @@ offset_bounds-rows-at c =
     search rules
 
 pub bounds-rows-at : goal.bounds-rows-at
-bounds-rows-at c = omega (arith, kept c)
+bounds-rows-at c = omega (arith, kept _ _ _ c.loop-i.invariant)
 
 pub loop-i-preserved : goal.loop-i-preserved
 loop-i-preserved c =
-    rw c.loop-i.invariant (sets_more _ c.args.at _ c.loop-i.i (omega (arith, full c)))
+    let full : length c.args.numbers ≡ terms_numbers = search mapped in
+    rw c.loop-i.invariant (sets_more _ c.args.at _ c.loop-i.i (omega (arith, full)))
 
 pub shape_of-rows : goal.shape_of-rows
-shape_of-rows c = kept c
+shape_of-rows c = kept _ _ _ c.loop-i.invariant
 
 pub returns : goal.returns
 returns c =
-    c.loop-i.invariant ∙ ap (λ xs. sets c.args.rows.now c.args.at xs) (take_all c.loop-i.i _ (omega (arith, full c)))
+    let full : length c.args.numbers ≡ terms_numbers = search mapped in
+    c.loop-i.invariant ∙ ap (λ xs. sets c.args.rows.now c.args.at xs) (take_all c.loop-i.i _ (omega (arith, full)))
