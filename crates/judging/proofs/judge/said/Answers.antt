@@ -1,13 +1,12 @@
 -- With its tag "says" has a place and then its formula; where that is not a name, or with another tag, it is a misfit.
 use mathlib.Core.Path.{refl, ◌∙◌, ap}
 use Rattle.procap.proofs.Telling.{holds_else, fails_where}
-use Rattle.bl.specs.Trees.{Formula, fixed}
-use Rattle.formula.specs.Meaning.{Means}
+use Rattle.bl.specs.Trees.{fixed}
 use Rattle.judging.specs.Judging.{takes, unfit}
 use Rattle.formula.proofs.Shapes.{not_says}
 use Rattle.judging.proofs.WalkParts.{no_says, no_name, says_there}
 use Rattle.judging.proofs.PartsTaken.{part_on}
-use Rattle.judging.proofs.PlacesTaken.{is_fixed, is_bound, bound_no_name, time_no_name, says_read, SaysRead}
+use Rattle.judging.proofs.PlacesTaken.{is_fixed, is_bound, bound_no_name, time_no_name, says_read}
 use Rattle.judging.proofs.judge.said.Goals as goal
 
 pub returns-then-not-is_a : goal.returns-then-not-is_a

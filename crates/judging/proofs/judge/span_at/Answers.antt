@@ -3,7 +3,7 @@ use mathlib.Core.Path.{refl, ◌∙◌, ap}
 use Rattle.bl.specs.Trees.{fixed}
 use Rattle.judging.specs.Judging.{takes, unfit}
 use Rattle.judging.proofs.WalkParts.{times_there, no_first_time, no_second_time}
-use Rattle.judging.proofs.PlacesTaken.{is_fixed, is_bound, bound_no_time, name_no_time, PlacesTold, both_placed}
+use Rattle.judging.proofs.PlacesTaken.{is_fixed, is_bound, bound_no_time, name_no_time, both_placed}
 use Rattle.judging.proofs.judge.span_at.Goals as goal
 
 pub returns-in_default : goal.returns-in_default

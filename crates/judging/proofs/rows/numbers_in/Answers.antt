@@ -1,5 +1,4 @@
 -- The loop has copied the numbers passed, so at its end the array is those of the rows.
-use Prim.Native.Nat.{◌-◌}
 use mathlib.Core.Path.{refl}
 use native.Mathlib.Omega.{arith}
 use Rattle.judging.proofs.RowLaws.{none_copied, one_copied, all_copied}

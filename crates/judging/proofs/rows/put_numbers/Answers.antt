@@ -1,5 +1,5 @@
 -- The loop has stored the numbers passed, from the place on.
-use Prim.Native.Nat.{ℕ, ◌+◌, ◌-◌, ◌<◌}
+use Prim.Native.Nat.{ℕ, ◌+◌, ◌<◌}
 use mathlib.Core.Path.{◌≡◌, refl, ap, ◌∙◌}
 use mathlib.Core.List.{List}
 use native.Mathlib.Omega.{arith}
@@ -25,7 +25,7 @@ offset_bounds-rows-at c =
     search rules
 
 pub bounds-rows-at : goal.bounds-rows-at
-bounds-rows-at c = omega (arith, kept _ _ _ c.loop-i.invariant)
+bounds-rows-at c = omega (arith, kept c.args.rows.now c.args.at (take c.loop-i.i c.args.numbers) c.loop-i.invariant)
 
 pub loop-i-preserved : goal.loop-i-preserved
 loop-i-preserved c =
@@ -33,7 +33,7 @@ loop-i-preserved c =
     rw c.loop-i.invariant (sets_more _ c.args.at _ c.loop-i.i (omega (arith, full)))
 
 pub shape_of-rows : goal.shape_of-rows
-shape_of-rows c = kept _ _ _ c.loop-i.invariant
+shape_of-rows c = kept c.args.rows.now c.args.at (take c.loop-i.i c.args.numbers) c.loop-i.invariant
 
 pub returns : goal.returns
 returns c =
