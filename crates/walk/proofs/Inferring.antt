@@ -14,7 +14,6 @@ use Rattle.bl.specs.Tags.{infer_tag}
 use Rattle.bl.specs.Policy.{Policy}
 use Rattle.bl.specs.Rules.{Assumption, View}
 use Rattle.bl.specs.Steps.{infer_step}
-use Rattle.bl.specs.Walk as walk
 use Rattle.bl.specs.Walk.{infer, check}
 use Rattle.steps.specs.Ends.{slot, Told}
 use Rattle.ledger.specs.declared.Stop.TheVariants.{Going}

@@ -11,7 +11,7 @@ use lib.Dec.{ltb}
 use Rattle.procap.specs.Tells.{pick}
 use lib.ListN.{length}
 use Rattle.bl.specs.Policy.{Policy}
-use Rattle.bl.specs.Rules.{Assumption, shut, shut_out}
+use Rattle.bl.specs.Rules.{Assumption, shut_out}
 use Rattle.ledger.specs.declared.Ledger.{Ledger}
 use Rattle.formula.specs.declared.parts.Judgement.{Judgement}
 use Rattle.judging.specs.declared.rows.Row.{Row}

@@ -1,6 +1,6 @@
 -- The promise of each call of the walk, over what it is lent.
 use Rattle.std.specs.Prelude.{◌-◌, ◌≡◌, get_or}
-use Rattle.procap.specs.Lent.{Lent}
+use Rattle.procap.specs.Lent.{Lent, LentToWrite}
 use Rattle.bl.specs.declared.InferTag.{InferTag}
 use Rattle.bl.specs.declared.CheckTag.{CheckTag}
 use Rattle.bl.specs.declared.CheckTag.TheVariants.{PairTag, AtInTag, AtOutTag, SaysInTag, SaysOutTag, OrLeftTag, OrRightTag, OrOutTag, FalsityOutTag}
@@ -42,7 +42,7 @@ pub data Leaves : CheckTag → Cases → Type 0 where
   leaves_both : Leaves OrOutTag BothSides
   leaves_none : Leaves FalsityOutTag NoCase
 
-module _ (S : Sources) (facts assumptions : Lent) where
+module _ (S : Sources) (facts assumptions : LentToWrite) where
   -- A step that infers, of at most so many levels, by the tag that stands at its place.
   abbrev pub Infers : InferTag → Here → Inferred → Type 0
   Infers tag here r =
@@ -76,5 +76,5 @@ module _ (S : Sources) (facts assumptions : Lent) where
     ChecksCases cases = (tag : CheckTag) → Leaves tag cases → ChecksTagged tag
 
 -- The rows of the assumptions that stand around are kept.
-abbrev pub KeepsRows : Here → Lent → Type 0
+abbrev pub KeepsRows : Here → LentToWrite → Type 0
 KeepsRows here assumptions = Keeps here.scope.count assumptions.entry.now assumptions.exit.now
