@@ -7,7 +7,6 @@ use native.Mathlib.Omega.{arith}
 use Rattle.procap.specs.Outcome.{granted}
 use Rattle.bl.proofs.Called.{pairs_from}
 use Rattle.bl.specs.Strength.{Pair, pairs_in}
-use Rattle.bl.specs.Policy.{Policy}
 use Rattle.strength.specs.Strengths.{strength_numbers, StrengthsOf}
 use Rattle.strength.specs.Finding.{FindsStrengths}
 use Rattle.strength.proofs.StrengthLaws.{no_strengths, found_strengths}

@@ -25,7 +25,7 @@ use Rattle.bl.specs.Formulas.{most_formula_levels, formula_in}
 use Rattle.bl.specs.Certificates.{Statement, most_certificates, most_part_bytes, fixed_time, part_of, formula_of, statement_by, statement_of, and_then, statements_from, statements}
 use Rattle.ledger.specs.declared.Stop.{Stop}
 use Rattle.ledger.specs.declared.Stop.TheVariants.{Going, Stopped}
-use Rattle.formula.specs.PutIn.{terms_numbers, terms_of, stack}
+use Rattle.formula.specs.PutIn.{terms_of, stack}
 use Rattle.judging.specs.RowsOf.{row_in, Certifies, Certified}
 use Rattle.verifier.specs.Verifying.{no_record, row_of, WellFormedRecord, TakenTo, SoFar, Taken}
 use Rattle.formula.proofs.Filling.{fill_nothing}
@@ -150,6 +150,13 @@ module _ (buffer : List ℕ) where
     as_many : length ss ≡ length cs
     stated : (k : ℕ) (s : Statement) → nth ss k ≡ some s → (k < length cs) × (statement_of buffer (get_or cs k no_record) ≡ some s)
 
+  -- With one more in front the first statement is its own, and the others are those of the others.
+  stated_more : (c : Certificate) (cs : List Certificate) (s : Statement) (others : List Statement) → statement_of buffer c ≡ some s → Each cs others
+      → (k : ℕ) (t : Statement) → nth (s ∷ others) k ≡ some t → (k < length (c ∷ cs)) × (statement_of buffer (get_or (c ∷ cs) k no_record) ≡ some t)
+  unfolding nth
+  stated_more c cs s others e rest zero t h = (omega arith, e ∙ h)
+  stated_more c cs s others e rest (suc k) t h = let r = rest.stated k t h in (omega arith, r.1)
+
   each_granted : (i : ℕ) (cs : List Certificate) (ss : List Statement) → statements_from buffer i cs ≡ granted ss → Each cs ss
   unfolding statements_from nth
   each_granted i [] ss e = rw (← same_grant e) (record { as_many = refl; stated = λ k s h. absurd (none-ne-some s h) })
@@ -159,7 +166,7 @@ module _ (buffer : List ℕ) where
       rw f
       (record {
         as_many = ap suc rest.as_many;
-        stated = λ k. elim k [ zero ↦ λ t h. (omega arith, e₁ ∙ h) | suc k ↦ λ t h. (let r = rest.stated k t h in (omega arith, r.1)) ];
+        stated = stated_more c cs s others e₁ rest;
       })
 
 -- ── The records that are lent ──

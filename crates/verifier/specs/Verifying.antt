@@ -3,7 +3,7 @@ use Rattle.std.specs.Prelude.{ℕ, ◌+◌, ◌≤◌, ◌<◌, ◌≡◌, List,
 use Rattle.std.proofs.Math.Option.{some}
 use Rattle.std.specs.Borrow.{Bor}
 use denote.Triple.Both.{Both}
-use Rattle.procap.specs.Lent.{Lent}
+use Rattle.procap.specs.Lent.{Lent, LentToWrite}
 use Rattle.procap.specs.Desk.{read_press}
 use Rattle.procap.specs.Numbered.{time_numbers}
 use Rattle.procap.specs.Outcome.{Outcome, granted, refused, go_on, answer_of, procap_handed}
@@ -70,11 +70,11 @@ Walked asked IsPolicy proof state ends list l list' =
     → Sound (book l list') × (resume state (book l list') (done (tt {0})) ≡ resume state (book (begun asked.reading) list) (walk asked.request π N))
 
 -- The same of what is lent, where r is the ledger at the end: over pairs, and over the strengths that were found.
-abbrev pub WalkedOver : Asked → Lent → Lent → Lent → Lent → Lent → Lent → Lent → Ledger → Type 0
+abbrev pub WalkedOver : Asked → Lent → Lent → Lent → Lent → Lent → Lent → LentToWrite → Ledger → Type 0
 WalkedOver asked buffer pairs proof state rows ends facts r =
     Walked asked (PolicyRead buffer.entry.now rows.entry.now pairs.entry.now) proof.entry.now state.entry.now ends.entry.now facts.entry.now r facts.exit.now
 
-abbrev pub WalkedBy : Asked → Lent → Lent → Lent → Lent → Lent → Lent → Lent → Ledger → Type 0
+abbrev pub WalkedBy : Asked → Lent → Lent → Lent → Lent → Lent → Lent → LentToWrite → Ledger → Type 0
 WalkedBy asked buffer proof state rows strengths ends facts r =
     Walked asked (PolicyLent buffer.entry.now rows.entry.now strengths.entry.now) proof.entry.now state.entry.now ends.entry.now facts.entry.now r facts.exit.now
 
@@ -94,7 +94,7 @@ OnceRead rows ends buffer pairs proof P =
     (π : Policy) (N : Check) → CaseReads (PolicyRead buffer.entry.now rows.entry.now pairs.entry.now) ends.entry.now proof.entry.now π N → P π N
 
 -- Where nothing stopped, the table has where the second part of each 26 ends.
-abbrev pub ToldUnlessStopped : Lent → ℕ → Lent → Stop → Type 0
+abbrev pub ToldUnlessStopped : Lent → ℕ → LentToWrite → Stop → Type 0
 ToldUnlessStopped proof n ends r = r ≡ Going → EndsTold proof n ends
 
 -- Where `stop` is what so many records come to, r is what they, the pairs and the proof come to.

@@ -1,0 +1,35 @@
+-- A moment above the latest and a malformed state are refused first; else the stop of the walk is the answer.
+use Rattle.verifier.proofs.Answers.{check_stopped, check_accepted, moment_above, state_says_nothing}
+use Rattle.procap.proofs.Telling.{holds_else, fails_where}
+use mathlib.Core.Path.{refl, sym, ◌∙◌}
+use lib.ListN.{replicate}
+use Rattle.state.specs.Standing.{WellFormed}
+use Rattle.verifier.proofs.verify.check_case.Goals as goal
+
+pub returns-then-moment-gt-LATEST_SECOND : goal.returns-then-moment-gt-LATEST_SECOND
+returns-then-moment-gt-LATEST_SECOND c = λ π N reads. moment_above _ π N _ _ c.if-moment-gt-LATEST_SECOND.true
+
+pub returns-then-not-well_formed : goal.returns-then-not-well_formed
+returns-then-not-well_formed c =
+    let told = c.well_formed-2 in
+    let state = c.args.state.now in
+    λ π N reads.
+    state_says_nothing _ π N _ _ c.if-moment-gt-LATEST_SECOND.false (fails_where told.result {P = WellFormed state} c.if-not-well_formed.true-raw told.ensures)
+
+pub returns-in-Stopped : goal.returns-in-Stopped
+returns-in-Stopped c =
+    let told = c.well_formed-2 in
+    let state = c.args.state.now in
+    let says : WellFormed state = holds_else told.result c.if-not-well_formed.false-raw told.ensures in
+    λ π N reads.
+    check_stopped _ _ _ _ _ (replicate 160 0) _ _ refl c.walked-ledger.ensures π N reads _ refl c.if-moment-gt-LATEST_SECOND.false
+    says.0 says.1 _ (sym c.stop-stop.ensures ∙ c.in-Stopped.is)
+
+pub returns-in-Going : goal.returns-in-Going
+returns-in-Going c =
+    let told = c.well_formed-2 in
+    let state = c.args.state.now in
+    let says : WellFormed state = holds_else told.result c.if-not-well_formed.false-raw told.ensures in
+    λ π N reads.
+    check_accepted _ _ _ _ _ (replicate 160 0) _ _ refl c.walked-ledger.ensures π N reads _ refl c.if-moment-gt-LATEST_SECOND.false
+    says.0 says.1 (sym c.stop-stop.ensures ∙ c.in-Going.is)

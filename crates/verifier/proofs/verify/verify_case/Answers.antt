@@ -1,0 +1,17 @@
+-- Where the walk has stopped its answer refuses; else what its ledger keeps is issued.
+use Rattle.verifier.proofs.Answers.{verify_stopped, verify_issued}
+use mathlib.Core.Path.{refl, sym, ◌∙◌}
+use lib.ListN.{replicate}
+use Rattle.verifier.proofs.verify.verify_case.Goals as goal
+
+pub returns-in-Stopped : goal.returns-in-Stopped
+returns-in-Stopped c =
+    λ π N reads.
+    verify_stopped _ _ _ _ _ (replicate 160 0) _ _ refl c.walked-ledger.ensures π N reads refl _ _
+    (sym c.stop-stop.ensures ∙ c.in-Stopped.is) c.refused.ensures
+
+pub returns-in-Going : goal.returns-in-Going
+returns-in-Going c =
+    λ π N reads.
+    verify_issued _ _ _ _ _ (replicate 160 0) _ _ refl c.walked-ledger.ensures π N reads refl _
+    (sym c.stop-stop.ensures ∙ c.in-Going.is) c.issued.ensures

@@ -1,0 +1,18 @@
+-- What is malformed refuses with its answer; a case that reads is walked, with the table of ends.
+use native.Mathlib.Omega.{arith}
+use Rattle.verifier.proofs.Answers.{stopped_with, went_with, verify_stops, verify_goes_on}
+use Rattle.verifier.proofs.verify.verify_taken.Goals as goal
+
+pub returns-in-Stopped : goal.returns-in-Stopped
+returns-in-Stopped c =
+    let tested = c.malformed.ensures in
+    λ records many taken.
+    verify_stops _ records _ _ _ taken _ _ (stopped_with _ _ _ c.in-Stopped.is (tested.stops records _ many taken.stops)) c.refused.ensures
+
+pub returns-in-Going : goal.returns-in-Going
+returns-in-Going c =
+    let going = c.in-Going.is in
+    let tested = c.malformed.ensures in
+    λ records many taken.
+    let case = went_with _ _ going (tested.stops records _ many taken.stops) in
+    verify_goes_on _ records _ _ _ taken _ (λ N reads. tested.told going N (omega arith) (rw many at reads)) case.0 case.1 c.verify_case.ensures
