@@ -1,5 +1,5 @@
 -- How what the code reads of a case stands to the readers of these pages. What is promised of answering a case does not rest on this.
-use Rattle.std.specs.Prelude.{ℕ, ◌+◌, ◌-◌, ◌*◌, ◌%◌, ◌≤◌, ◌<◌, Bool, true, false, ◌≡◌, List, [], ◌∷◌, ◌++◌, length, take, drop}
+use Rattle.std.specs.Prelude.{ℕ, ◌+◌, ◌-◌, ◌*◌, ◌≤◌, ◌<◌, Bool, true, false, ◌≡◌, List, [], ◌∷◌, ◌++◌, length, take, drop}
 use Rattle.std.proofs.Math.Option.{Option, some, none}
 use Rattle.procap.specs.Outcome.{Outcome, granted}
 use Rattle.procap.specs.declared.time.Time.{Time}

@@ -1,6 +1,6 @@
 -- What can be printed of what verify answers. What is promised of answering a case does not rest on this.
 use Rattle.std.specs.Prelude.{◌<◌, length}
-use Rattle.procap.specs.Lent.{Lent}
+use Rattle.procap.specs.Lent.{LentToWrite}
 use Rattle.procap.specs.Answers.{number_of}
 use Rattle.procap.specs.Writable.{Writable}
 use Rattle.procap.specs.Outcome.{Outcome, granted, refused}
@@ -17,7 +17,7 @@ Printable (granted p) = Writable p
 Printable (refused answer) = 0 < number_of answer
 
 -- The call writes what is printed for what verify hands over.
-abbrev pub Prints : Verified → Lent → WrittenText → Type 0
+abbrev pub Prints : Verified → LentToWrite → WrittenText → Type 0
 Prints v out r =
     (o : Outcome Procap) → HandsOver o v → Printable o
     → Wrote (fitting (printed_of o) (length out.entry.now)) out.entry.now r out.exit.now
