@@ -1,6 +1,6 @@
 -- What the calls for C come to, in the words of the calls that they pass on.
 use Rattle.std.specs.Prelude.{ℕ, List, length}
-use Rattle.procap.specs.Lent.{Lent}
+use Rattle.procap.specs.Lent.{Lent, LentToWrite}
 use Rattle.procap.specs.Procaps.{request_of}
 use Rattle.procap.specs.Outcome.{Outcome, granted, refused, go_on}
 use Rattle.procap.specs.declared.procap.Request.{Request}
@@ -16,7 +16,7 @@ unfoldable pub verifying : Request → List ℕ → List ℕ → List ℕ → Li
 verifying r records buffer pairs proof room = go_on (verified r (records_in records) buffer (pair_numbers pairs) proof) λ p. writing p room
 
 -- The same for the request of three numbers, over what is lent; and the direct check.
-abbrev pub verifying_over : ℕ → ℕ → ℕ → Lent → Lent → Lent → Lent → Lent → Outcome (List ℕ)
+abbrev pub verifying_over : ℕ → ℕ → ℕ → Lent → Lent → Lent → Lent → LentToWrite → Outcome (List ℕ)
 verifying_over who what right records buffer pairs proof out =
     verifying (request_of who what right) records.entry.now buffer.entry.now pairs.entry.now proof.entry.now (length out.entry.now)
 
@@ -33,7 +33,7 @@ unfoldable pub value_writing : List ℕ → ℕ → Outcome (List ℕ)
 value_writing value room = go_on (value_in value) λ p. writing p room
 
 -- The same over what is lent.
-abbrev pub value_writing_over : Lent → Lent → Outcome (List ℕ)
+abbrev pub value_writing_over : Lent → LentToWrite → Outcome (List ℕ)
 value_writing_over value out = value_writing value.entry.now (length out.entry.now)
 
 -- The door on a value.

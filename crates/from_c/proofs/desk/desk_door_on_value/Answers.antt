@@ -2,7 +2,6 @@
 use Prim.Native.Nat.{ℕ}
 use mathlib.Core.Path.{◌≡◌, sym, ap, ◌∙◌}
 use mathlib.Core.List.{List}
-use borrow.Author.Rules.{rules}
 use lib.ListN.{length}
 use Rattle.procap.specs.Outcome.{answer_of}
 use Rattle.procap.specs.declared.answer.Answer.{Answer}
@@ -14,8 +13,7 @@ use Rattle.from_c.specs.Values.{value_bytes, value_of}
 use Rattle.from_c.specs.Packing.{packed}
 use Rattle.from_c.specs.Calls.{value_opening}
 use Rattle.from_c.proofs.ValuesRead.{value_goes_on, value_refused}
-use Rattle.from_c.proofs.desk.desk_door_on_value.Statement.{statement}
-use Rattle.from_c.proofs.desk.desk_door_on_value.Tie as tie
+use Rattle.from_c.proofs.desk.desk_door_on_value.Goals as goal
 
 module _ (bytes : List ℕ) where
   -- To bytes of another length the door answers 12.
@@ -31,41 +29,11 @@ module _ (bytes : List ℕ) where
   value-opens l p e r m state answer given =
       given ∙ ap (λ q. answer_of (opening q r m state)) e ∙ ap answer_of (sym (value_goes_on bytes (λ q. opening q r m state) l))
 
-as-number-requires : tie.Need-as-number-requires
-as-number-requires c κs = search rules
+pub returns-then-value-ne-VALUE_BYTES : goal.returns-then-value-ne-VALUE_BYTES
+returns-then-value-ne-VALUE_BYTES c = c.as_number.ensures ∙ ap (λ a. packed a 0) (no-value-opens _ c.if-value-ne-VALUE_BYTES.true _ _ _)
 
-returns : tie.Need-returns
-returns c = c.as_number.ensures ∙ ap (λ a. packed a 0) (no-value-opens _ c.before.if1.true _ _ _)
-
-of-requires : tie.Need-of-requires
-of-requires c κs = search rules
-
-value-of-requires : tie.Need-value-of-requires
-value-of-requires c κs = search rules
-
-open-requires : tie.Need-open-requires
-open-requires c κs = search rules
-
-as-number-requires-2 : tie.Need-as-number-requires-2
-as-number-requires-2 c κs = search rules
-
-returns-2 : tie.Need-returns-2
-returns-2 c =
-    let asked = c.before in
-    let value = asked.before in
-    let request = value.before in
-    let opened = rw request.of.ensures at asked.open.ensures in
-    let answered = value-opens _ request.before.if1.false _ value.value_of.ensures _ _ _ _ opened in
-    c.as-number2.ensures ∙ ap (λ a. packed a 0) answered
-
-pub desk-door-on-value-spec : {M : Type 1} → statement M
-desk-door-on-value-spec =
-    tie.close
-    (tie.spec
-    as-number-requires
-    returns
-    of-requires
-    value-of-requires
-    open-requires
-    as-number-requires-2
-    returns-2)
+pub returns : goal.returns
+returns c =
+    let opened = rw c.of-request.ensures at c.open.ensures in
+    let answered = value-opens _ c.if-value-ne-VALUE_BYTES.false _ c.value_of.ensures _ _ _ _ opened in
+    c.as_number-2.ensures ∙ ap (λ a. packed a 0) answered
