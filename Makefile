@@ -37,7 +37,7 @@ FUZZ_SECONDS ?= 60
 # The program `check`: every crate below it is proved, then it is compiled, run on case P, and put at bin/check.
 program: kit
 	@mkdir -p bin
-	@[ -f crates/check_case/out/check_case ] || echo "proving and building bin/check: from nothing this takes some ten minutes" >&2
+	@[ -f crates/check_case/out/check_case ] || echo "proving and building bin/check: from nothing this takes many minutes" >&2
 	@(cd crates/check_case && rt run < stdin) 2> bin/check.log > bin/printed || { cat bin/check.log >&2; exit 1; }
 	@cmp bin/printed crates/check_case/stdout
 	@cp crates/check_case/out/check_case bin/check

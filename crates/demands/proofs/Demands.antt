@@ -42,12 +42,12 @@ use Rattle.demands.proofs.Printed.{printed_opens_exactly}
 
 -- ── Demand 1 ──
 
--- Demand 1. Whatever a blender, a stick or a search tool hands in, every call has an answer to it, and the answer one of fourteen numbers:
--- 0 to 5 and 7 to 14.
+-- Demand 1. Whatever a blender, a stick or a search tool hands in, every call has an answer to it, and the answer one of fifteen numbers:
+-- 0 to 5, 7 to 14 and 21.
 pub every_answer_has_a_number : (answer : Answer) → In (number_of answer) numbers
 every_answer_has_a_number answer = number_is_listed answer
 
--- Demand 1. Each of the fourteen is the number of an answer; so no page has to explain 6, which is none.
+-- Demand 1. Each of the fifteen is the number of an answer; so no page has to explain 6, which is none.
 pub every_number_has_an_answer : (n : ℕ) → In n numbers → (answer : Answer) × (number_of answer ≡ n)
 every_number_has_an_answer n listed = listed_is_a_number n listed
 
