@@ -1,4 +1,5 @@
 -- The loop has read and stored the terms passed. A term that is missing leaves no fact; with none missing the terms make one.
+use borrow.Author.Rules.{rules}
 use mathlib.Core.Path.{refl, ap}
 use Rattle.procap.specs.Lists.{pad}
 use Rattle.procap.specs.Reading.{with_predicate}
@@ -15,7 +16,7 @@ pub returns-in_default : goal.returns-in_default
 returns-in_default c =
     let told = c.settled_term_at in
     let missing = term_told _ c.in_default.is told.ensures in
-    no_fact_told _ _ c.none.ensures
+    no_fact_told _ _ (search rules)
     (ap (with_predicate _)
     (none_of_rest c.loop-i.invariant c.loop-i-test.true missing))
 

@@ -1,9 +1,10 @@
 -- The request of three numbers is the given one when each of the three is.
 use mathlib.Core.Path.{ap, sym}
+use native.Mathlib.Omega.{arith}
 use Rattle.door.proofs.decide.asks_for.Goals as goal
 
 pub returns-then-request-who : goal.returns-then-request-who
-returns-then-request-who c = λ e. c.if-request-who.true (sym (ap (λ r. r.who) e))
+returns-then-request-who c = λ e. omega (arith, ap (λ r. r.who) e)
 
 pub returns-then-request-what : goal.returns-then-request-what
 returns-then-request-what c = λ e. c.if-request-what.true (sym (ap (λ r. r.what) e))

@@ -13,7 +13,7 @@ use Rattle.formula.proofs.ends.+body_end_formula_end_next_formula_end_sides_end.
 pub body_end-returns-then-binders-ge-MOST_BINDERS : goal.body_end-returns-then-binders-ge-MOST_BINDERS
 body_end-returns-then-binders-ge-MOST_BINDERS t c =
     let binders = c.args.binders in
-    ninth_binder _ _ _ _ _ (rw (sorts_length binders) c.if-binders-ge-MOST_BINDERS.true)
+    ninth_binder _ _ _ _ _ (rw (sorts_length binders) (omega arith))
 
 pub body_end-formula_end-requires : goal.body_end-formula_end-requires
 body_end-formula_end-requires t c = (omega arith, c.one_more.ensures.few)
@@ -21,7 +21,7 @@ body_end-formula_end-requires t c = (omega arith, c.one_more.ensures.few)
 pub body_end-returns : goal.body_end-returns
 body_end-returns t c =
     let binders = c.args.binders in
-    body_ends _ _ _ _ _ c.formula_end.result (rw (sorts_length binders) c.if-binders-ge-MOST_BINDERS.false)
+    body_ends _ _ _ _ _ c.formula_end.result (rw (sorts_length binders) (omega arith))
     (rw c.one_more.ensures.sorts at c.formula_end.ensures)
 
 pub formula_end-returns-then-left-eq0 : goal.formula_end-returns-then-left-eq0

@@ -7,10 +7,10 @@ use Rattle.judging.proofs.RowLaws.{row_put, not_all_there, no_such_row, put_ther
 use Rattle.judging.proofs.rows.put_row.Goals as goal
 
 pub returns-then-rows-ne-ALL_NUMBERS : goal.returns-then-rows-ne-ALL_NUMBERS
-returns-then-rows-ne-ALL_NUMBERS c = not_all_there _ _ _ (λ all. omega (arith, all, c.if-rows-ne-ALL_NUMBERS.true))
+returns-then-rows-ne-ALL_NUMBERS c = not_all_there _ _ _ (λ all. grind arith)
 
 pub returns-then-index-ge-MOST_ROWS : goal.returns-then-index-ge-MOST_ROWS
-returns-then-index-ge-MOST_ROWS c = no_such_row _ _ _ (omega (arith, c.if-rows-ne-ALL_NUMBERS.false)) (omega (arith, c.if-index-ge-MOST_ROWS.true))
+returns-then-index-ge-MOST_ROWS c = no_such_row _ _ _ (omega arith) (omega arith)
 
 pub returns : goal.returns
 returns c =
@@ -20,4 +20,4 @@ returns c =
     row_put rows (index * row_numbers) row
     c.kind.ensures c.value.ensures c.put_two.ensures
     c.put_two-2.ensures c.put_two-3.ensures c.put_two-4.ensures c.put_numbers.ensures
-    ∙ sym (put_there rows index row (omega (arith, c.if-rows-ne-ALL_NUMBERS.false)) (omega (arith, c.if-index-ge-MOST_ROWS.false)))
+    ∙ sym (put_there rows index row (omega arith) (omega arith))

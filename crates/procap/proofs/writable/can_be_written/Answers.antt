@@ -3,14 +3,8 @@ use Rattle.procap.proofs.Telling.{holds_else, fails_where, tells_by}
 use native.Mathlib.Omega.{arith}
 use Rattle.procap.proofs.writable.can_be_written.Goals as goal
 
-pub returns-then-procap-ne-VERSION : goal.returns-then-procap-ne-VERSION
-returns-then-procap-ne-VERSION c = λ w. c.if-procap-ne-VERSION.true w.version_known
-
 pub returns-then-not-request_in_form : goal.returns-then-not-request_in_form
 returns-then-not-request_in_form c = λ w. fails_where c.request_in_form.result c.if-not-request_in_form.true-raw c.request_in_form.ensures w.request_in_form
-
-pub returns-then-procap : goal.returns-then-procap
-returns-then-procap c = λ w. omega (arith, c.if-procap.true, w.in_order)
 
 pub returns-then-procap-gt-LATEST_SECOND : goal.returns-then-procap-gt-LATEST_SECOND
 returns-then-procap-gt-LATEST_SECOND c = λ w. omega (arith, c.if-procap-gt-LATEST_SECOND.true, w.to_in_range)
@@ -36,9 +30,9 @@ returns c =
     c.facts_and_zeros.result
     (λ f.
     record {
-      version_known = c.if-procap-ne-VERSION.false;
+      version_known = omega arith;
       request_in_form = holds_else request.result c.if-not-request_in_form.false-raw request.ensures;
-      in_order = c.if-procap.false;
+      in_order = omega arith;
       to_in_range = c.if-procap-gt-LATEST_SECOND.false;
       few_facts = few;
       facts_in_form = f.0;

@@ -45,11 +45,11 @@ returns-then-not-lines c =
 pub returns-then-lines-text : goal.returns-then-lines-text
 returns-then-lines-text c =
     none_seen _ _ _ c.nothing_seen-then-lines-text.ensures
-    (bytes_left _ _ _ _ _ _ _ (number_told _ c.in-Number.is c.line.ensures.reads) _ _ (lines_found _ _ _ c.lines_at-lines.result c.if-not-lines.false c.lines_at-lines.ensures).1 c.if-lines-text.true)
+    (bytes_left _ _ _ _ _ _ _ (number_told _ c.in-Number.is c.line.ensures.reads) _ _ (lines_found _ _ _ c.lines_at-lines.result c.if-not-lines.false c.lines_at-lines.ensures).1 (λ e. omega arith))
 
 pub returns : goal.returns
 returns c =
     let found = lines_found _ _ _ c.lines_at-lines.result c.if-not-lines.false c.lines_at-lines.ensures in
     some_seen _ _ _ _ _ _ _ found.0
-    (procap_whole _ _ _ _ _ _ _ (number_told _ c.in-Number.is c.line.ensures.reads) _ _ found.1 found.2 c.if-lines-text.false)
-    found.3 (to_the_last _ _ _ found.0 _ found.1 c.if-lines-text.false _ found.4)
+    (procap_whole _ _ _ _ _ _ _ (number_told _ c.in-Number.is c.line.ensures.reads) _ _ found.1 found.2 (omega arith))
+    found.3 (to_the_last _ _ _ found.0 _ found.1 (omega arith) _ found.4)

@@ -12,9 +12,6 @@ pub returns-then-self-back : goal.returns-then-self-back
 unfolding place_of
 returns-then-self-back c few = not_put _ _ _ c.if-variable-under.false c.if-self-back.true
 
-pub returns-then-index-ge-MOST_BINDERS : goal.returns-then-index-ge-MOST_BINDERS
-returns-then-index-ge-MOST_BINDERS c few = absurd (omega (arith, few.few, c.if-index-ge-MOST_BINDERS.true))
-
 pub returns : goal.returns
 unfolding place_of slot
 returns c few = is_put _ _ _ (omega arith) _ (omega arith) c.of_number.ensures
