@@ -1,5 +1,5 @@
 # The commands of the project. `make` builds the program bin/check; `make test` is the one test command.
-.PHONY: program run press kept test proofs layout test-pages pictures test-pictures kit door archives test-check test-c test-c-linked test-c-memory test-stack test-rust soak fuzz bench bench-instructions
+.PHONY: program run press kept test proofs layout test-pages test-exports pictures test-pictures kit door archives test-check test-c test-c-linked test-c-memory test-stack test-rust soak fuzz bench bench-instructions
 SHELL := /bin/bash
 .SHELLFLAGS := -euo pipefail -c
 
@@ -62,9 +62,9 @@ kept: bin/kept
 bin/kept: $(SHIPPED)/libkept.a tests/c/kept.c tests/c/case_bytes.c tests/c/calls.h
 	@$(call linked,,kept,tests/c/kept.c tests/c/case_bytes.c $(SHIPPED)/libkept.a)
 
-# Everything that a landing must pass: the pages and pictures, every proof and the layout of the files, then the tests that run. The last line is the count
+# Everything that a landing must pass: the pages, the exports and the pictures, every proof and the layout of the files, then the tests that run. The last line is the count
 # that decides.
-test: test-pages test-pictures proofs
+test: test-pages test-exports test-pictures proofs
 	@$(MAKE) --no-print-directory test-check
 	@$(MAKE) --no-print-directory test-stack
 	@$(MAKE) --no-print-directory test-c
@@ -86,6 +86,10 @@ layout: kit
 # What the pages and the comments name is there.
 test-pages:
 	@tests/pages.sh
+
+# What C calls promises what the library promises.
+test-exports:
+	@tests/exports.sh
 
 # The pictures of docs/pictures, drawn anew from their sources by graphviz, which nothing else needs.
 pictures:

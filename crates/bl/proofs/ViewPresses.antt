@@ -46,7 +46,7 @@ presses =
     -- By a rule for all time it shows it in March: both comparisons are with ctime, and narrow the procap.
     record { records = lab; proof = 0x2a ∷ 0x26 ∷ 0x21 ∷ 0x01 ∷ 0x28 ∷ 0x21 ∷ 0x00 ∷ 0x04 ∷ 0x04 ∷ []; number = 0; place = 0; procap = procap_of request_P 1000 2000 [] }
     ∷
-    -- An inner says_in on [1200,1800] sets the view to that; the 28 inside of it leaves it so.
+    -- An inner says-in on [1200,1800] sets the view to that; the 28 inside of it leaves it so.
     record { records = lab; proof = 0x2a ∷ 0x26 ∷ 0x21 ∷ 0x03 ∷ 0x2a ∷ 0x28 ∷ 0x21 ∷ 0x00 ∷ 0x01 ∷ 0x00 ∷ 0x00 ∷ 0x00 ∷ 0x04 ∷ 0xb0 ∷ 0x01 ∷ 0x00 ∷ 0x00 ∷ 0x00 ∷ 0x07 ∷ 0x08 ∷ []; number = 0; place = 0; procap = procap_of request_P 1200 1800 [] }
     ∷
     -- On [500,1500] the view starts before the certificate does, though the goal of the 28 does not.

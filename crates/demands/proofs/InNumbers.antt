@@ -159,7 +159,7 @@ module _ (r : Request) (records buffer pairs proof : List ℕ) where
         issued_for r records buffer pairs proof (length before) text grant λ p issued writes.
         k p issued text writes (text_in_front _ before number after gives text grant (written_is_short p (length before) text writes))
 
-    -- The issuing half: verify's number is 0 exactly when the direct check's is 0 at some moment in range in some well_formed state.
+    -- The issuing half: verify's number is 0 exactly when the direct check's is 0 at some moment in range in some well-formed state.
     pub issued_with_0_exactly_where_some_press_has_0 : (number_in number ≡ 0) ↔ ZeroSomewhere r records buffer pairs proof
     unfolding verifying
     issued_with_0_exactly_where_some_press_has_0 =

@@ -1,5 +1,6 @@
 -- The contract of each public call, as the prover has it, is held to the words of `Gives`: the two are equal by computation, so that a
--- contract that says less or more, or that asks something of its caller, is refused here.
+-- contract that says less or more, or that asks something of its caller, is refused here. The exports for C repeat these contracts, word for
+-- word: tests/exports.sh holds them to it.
 use mathlib.Core.Path.{◌≡◌, refl}
 use mathlib.Core.Logic.{◌↔◌}
 use seplogic.Ra.Ura.{Ura}

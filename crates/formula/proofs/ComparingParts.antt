@@ -32,7 +32,7 @@ headed bytes d f m x = record {
   places = record { few = m.few; sorts = m.sorts; written = x.written; reads = x.places_read; filled = x.filled };
 }
 
--- A for_all and another of its sort.
+-- A for-all and another of its sort.
 same_binder : (q : ℕ) (s : Sort) (A A' : Formula) → same q (all s A) (all s A') ≡ same q A A'
 unfolding same need as_all same_sort ◌>>=◌
 same_binder q names A A' = refl

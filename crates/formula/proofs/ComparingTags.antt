@@ -29,7 +29,7 @@ other_sorts q names times n = refl
 other_sorts q times names n = refl
 other_sorts q times times n = absurd (n refl)
 
--- What is seen as no for_all is none, and a for_all has one sort.
+-- What is seen as no for-all is none, and a for-all has one sort.
 none_seen : (G : Formula) (s : Sort) (A : Formula) → as_all G ≡ none → G ≡ all s A → ⊥
 unfolding as_all
 none_seen G s A none_such is =
@@ -41,7 +41,7 @@ one_sort : (G A B : Formula) → G ≡ all names A → G ≡ all times B → ⊥
 one_sort G A B is is' = let z : ◌≡◌ {A = ℕ} 0 1 = cc in absurd (omega arith)
 
 module _ (bytes : List ℕ) (d : ℕ) (f : FormulaAt) {G : Formula} (n : Means bytes d f G) where
-  -- Without the tag of its sort there is no for_all of it.
+  -- Without the tag of its sort there is no for-all of it.
   not_this_sort : (s : Sort) (A : Formula) → (tag_of bytes f.at ≡ shapes.binder_tag s → ⊥) → G ≡ all s A → ⊥
   unfolding shapes.binder_tag
   not_this_sort names A other is =

@@ -1,4 +1,4 @@
--- What is seen of a formula in bytes from its tag: its shape (passed on from FormulaShapes), which kinds it is not, and an instance of a for_all.
+-- What is seen of a formula in bytes from its tag: its shape (passed on from FormulaShapes), which kinds it is not, and an instance of a for-all.
 -- By its shapes a formula has the tag of its kind, so with another tag it is not of that kind; and a term put in is one more on the list.
 use Prim.Native.Nat.{ℕ, suc, ◌+◌}
 use mathlib.Core.Path.{◌≡◌, refl, sym, ap, ◌∙◌}
@@ -109,7 +109,7 @@ module _ (bytes : List ℕ) (d : ℕ) (f : FormulaAt) {F : Formula} (m : Means b
   unfolding kind
   not_falsity n = none_there (as_falsity F) λ x. n (tag_is x)
 
--- A for_all with a term put in.
+-- A for-all with a term put in.
 pub instance_means : (bytes : List ℕ) (f : FormulaAt) {F : Formula} (m : Means bytes 0 f F) (s : Sort) (shape : AllShape bytes 0 f m s) (t : Term) (more : Terms)
     → FewTerms more → more.count ≡ suc f.terms.count → terms_of more ≡ (t ∷ terms_of f.terms)
     → Means bytes 0 (record { at = f.at + 1; terms = more }) (put 0 t shape.body)

@@ -1,4 +1,4 @@
--- A for_all that a term is put in for: of its sort, of another sort, or no for_all.
+-- A for-all that a term is put in for: of its sort, of another sort, or no for-all.
 use Prim.Native.Nat.{ℕ, ◌<◌}
 use mathlib.Core.Path.{◌≡◌, refl, ◌∙◌}
 use mathlib.Core.List.{List}
@@ -50,7 +50,7 @@ its_sort q names (When t) = inl refl
 its_sort q times (Name n) = inl refl
 its_sort q times (When t) = inr refl
 
--- A for_all is one, and of one sort.
+-- A for-all is one, and of one sort.
 is_an_all : {F A : Formula} {s : Sort} → F ≡ all s A → as_all F ≡ none → ⊥
 unfolding as_all
 is_an_all {F} {A} {s} e n = let h : as_all (all s A) ≡ none = rw e at n in let z : ◌≡◌ {A = ℕ} 0 1 = cc in omega arith

@@ -149,7 +149,7 @@ module _ (q : ℕ) where
     unfolding fact_goal need ◌>>=◌
     no_fact e = rw e
 
-    -- A for_all: of the sort of the term, of another.
+    -- A for-all: of the sort of the term, of another.
     module _ (t : Term) (a b : Time) where
       pub all_there : {s : Sort} {A : Formula} → F ≡ all s A → need_sort q s t ≡ done tt → put_in q t (F, a, b) ≡ done (put 0 t A, a, b)
       unfolding put_in need as_all ◌>>=◌

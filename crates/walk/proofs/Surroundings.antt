@@ -27,14 +27,14 @@ use Rattle.judging.specs.RowNumbers.{rows_with}
 use Rattle.judging.proofs.RowLaws.{row_there, earlier_stay}
 use Rattle.walk.specs.Walking.{Sources, Around, Keeps, ChecksAt}
 
--- A row inside of a says_in: a plain one is shut out, a claim stays.
+-- A row inside of a says-in: a plain one is shut out, a claim stays.
 row_shut : (buffer : List ℕ) (row : Row) (index before below : ℕ) (x : Assumption) → index < below → RowIs buffer row index before x → RowIs buffer row index below (shut_out x)
 unfolding shut_out
 row_shut buffer row index before below x h (is_plain plain-Row usable on) = is_shut plain-Row h
 row_shut buffer row index before below x h (is_claim claimed on) = is_claim claimed on
 row_shut buffer row index before below x h (is_shut plain-Row lower) = is_shut plain-Row h
 
--- The rows inside of a says_in.
+-- The rows inside of a says-in.
 assumed_shut : (buffer rows : List ℕ) (before below n : ℕ) (Γ : List Assumption) → n ≤ below → Assumed buffer rows before n Γ → Assumed buffer rows below n (map shut_out Γ)
 unfolding Assumed
 assumed_shut buffer rows before below zero [] h a = tt
@@ -113,7 +113,7 @@ module _ (S : Sources) (rows : List ℕ) (scope : Scope) (left : ℕ) (π : Poli
       let room = around.room in
       record { policy = around.policy; assumed = around.assumed; shut_inside = around.shut_inside; room = omega arith; all_there = around.all_there }
 
-  -- The part of a says_in.
+  -- The part of a says-in.
   pub around_said : (view : View) → Around S rows (record { count = scope.count; shut = scope.count; view = view }) left π (map shut_out Γ)
   around_said view =
       let room = around.room in
