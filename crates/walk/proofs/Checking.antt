@@ -125,35 +125,13 @@ put_read : (proof ends : List ℕ) (c n h q : ℕ) (tag : CheckTag) (shell : She
     → check_by proof c (infer_step proof c n) (check_step proof c n) h q NoInferTag tag (q + 1) ≡ some (N, e) → ToldChecking ends N
     → PutRead proof ends c n h q shell N e
 unfolding ToldChecking
-put_read proof ends c n h q PairTag shell N e x'' reads = elim x'' [ ]
-put_read proof ends c n h q TopStepTag shell N e x3 reads = elim x3 [ ]
-put_read proof ends c n h q AtInTag SaysShell N e x6 reads = elim x6 [ ]
-put_read proof ends c n h q AtInTag LeftShell N e x7 reads = elim x7 [ ]
-put_read proof ends c n h q AtInTag RightShell N e x8 reads = elim x8 [ ]
-put_read proof ends c n h q AtOutTag shell N e x5 reads = elim x5 [ ]
-put_read proof ends c n h q SaysInTag AtShell N e x8 reads = elim x8 [ ]
-put_read proof ends c n h q SaysInTag LeftShell N e x9 reads = elim x9 [ ]
-put_read proof ends c n h q SaysInTag RightShell N e x10 reads = elim x10 [ ]
-put_read proof ends c n h q SaysOutTag shell N e x7 reads = elim x7 [ ]
-put_read proof ends c n h q StateTag shell N e x8 reads = elim x8 [ ]
-put_read proof ends c n h q OrderStepTag shell N e x9 reads = elim x9 [ ]
-put_read proof ends c n h q OrLeftTag AtShell N e x12 reads = elim x12 [ ]
-put_read proof ends c n h q OrLeftTag SaysShell N e x13 reads = elim x13 [ ]
-put_read proof ends c n h q OrLeftTag RightShell N e x14 reads = elim x14 [ ]
-put_read proof ends c n h q OrRightTag AtShell N e x13 reads = elim x13 [ ]
-put_read proof ends c n h q OrRightTag SaysShell N e x14 reads = elim x14 [ ]
-put_read proof ends c n h q OrRightTag LeftShell N e x15 reads = elim x15 [ ]
-put_read proof ends c n h q OrOutTag shell N e x12 reads = elim x12 [ ]
-put_read proof ends c n h q FalsityOutTag shell N e x13 reads = elim x13 [ ]
-put_read proof ends c n h q InferredTag shell N e x14 reads = elim x14 [ ]
-put_read proof ends c n h q NoCheckTag shell N e x15 reads = elim x15 [ ]
-put_read proof ends c n h q AtInTag AtShell N e puts_at reads =
+put_read proof ends c n h q tag shell N e puts_at reads =
     put_found proof ends c n h q AtShell (at_in_read proof c n h q NoInferTag N e reads) (λ M t. t) (λ π Γ v j. at_in_walk π Γ v q j.0 j.1 j.2)
-put_read proof ends c n h q SaysInTag SaysShell N e puts_says reads =
+put_read proof ends c n h q tag shell N e puts_says reads =
     put_found proof ends c n h q SaysShell (says_in_read proof c n h q NoInferTag N e reads) (λ M t. t) (λ π Γ v j. says_in_walk π Γ v q j.0 j.1 j.2)
-put_read proof ends c n h q OrLeftTag LeftShell N e puts_left reads =
+put_read proof ends c n h q tag shell N e puts_left reads =
     put_found proof ends c n h q LeftShell (or_left_read proof c n h q NoInferTag N e reads) (λ M t. t) (λ π Γ v j. or_left_walk π Γ v q j.0 j.1 j.2)
-put_read proof ends c n h q OrRightTag RightShell N e puts_right reads =
+put_read proof ends c n h q tag shell N e puts_right reads =
     put_found proof ends c n h q RightShell (or_right_read proof c n h q NoInferTag N e reads) (λ M t. t) (λ π Γ v j. or_right_walk π Γ v q j.0 j.1 j.2)
 
 -- A step that takes a formula out of a shell: the part that infers it, the part that assumes what is inside, and its walk.
@@ -172,25 +150,7 @@ take_read : (proof ends : List ℕ) (c n h q : ℕ) (tag : CheckTag) (shell : Sh
     → check_by proof c (infer_step proof c n) (check_step proof c n) h q NoInferTag tag (q + 1) ≡ some (N, e) → ToldChecking ends N
     → TakeRead proof ends c n h q shell N e
 unfolding ToldChecking
-take_read proof ends c n h q PairTag shell N e x3 reads told = elim x3 [ ]
-take_read proof ends c n h q TopStepTag shell N e x4 reads told = elim x4 [ ]
-take_read proof ends c n h q AtInTag shell N e x5 reads told = elim x5 [ ]
-take_read proof ends c n h q AtOutTag SaysShell N e x9 reads told = elim x9 [ ]
-take_read proof ends c n h q AtOutTag LeftShell N e x10 reads told = elim x10 [ ]
-take_read proof ends c n h q AtOutTag RightShell N e x11 reads told = elim x11 [ ]
-take_read proof ends c n h q SaysInTag shell N e x7 reads told = elim x7 [ ]
-take_read proof ends c n h q SaysOutTag AtShell N e x11 reads told = elim x11 [ ]
-take_read proof ends c n h q SaysOutTag LeftShell N e x12 reads told = elim x12 [ ]
-take_read proof ends c n h q SaysOutTag RightShell N e x13 reads told = elim x13 [ ]
-take_read proof ends c n h q StateTag shell N e x9 reads told = elim x9 [ ]
-take_read proof ends c n h q OrderStepTag shell N e x10 reads told = elim x10 [ ]
-take_read proof ends c n h q OrLeftTag shell N e x11 reads told = elim x11 [ ]
-take_read proof ends c n h q OrRightTag shell N e x12 reads told = elim x12 [ ]
-take_read proof ends c n h q OrOutTag shell N e x13 reads told = elim x13 [ ]
-take_read proof ends c n h q FalsityOutTag shell N e x14 reads told = elim x14 [ ]
-take_read proof ends c n h q InferredTag shell N e x15 reads told = elim x15 [ ]
-take_read proof ends c n h q NoCheckTag shell N e x16 reads told = elim x16 [ ]
-take_read proof ends c n h q AtOutTag AtShell N e takes_at reads told =
+take_read proof ends c n h q tag shell N e takes_at reads told =
     let found = at_out_read proof c n h q NoInferTag N e reads in
     let both = told_is ends found.is told in
     record {
@@ -203,7 +163,7 @@ take_read proof ends c n h q AtOutTag AtShell N e takes_at reads told =
       other_told = both.1;
       walks = λ π Γ v j. ap (λ N. check π Γ v N j.0 j.1 j.2) found.is ∙ at_out_walk π Γ v q j.0 j.1 j.2 found.part found.other;
     }
-take_read proof ends c n h q SaysOutTag SaysShell N e takes_says reads told =
+take_read proof ends c n h q tag shell N e takes_says reads told =
     let found = says_out_read proof c n h q NoInferTag N e reads in
     let both = told_is ends found.is told in
     record {
