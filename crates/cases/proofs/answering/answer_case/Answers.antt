@@ -24,13 +24,13 @@ returns-in-BrokenAt c =
     c.write_refusal-in-BrokenAt.ensures
 
 pub verify_parts-verified-requires : goal.verify_parts-verified-requires
-verify_parts-verified-requires c = let f = (let read = c.case_at-case in kept_told _ _ c.in_default.is read.ensures) in record { few = f.few; order = f.in_order; inside = f.inside }
+verify_parts-verified-requires c = let f = kept_told _ _ c.in_default.is c.case_at-case.ensures in record { few = f.few; order = f.in_order; inside = f.inside }
 
 pub returns : goal.returns
 returns c =
     let args = c.args in
     let input = args.input.now in
-    let f = (let read = c.case_at-case in kept_told _ _ c.in_default.is read.ensures) in
+    let f = kept_told _ _ c.in_default.is c.case_at-case.ensures in
     let reads = lines_say_case input c.if-input-gt-MOST_INPUT.false f.found f.line f.next f.reads in
     let hands = hands_over_case _ _ _ f c.verify_parts-verified.result c.verify_parts-verified.ensures in
     let written = c.write_verified.ensures (verified_of f.found) hands (case_is_printable input f.found reads) in

@@ -15,13 +15,11 @@ returns-in-BrokenAt c =
 pub returns-in_default-line : goal.returns-in_default-line
 returns-in_default-line c =
     broken_handed _ _ c.no_case-in_default-line.ensures
-    (no_certs _ _ _ _ _ _ (let call = c.request_at-asked in
-    request_kept _ call.result c.in_default.is call.ensures) (number_told _ c.in_default-line.is c.line.ensures.reads))
+    (no_certs _ _ _ _ _ _ (request_kept _ c.request_at-asked.result c.in_default.is c.request_at-asked.ensures) (number_told _ c.in_default-line.is c.line.ensures.reads))
 
 pub case_with-requires : goal.case_with-requires
 case_with-requires c = record { room = omega arith; few = bound_told _ c.in-Number.is c.line.ensures.bound }
 
 pub returns : goal.returns
 returns c =
-    rw (case_says _ _ _ _ _ _ (let call = c.request_at-asked in
-    request_kept _ call.result c.in_default.is call.ensures) _ _ (number_told _ c.in-Number.is c.line.ensures.reads)) c.case_with.ensures
+    rw (case_says _ _ _ _ _ _ (request_kept _ c.request_at-asked.result c.in_default.is c.request_at-asked.ensures) _ _ (number_told _ c.in-Number.is c.line.ensures.reads)) c.case_with.ensures

@@ -18,32 +18,26 @@ returns-in-BrokenAt c =
 pub hex_line-proof-requires : goal.hex_line-proof-requires
 hex_line-proof-requires c = record {
   room = omega arith;
-  behind = (let call = c.groups_at-groups in
-      kept_told _ _ c.in_default.is call.ensures).behind;
+  behind = (kept_told _ _ c.in_default.is c.groups_at-groups.ensures).behind;
 }
 
 pub returns-then-not-proof : goal.returns-then-not-proof
 returns-then-not-proof c =
-    let behind = (let call = c.groups_at-groups in
-    kept_told _ _ c.in_default.is call.ensures) in
+    let behind = kept_told _ _ c.in_default.is c.groups_at-groups.ensures in
     broken_handed _ _ c.no_case-then-not-proof.ensures
     (no_proof _ _ _ _ _ _ _ _ behind.reads
     (hex_missing _ _ _ _ c.hex_line-proof.result _ c.if-not-proof.true c.hex_line-proof.ensures))
 
 pub returns-then-proof-input : goal.returns-then-proof-input
 returns-then-proof-input c =
-    let behind = (let call = c.groups_at-groups in
-    kept_told _ _ c.in_default.is call.ensures) in
+    let behind = kept_told _ _ c.in_default.is c.groups_at-groups.ensures in
     broken_handed _ _ c.no_case-then-proof-input.ensures
-    (rw add-one (something_more _ _ _ _ _ _ _ _ behind.reads _ _ (let call = c.hex_line-proof in
-    hex_found _ _ _ _ call.result _ c.if-not-proof.false call.ensures).1 c.if-proof-input.true))
+    (rw add-one (something_more _ _ _ _ _ _ _ _ behind.reads _ _ (hex_found _ _ _ _ c.hex_line-proof.result _ c.if-not-proof.false c.hex_line-proof.ensures).1 c.if-proof-input.true))
 
 pub returns : goal.returns
 returns c =
-    let behind = (let call = c.groups_at-groups in
-    kept_told _ _ c.in_default.is call.ensures) in
-    let proof = (let call = c.hex_line-proof in
-    hex_found _ _ _ _ call.result _ c.if-not-proof.false call.ensures) in
+    let behind = kept_told _ _ c.in_default.is c.groups_at-groups.ensures in
+    let proof = (hex_found _ _ _ _ c.hex_line-proof.result _ c.if-not-proof.false c.hex_line-proof.ensures) in
     record {
       found = record { request = _; groups = behind.found; proof = proof.0 };
       line = _;

@@ -15,9 +15,6 @@ body_end-returns-then-binders-ge-MOST_BINDERS t c =
     let binders = c.args.binders in
     ninth_binder _ _ _ _ _ (rw (sorts_length binders) (omega arith))
 
-pub body_end-formula_end-requires : goal.body_end-formula_end-requires
-body_end-formula_end-requires t c = (omega arith, c.one_more.ensures.few)
-
 pub body_end-returns : goal.body_end-returns
 body_end-returns t c =
     let binders = c.args.binders in
@@ -26,49 +23,6 @@ body_end-returns t c =
 
 pub formula_end-returns-then-left-eq0 : goal.formula_end-returns-then-left-eq0
 formula_end-returns-then-left-eq0 t c = no_level _ _ _ _ c.if-left-eq0.true
-
-pub formula_end-body_end-requires : goal.formula_end-body_end-requires
-formula_end-body_end-requires t c =
-    (omega (arith, c.if-left-eq0.false), c.requires)
-
-pub formula_end-body_end-requires-in-AllTimesTag : goal.formula_end-body_end-requires-in-AllTimesTag
-formula_end-body_end-requires-in-AllTimesTag t c =
-    (omega (arith, c.if-left-eq0.false), c.requires)
-
-pub formula_end-place_end-who-requires : goal.formula_end-place_end-who-requires
-formula_end-place_end-who-requires t c = c.requires
-
-pub formula_end-next_formula_end-requires : goal.formula_end-next_formula_end-requires
-formula_end-next_formula_end-requires t c =
-    (omega (arith, c.if-left-eq0.false), c.requires)
-
-pub formula_end-two_times_end-interval-requires : goal.formula_end-two_times_end-interval-requires
-formula_end-two_times_end-interval-requires t c = c.requires
-
-pub formula_end-next_formula_end-requires-in-AtTag : goal.formula_end-next_formula_end-requires-in-AtTag
-formula_end-next_formula_end-requires-in-AtTag t c =
-    (omega (arith, c.if-left-eq0.false), c.requires)
-
-pub formula_end-arguments_end-requires : goal.formula_end-arguments_end-requires
-formula_end-arguments_end-requires t c = c.requires
-
-pub formula_end-arguments_end-requires-in-FactTag : goal.formula_end-arguments_end-requires-in-FactTag
-formula_end-arguments_end-requires-in-FactTag t c = c.requires
-
-pub formula_end-two_times_end-requires : goal.formula_end-two_times_end-requires
-formula_end-two_times_end-requires t c = c.requires
-
-pub formula_end-sides_end-requires : goal.formula_end-sides_end-requires
-formula_end-sides_end-requires t c =
-    (omega (arith, c.if-left-eq0.false), c.requires)
-
-pub formula_end-sides_end-requires-in-ImpliesTag : goal.formula_end-sides_end-requires-in-ImpliesTag
-formula_end-sides_end-requires-in-ImpliesTag t c =
-    (omega (arith, c.if-left-eq0.false), c.requires)
-
-pub formula_end-sides_end-requires-in-OrTag : goal.formula_end-sides_end-requires-in-OrTag
-formula_end-sides_end-requires-in-OrTag t c =
-    (omega (arith, c.if-left-eq0.false), c.requires)
 
 pub formula_end-returns-in-TopTag : goal.formula_end-returns-in-TopTag
 formula_end-returns-in-TopTag t c = formula_announced _ _ _ _ _ _ _ (At _) c.if-left-eq0.false c.tag_at.ensures c.past-after.ensures.there c.in-TopTag.is (top_ends _ _ _ _)
@@ -123,9 +77,6 @@ formula_end-returns-in-FalsityTag t c = formula_announced _ _ _ _ _ _ _ (At _) c
 
 pub formula_end-returns-in-NoFormulaTag : goal.formula_end-returns-in-NoFormulaTag
 formula_end-returns-in-NoFormulaTag t c = formula_announced _ _ _ _ _ NoFormulaTag _ Nowhere c.if-left-eq0.false c.tag_at.ensures c.past-after.ensures.there c.in-NoFormulaTag.is (no_formula _ _ _ _)
-
-pub next_formula_end-formula_end-requires : goal.next_formula_end-formula_end-requires
-next_formula_end-formula_end-requires t c = (omega arith, c.requires)
 
 pub next_formula_end-returns-in-At : goal.next_formula_end-returns-in-At
 next_formula_end-returns-in-At t c =
