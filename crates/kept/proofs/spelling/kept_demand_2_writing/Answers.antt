@@ -1,10 +1,9 @@
 -- What is written of a value with 0 reads back, so it is rewritten with 0, and then stands in front of the buffer as it was.
 use Prim.Native.Nat.{◌≤◌}
-use mathlib.Core.Path.{◌≡◌, sym, ◌∙◌}
+use mathlib.Core.Path.{sym, ◌∙◌}
 use native.Mathlib.Omega.{arith}
 use lib.ListN.{length}
 use lib.Seq.{length-take-le}
-use Rattle.from_c.specs.Packing.{number_in, length_in}
 use Rattle.demands.proofs.FromC.{told_is_short, rewriting_is_short, value_writing_is_short}
 use Rattle.demands.proofs.InNumbers.{what_is_written_is_rewritten}
 use Rattle.kept.proofs.Fronts.{blank, room, found_in_front}
