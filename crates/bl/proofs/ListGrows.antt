@@ -11,7 +11,8 @@ use Rattle.procap.specs.declared.time.Time.{Time}
 use Rattle.procap.specs.declared.order.Decision.{Decision}
 use Rattle.procap.specs.declared.order.Decision.TheVariants.{Holds, Fails, RaisesFrom, LowersTo}
 use Rattle.procap.specs.Deciding.{in?, spelled?}
-use Rattle.procap.specs.Outcome.{Outcome, granted, refused, go_on}
+use Rattle.std.specs.Prelude.{Err, Ok}
+use Rattle.procap.specs.Outcome.{Outcome, go_on}
 use Rattle.bl.specs.Questions.{Question, at_most, holds, Walk, done, misfit, ask, cost, asks, ◌>>=◌}
 use Rattle.bl.specs.Readings.{True, true?, fault, Kept, one_more, narrow, list_fact, learn, Reading, office, press, answered, run}
 use Rattle.procap.proofs.Granted.{same_grant, no_grant}
@@ -20,10 +21,10 @@ use Rattle.procap.proofs.Granted.{same_grant, no_grant}
 
 -- Where a question is granted, the list is longer by its cost at the most.
 abbrev Grows : Kept → Question → Outcome Kept → Type 0
-Grows s x (granted s') = length s'.facts ≤ length s.facts + cost x
-Grows s x (refused answer) = Unit {0}
+Grows s x (Ok s') = length s'.facts ≤ length s.facts + cost x
+Grows s x (Err answer) = Unit {0}
 
-list_fact_grows : (f : Spelled) (s : Kept) → Grows s (holds f) (granted (list_fact f s))
+list_fact_grows : (f : Spelled) (s : Kept) → Grows s (holds f) (Ok (list_fact f s))
 unfolding list_fact cost
 list_fact_grows f s = by (in? spelled? f s.facts)
   where
@@ -49,25 +50,25 @@ unfolding answered
 answered_grows office x q s = learn_grows x q s
 answered_grows (press m σ) x q s = by (true? m σ x)
   where
-    by : (d : Dec (True m σ x)) → Grows s x (ite d (granted s) (refused (fault x q)))
+    by : (d : Dec (True m σ x)) → Grows s x (ite d (Ok s) (Err (fault x q)))
     by (yes h) = omega arith
     by (no n) = tt
 
 -- A question that the walk went on from left a list that is longer by its cost at the most.
-question_granted : {A : Type 0} (o : Reading) (x : Question) (q : ℕ) (w : Walk A) (s : Kept) (r : A × Kept) → run o (ask x q w) s ≡ granted r
-    → (s' : Kept) × (length s'.facts ≤ length s.facts + cost x) × (run o w s' ≡ granted r)
+question_granted : {A : Type 0} (o : Reading) (x : Question) (q : ℕ) (w : Walk A) (s : Kept) (r : A × Kept) → run o (ask x q w) s ≡ Ok r
+    → (s' : Kept) × (length s'.facts ≤ length s.facts + cost x) × (run o w s' ≡ Ok r)
 unfolding run go_on
 question_granted o x q w s r e = by (answered o x q s) (answered_grows o x q s) e
   where
-    by : (l : Outcome Kept) → Grows s x l → go_on l (λ s'. run o w s') ≡ granted r
-        → (s' : Kept) × (length s'.facts ≤ length s.facts + cost x) × (run o w s' ≡ granted r)
-    by (granted s') grows e = (s', grows, e)
-    by (refused answer) grows e = no_grant e
+    by : (l : Outcome Kept) → Grows s x l → go_on l (λ s'. run o w s') ≡ Ok r
+        → (s' : Kept) × (length s'.facts ≤ length s.facts + cost x) × (run o w s' ≡ Ok r)
+    by (Ok s') grows e = (s', grows, e)
+    by (Err answer) grows e = no_grant e
 
 -- ── A walk ──
 
 -- The list after a walk is no longer than before by more than the facts that it asks for.
-pub list_grows : {A : Type 0} (o : Reading) (w : Walk A) (s : Kept) (a : A) (s' : Kept) → run o w s ≡ granted (a, s')
+pub list_grows : {A : Type 0} (o : Reading) (w : Walk A) (s : Kept) (a : A) (s' : Kept) → run o w s ≡ Ok (a, s')
     → length s'.facts ≤ length s.facts + asks w
 unfolding run asks
 list_grows o (done b) s a s' e = let d : s ≡ s' = ap (λ r. r.1) (same_grant e) in rw (← d) (omega arith)
@@ -77,7 +78,7 @@ list_grows o (ask x q w) s a s' e =
     omega (arith, grows, list_grows o w s₁ a s' rest)
 
 -- A walk that came to a value and then another ask for the facts of both.
-pub asks_both : {A B : Type 0} (o : Reading) (w : Walk A) (g : A → Walk B) (s : Kept) (a : A) (s' : Kept) → run o w s ≡ granted (a, s')
+pub asks_both : {A B : Type 0} (o : Reading) (w : Walk A) (g : A → Walk B) (s : Kept) (a : A) (s' : Kept) → run o w s ≡ Ok (a, s')
     → asks (w >>= g) ≡ asks w + asks (g a)
 unfolding run asks ◌>>=◌
 asks_both o (done b) g s a s' e = let d : b ≡ a = ap (λ r. r.0) (same_grant e) in rw d (omega arith)

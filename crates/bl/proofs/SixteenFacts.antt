@@ -9,7 +9,7 @@ use Rattle.procap.specs.declared.answer.Answer.TheVariants.{ProofMalformed}
 use Rattle.procap.specs.declared.fact.Term.TheVariants.{Name}
 use Rattle.procap.specs.declared.time.Time.TheVariants.{MinusInfinity, PlusInfinity}
 use Rattle.bl.specs.declared.Certificate.{Certificate}
-use Rattle.procap.specs.Outcome.{granted, refused}
+use Rattle.std.specs.Prelude.{Err, Ok}
 use Rattle.bl.specs.Calls.{verified}
 use Rattle.bl.proofs.CaseP.{request_P, computes}
 
@@ -51,12 +51,12 @@ facts_from k (suc n) = (200, Name k ∷ []) ∷ facts_from (suc k) n
 
 -- Sixteen facts are asked for, and all are listed.
 sixteen_are_listed :
-    verified request_P (records 141) (rule (sixteen 0x11 loaded)) [] (applied (sixteen 0x22 asked)) ≡ granted (procap_of request_P earliest latest (facts_from 0 16))
+    verified request_P (records 141) (rule (sixteen 0x11 loaded)) [] (applied (sixteen 0x22 asked)) ≡ Ok (procap_of request_P earliest latest (facts_from 0 16))
 unfolding computes facts_from
 sixteen_are_listed = refl
 
 -- The first of them is asked for again: that is a 17th step 2C, and the answer is 2, at no place.
 a_seventeenth_step_is_malformed :
-    verified request_P (records 149) (rule (0x11 ∷ (sixteen 0x11 loaded ++ loaded 0))) [] (applied (0x22 ∷ (sixteen 0x22 asked ++ asked 0))) ≡ refused ProofMalformed
+    verified request_P (records 149) (rule (0x11 ∷ (sixteen 0x11 loaded ++ loaded 0))) [] (applied (0x22 ∷ (sixteen 0x22 asked ++ asked 0))) ≡ Err ProofMalformed
 unfolding computes
 a_seventeenth_step_is_malformed = refl

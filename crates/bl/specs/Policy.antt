@@ -1,6 +1,6 @@
 -- What a house lends for a proof to stand on.
-use Rattle.std.specs.Prelude.{ℕ, List}
-use Rattle.procap.specs.Outcome.{Outcome, granted, go_on}
+use Rattle.std.specs.Prelude.{ℕ, List, Ok}
+use Rattle.procap.specs.Outcome.{Outcome, go_on}
 use Rattle.bl.specs.declared.Certificate.{Certificate}
 use Rattle.bl.specs.Certificates.{Statement, statements}
 use Rattle.bl.specs.Strength.{Pair, pairs_in}
@@ -15,4 +15,4 @@ unfoldable pub policy_in : List Certificate → List ℕ → List ℕ → Outcom
 policy_in records buffer numbers =
     go_on (statements buffer records) λ cs.
     go_on (pairs_in numbers) λ ps.
-    granted (record { statements = cs; pairs = ps })
+    Ok (record { statements = cs; pairs = ps })

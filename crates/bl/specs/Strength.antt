@@ -1,8 +1,8 @@
 -- Who stands above whom: the lent pairs of principals, and the strength that they give.
-use Rattle.std.specs.Prelude.{ℕ, ◌/◌, ◌%◌, List, map, length}
+use Rattle.std.specs.Prelude.{ℕ, ◌/◌, ◌%◌, List, map, length, Ok}
 use Rattle.std.proofs.Math.Decide.{dec_le}
 use Rattle.procap.specs.Lists.{In}
-use Rattle.procap.specs.Outcome.{Outcome, granted, go_on, require}
+use Rattle.procap.specs.Outcome.{Outcome, go_on, require}
 use Rattle.procap.specs.declared.answer.Answer.TheVariants.{TooManyPairs}
 
 -- [Two questions, pairs] A pair: the stronger principal stands above the weaker.
@@ -26,7 +26,7 @@ pairs_of numbers = map pair_of numbers
 unfoldable pub pairs_in : List ℕ → Outcome (List Pair)
 pairs_in numbers =
     go_on (require TooManyPairs (dec_le (length numbers) most_pairs)) λ _.
-    granted (pairs_of numbers)
+    Ok (pairs_of numbers)
 
 -- [Rules, strength] At least as strong: a principal as itself, and one that a pair puts above somebody as whoever that one is as strong as.
 pub data AsStrong (ps : List Pair) : ℕ → ℕ → Type 0 where

@@ -6,7 +6,8 @@ use mathlib.Core.List.{List}
 use native.Mathlib.Decide.{dec_le}
 use native.Mathlib.Omega.{arith}
 use lib.ListN.{length}
-use Rattle.procap.specs.Outcome.{Outcome, granted, refused, go_on}
+use Rattle.std.specs.Prelude.{Err, Ok}
+use Rattle.procap.specs.Outcome.{Outcome, go_on}
 use Rattle.procap.specs.declared.answer.Answer.{Answer}
 use Rattle.procap.specs.declared.answer.Answer.TheVariants.{InputMalformed}
 use Rattle.procap.specs.declared.procap.Procap.{Procap}
@@ -21,35 +22,35 @@ module _ (input : List ℕ) where
   -- ── What is read ──
 
   -- An input that is too long is no case.
-  pub too_long_is_no_case : most_input < length input → case_in input ≡ refused (InputMalformed 0)
+  pub too_long_is_no_case : most_input < length input → case_in input ≡ Err (InputMalformed 0)
   unfolding case_in go_on
   too_long_is_no_case l = rw (is_not_so (InputMalformed 0) (dec_le (length input) most_input) (λ h. omega arith)) refl
 
   module _ (short : length input ≤ most_input) where
     -- Of one that is not, it is up to its lines.
-    by_its_lines : case_in input ≡ go_on (case_lines input 1 0) λ x. granted x.0
+    by_its_lines : case_in input ≡ go_on (case_lines input 1 0) λ x. Ok x.0
     unfolding case_in
     by_its_lines = goes_on _ _ tt (is_so (InputMalformed 0) (dec_le (length input) most_input) short)
 
     -- A line that breaks the form.
-    pub broken_is_no_case : (answer : Answer) → case_lines input 1 0 ≡ refused answer → case_in input ≡ refused answer
+    pub broken_is_no_case : (answer : Answer) → case_lines input 1 0 ≡ Err answer → case_in input ≡ Err answer
     unfolding go_on
-    broken_is_no_case answer breaks = by_its_lines ∙ ap (λ o. go_on o λ x. granted x.0) breaks
+    broken_is_no_case answer breaks = by_its_lines ∙ ap (λ o. go_on o λ x. Ok x.0) breaks
 
     -- Lines that say a case.
-    pub lines_say_case : (c : Case) (line next : ℕ) → case_lines input 1 0 ≡ granted (c, line, next) → case_in input ≡ granted c
+    pub lines_say_case : (c : Case) (line next : ℕ) → case_lines input 1 0 ≡ Ok (c, line, next) → case_in input ≡ Ok c
     unfolding go_on
-    lines_say_case c line next reads = by_its_lines ∙ ap (λ o. go_on o λ x. granted x.0) reads
+    lines_say_case c line next reads = by_its_lines ∙ ap (λ o. go_on o λ x. Ok x.0) reads
 
   -- ── What it comes to ──
 
   -- No case is refused with what refuses it.
-  no_case_checked : (answer : Answer) → case_in input ≡ refused answer → checked input ≡ refused answer
+  no_case_checked : (answer : Answer) → case_in input ≡ Err answer → checked input ≡ Err answer
   unfolding checked go_on
   no_case_checked answer e = rw e refl
 
   -- A case comes to what verify comes to for it.
-  case_checked : (c : Case) → case_in input ≡ granted c → checked input ≡ verified_of c
+  case_checked : (c : Case) → case_in input ≡ Ok c → checked input ≡ verified_of c
   unfolding checked
   case_checked c e = goes_on (case_in input) verified_of c e
 
@@ -66,17 +67,17 @@ module _ (input : List ℕ) where
   answered_by room o e = ap (λ text. fitting text room) (printed_by o e)
 
   -- Where there is no case, the two lines of the refusal are printed.
-  pub no_case_printed : (answer : Answer) → case_in input ≡ refused answer → printed input ≡ refusal_text answer
+  pub no_case_printed : (answer : Answer) → case_in input ≡ Err answer → printed input ≡ refusal_text answer
   unfolding printed_of
-  no_case_printed answer e = printed_by (refused answer) (no_case_checked answer e)
+  no_case_printed answer e = printed_by (Err answer) (no_case_checked answer e)
 
-  pub no_case_answered : (room : ℕ) (answer : Answer) → case_in input ≡ refused answer → answering input room ≡ fitting (refusal_text answer) room
+  pub no_case_answered : (room : ℕ) (answer : Answer) → case_in input ≡ Err answer → answering input room ≡ fitting (refusal_text answer) room
   unfolding printed_of
-  no_case_answered room answer e = answered_by room (refused answer) (no_case_checked answer e)
+  no_case_answered room answer e = answered_by room (Err answer) (no_case_checked answer e)
 
   -- Where there is one, it is what verify comes to for it.
-  pub case_printed : (c : Case) → case_in input ≡ granted c → printed input ≡ printed_of (verified_of c)
+  pub case_printed : (c : Case) → case_in input ≡ Ok c → printed input ≡ printed_of (verified_of c)
   case_printed c e = printed_by (verified_of c) (case_checked c e)
 
-  pub case_answered : (room : ℕ) (c : Case) → case_in input ≡ granted c → answering input room ≡ fitting (printed_of (verified_of c)) room
+  pub case_answered : (room : ℕ) (c : Case) → case_in input ≡ Ok c → answering input room ≡ fitting (printed_of (verified_of c)) room
   case_answered room c e = answered_by room (verified_of c) (case_checked c e)

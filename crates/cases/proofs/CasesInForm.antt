@@ -2,10 +2,9 @@
 use Prim.Native.Nat.{ℕ, zero, suc}
 use mathlib.Core.Path.{◌≡◌, ap, subst}
 use mathlib.Core.List.{List}
-use mathlib.Core.Option.{Option, some, none}
+use Rattle.std.specs.Prelude.{None, Ok, Option, Some}
 use Rattle.procap.specs.Lists.{All}
 use Rattle.procap.specs.Writable.{RequestInForm}
-use Rattle.procap.specs.Outcome.{granted}
 use Rattle.procap.specs.Bytes.{Reader}
 use Rattle.procap.specs.declared.procap.Request.{Request}
 use Rattle.procap.proofs.Each.{each_of_both}
@@ -20,19 +19,19 @@ use Rattle.cases.specs.Case.{Group, Case, group, groups, case_with, case_lines, 
 use Rattle.cases.proofs.HexBytes.{hex_line_bytes}
 
 -- Of a line that reads, the reader found the value there.
-line_found : {A : Type 0} (line : ℕ) (o : Option (A × ℕ)) (x : A × ℕ × ℕ) → at_line line o ≡ granted x → o ≡ some (x.0, x.2)
+line_found : {A : Type 0} (line : ℕ) (o : Option (A × ℕ)) (x : A × ℕ × ℕ) → at_line line o ≡ Ok x → o ≡ Some (x.0, x.2)
 unfolding at_line
-line_found line none x e = no_grant e
-line_found line (some r) x e = ap (λ y. some (y.0, y.2)) (same_grant e)
+line_found line None x e = no_grant e
+line_found line (Some r) x e = ap (λ y. Some (y.0, y.2)) (same_grant e)
 
 -- What is so of all that a reader finds is so of what one line holds.
 line_is_so : {A : Type 0} {P : A → Type 0} (r : Reader A) (line at : ℕ) (x : A × ℕ × ℕ) → IfRead (λ a _. P a) (r at)
-    → one_line r line at ≡ granted x → P x.0
+    → one_line r line at ≡ Ok x → P x.0
 line_is_so r line at x h e = so_read (r at) (line_found line (r at) x e) h
 
 module _ (bytes : List ℕ) where
   -- The formula of a group.
-  says_bytes : (line at : ℕ) (x : Group × ℕ × ℕ) → group bytes line at ≡ granted x → AreBytes x.0.says
+  says_bytes : (line at : ℕ) (x : Group × ℕ × ℕ) → group bytes line at ≡ Ok x → AreBytes x.0.says
   unfolding group
   says_bytes line at x e =
       went_on _ _ _ e λ h _ e₁.
@@ -41,7 +40,7 @@ module _ (bytes : List ℕ) where
       (line_is_so (hex_line bytes (bytes_of "says=")) h.1 h.2 s (hex_line_bytes bytes (bytes_of "says=") h.2) f)
 
   -- The formulas of all groups.
-  formulas_bytes : (n line at : ℕ) (x : List Group × ℕ × ℕ) → groups bytes n line at ≡ granted x → AreBytes (buffer_of x.0)
+  formulas_bytes : (n line at : ℕ) (x : List Group × ℕ × ℕ) → groups bytes n line at ≡ Ok x → AreBytes (buffer_of x.0)
   unfolding groups buffer_of All
   formulas_bytes zero line at x e = subst (λ y. AreBytes (buffer_of y.0)) (same_grant e) tt
   formulas_bytes (suc n) line at x e =
@@ -51,7 +50,7 @@ module _ (bytes : List ℕ) where
       (each_of_both _ g.0.says (buffer_of gs.0) (says_bytes line at g f) (formulas_bytes n g.1 g.2 gs k))
 
   -- A case of a request has this request, and its formulas and its proof are bytes.
-  rest_in_form : (r : Request) (n line at : ℕ) (x : Case × ℕ × ℕ) → case_with bytes r n line at ≡ granted x
+  rest_in_form : (r : Request) (n line at : ℕ) (x : Case × ℕ × ℕ) → case_with bytes r n line at ≡ Ok x
       → (r ≡ x.0.request) × AreBytes (buffer_of x.0.groups) × AreBytes x.0.proof
   unfolding case_with
   rest_in_form r n line at x e =
@@ -66,7 +65,7 @@ module _ (bytes : List ℕ) where
       )
 
 -- A case that is read is in form.
-pub case_in_form : (bytes : List ℕ) (c : Case) → case_in bytes ≡ granted c
+pub case_in_form : (bytes : List ℕ) (c : Case) → case_in bytes ≡ Ok c
     → RequestInForm c.request × AreBytes (buffer_of c.groups) × AreBytes c.proof
 unfolding case_in case_lines
 case_in_form bytes c e =

@@ -5,7 +5,7 @@ use mathlib.Core.List.{List, [], ◌∷◌, ◌++◌}
 use native.Mathlib.Omega.{arith}
 use lib.ListN.{length, set, length-append}
 use Rattle.procap.specs.Lists.{pad}
-use Rattle.procap.specs.Outcome.{granted, refused}
+use Rattle.std.specs.Prelude.{Err, Ok}
 use Rattle.procap.specs.declared.answer.Answer.{Answer}
 use Rattle.bl.specs.Certificates.{most_certificates}
 use Rattle.bl.specs.declared.Certificate.{Certificate}
@@ -53,8 +53,8 @@ module _ {input : List ℕ} {at count : ℕ} {before : List ℕ} where
       (h : GroupsSoFar input at count before bytes records next end i) where
     module _ (l : i < count) where
       -- Where the next group breaks the form, so do all.
-      pub next_breaks : (answer : Answer) → group input (group_line i) next ≡ refused answer
-          → groups input count first_group_line at ≡ refused answer
+      pub next_breaks : (answer : Answer) → group input (group_line i) next ≡ Err answer
+          → groups input count first_group_line at ≡ Err answer
       next_breaks answer e =
           led_breaks h.found (groups input (count - i) (group_line i) next) h.reads answer
           (groups_break input (count - i) (group_line i) next (count - (i + 1)) (omega arith) answer e)
@@ -99,7 +99,7 @@ module _ {input : List ℕ} {at count : ℕ} {before : List ℕ} where
       found = h.found;
       reads =
           led_all h.found (groups input (count - i) (group_line i) next) h.reads (group_line count) next
-          (groups_end input (count - i) (group_line i) next (omega arith) ∙ ap (λ k. granted ([], group_line k, next)) all);
+          (groups_end input (count - i) (group_line i) next (omega arith) ∙ ap (λ k. Ok ([], group_line k, next)) all);
       few = most;
       their_records = records_kept most_certificates _ h.found (h.counted ∙ all) h.kept;
       end = omega (arith, h.put.0);

@@ -4,7 +4,7 @@ use Prim.Native.Nat.{ℕ, ◌+◌, ◌*◌, ◌%◌, ◌≤◌}
 use mathlib.Core.Bool.{true, false, not}
 use mathlib.Core.Path.{◌≡◌, refl, ap, ◌∙◌}
 use mathlib.Core.List.{List, [], ◌∷◌, ◌++◌, append-nil}
-use mathlib.Core.Option.{Option, some, none}
+use Rattle.std.specs.Prelude.{None, Option, Some}
 use native.Mathlib.Omega.{arith}
 use lib.ListN.{length, drop, length-append}
 use borrow.Author.Tests.{eq-eqb, ne_eqb, not-true, not-false}
@@ -22,13 +22,13 @@ use Rattle.cases.specs.declared.hex.HexRead.{HexRead}
 use Rattle.cases.proofs.HexDigits.{leading_none}
 
 -- With the flag false, nothing is read.
-pub hex_unread : (o : Option (List ℕ × ℕ)) (at start : ℕ) (before : List ℕ) (r : HexRead) (after : List ℕ) → r.found ≡ false → o ≡ none
+pub hex_unread : (o : Option (List ℕ × ℕ)) (at start : ℕ) (before : List ℕ) (r : HexRead) (after : List ℕ) → r.found ≡ false → o ≡ None
     → HexReads o at start before r after
 hex_unread o at start before r after f h = rw f h
 
 -- A line of hex, or none, by the flag as the code tests it.
 module _ (o : Option (List ℕ × ℕ)) (at start : ℕ) (before : List ℕ) (r : HexRead) (after : List ℕ) where
-  pub hex_missing : not r.found ≡ true → HexReads o at start before r after → o ≡ none
+  pub hex_missing : not r.found ≡ true → HexReads o at start before r after → o ≡ None
   hex_missing f h = rw (not-true r.found f) at h
 
   pub hex_found : not r.found ≡ false → HexReads o at start before r after → HexFound o at start before true r.next r.end after
@@ -44,38 +44,38 @@ unfolding in_pairs
 odd_in_no_pairs ds d e = ne_eqb (length (ds ++ (d ∷ [])) % 2) 0 (λ z. omega (arith, length-append ds (d ∷ [])))
 
 -- A word that was read takes its bytes.
-word_takes : (input word : List ℕ) (at next : ℕ) → literal input word at ≡ some (tt, next) → Takes input at word next
+word_takes : (input word : List ℕ) (at next : ℕ) → literal input word at ≡ Some (tt, next) → Takes input at word next
 word_takes input word at next e = (so_read (literal input word at) e (literal_read word at)).0
 
 -- Where a line feed stands there are no digits.
-no_hex_at_end : (input : List ℕ) (at next : ℕ) → literal input (bytes_of "\n") at ≡ some (tt, next) → leading_hex (drop at input) ≡ []
+no_hex_at_end : (input : List ℕ) (at next : ℕ) → literal input (bytes_of "\n") at ≡ Some (tt, next) → leading_hex (drop at input) ≡ []
 unfolding is_hex is_digit is_letter
 no_hex_at_end input at next e =
     ap leading_hex (word_takes input (bytes_of "\n") at next e).says ∙ leading_none 10 (drop next input) refl
 
 module _ (input word : List ℕ) (at : ℕ) where
   -- Without its word there is no line.
-  pub hex_no_word : literal input word at ≡ none → hex_line input word at ≡ none
+  pub hex_no_word : literal input word at ≡ None → hex_line input word at ≡ None
   unfolding hex_line then
   hex_no_word e = rw e
 
-  module _ (first : ℕ) (e : literal input word at ≡ some (tt, first)) where
+  module _ (first : ℕ) (e : literal input word at ≡ Some (tt, first)) where
     -- The word moves no place back.
     pub word_forward : at ≤ first
     word_forward = omega (arith, (word_takes input word at first e).place)
 
     -- After the word stand just these digits: the line is of their bytes if they are in pairs and its end follows; else there is none.
     module _ (ds : List ℕ) (d : leading_hex (drop first input) ≡ ds) where
-      hex_odd : in_pairs ds ≡ false → hex_line input word at ≡ none
+      hex_odd : in_pairs ds ≡ false → hex_line input word at ≡ None
       unfolding hex_line hex_digits then ensure
       hex_odd o = rw (e, d, o)
 
-      hex_no_end : in_pairs ds ≡ true → literal input (bytes_of "\n") (first + length ds) ≡ none → hex_line input word at ≡ none
+      hex_no_end : in_pairs ds ≡ true → literal input (bytes_of "\n") (first + length ds) ≡ None → hex_line input word at ≡ None
       unfolding hex_line hex_digits then ensure
       hex_no_end o n = rw (e, d, o, n)
 
-      hex_here : (next : ℕ) → in_pairs ds ≡ true → literal input (bytes_of "\n") (first + length ds) ≡ some (tt, next)
-          → hex_line input word at ≡ some (paired ds, next)
+      hex_here : (next : ℕ) → in_pairs ds ≡ true → literal input (bytes_of "\n") (first + length ds) ≡ Some (tt, next)
+          → hex_line input word at ≡ Some (paired ds, next)
       unfolding hex_line hex_digits then ensure
       hex_here next o n = rw (e, d, o, n)
 
@@ -85,22 +85,22 @@ module _ (input word : List ℕ) (at : ℕ) where
       just_pairs z = p.all_digits ∙ ap (λ xs. p.digits ++ xs) z ∙ append-nil p.digits
 
       -- A line feed after the pairs ends the line, which passed two places for each byte.
-      pub hex_ends : (next : ℕ) → literal input (bytes_of "\n") r.next ≡ some (tt, next)
-          → hex_line input word at ≡ some (paired p.digits, next)
+      pub hex_ends : (next : ℕ) → literal input (bytes_of "\n") r.next ≡ Some (tt, next)
+          → hex_line input word at ≡ Some (paired p.digits, next)
       hex_ends next n =
           let all = just_pairs (no_hex_at_end input r.next next n) in
           hex_here p.digits all next (even_in_pairs p.digits p.two_by_two) (rw p.place at n)
 
-      pub two_places : (next : ℕ) → literal input (bytes_of "\n") r.next ≡ some (tt, next)
+      pub two_places : (next : ℕ) → literal input (bytes_of "\n") r.next ≡ Some (tt, next)
           → at + 2 * length (paired p.digits) ≤ next
       two_places next n =
           omega (arith, word_forward, p.place, p.two_by_two, (word_takes input (bytes_of "\n") r.next next n).place)
 
       -- With none there the line does not read.
-      pub hex_ends_not : literal input (bytes_of "\n") r.next ≡ none → hex_line input word at ≡ none
+      pub hex_ends_not : literal input (bytes_of "\n") r.next ≡ None → hex_line input word at ≡ None
       hex_ends_not n = by (leading_hex (drop r.next input)) refl p.one_left
         where
-          by : (rest : List ℕ) → leading_hex (drop r.next input) ≡ rest → length rest ≤ 1 → hex_line input word at ≡ none
+          by : (rest : List ℕ) → leading_hex (drop r.next input) ≡ rest → length rest ≤ 1 → hex_line input word at ≡ None
           by [] z l = hex_no_end p.digits (just_pairs z) (even_in_pairs p.digits p.two_by_two) (rw p.place at n)
           by (d ∷ []) z l =
               let all = p.all_digits ∙ ap (λ xs. p.digits ++ xs) z in

@@ -2,8 +2,8 @@
 -- breaks the form.
 use Prim.Native.Nat.{ℕ, suc}
 use mathlib.Core.Path.{◌≡◌, refl}
-use mathlib.Core.Option.{some, none}
-use Rattle.procap.specs.Outcome.{granted, refused, go_on}
+use Rattle.std.specs.Prelude.{Err, None, Ok, Some}
+use Rattle.procap.specs.Outcome.{go_on}
 use Rattle.procap.specs.Bytes.{Reader}
 use Rattle.procap.specs.declared.answer.Answer.{Answer}
 use Rattle.procap.specs.declared.answer.Answer.TheVariants.{InputMalformed}
@@ -11,21 +11,21 @@ use Rattle.text.specs.LinesInARow.{Lines, ◌>>=◌, at_line, one_line}
 
 module _ {A B : Type 0} (f : A → Lines B) (line at : ℕ) where
   -- From a line that reads one goes on with the next one.
-  pub line_reads : (r : Reader A) (a : A) (next : ℕ) → r at ≡ some (a, next) → (one_line r >>= f) line at ≡ f a (suc line) next
+  pub line_reads : (r : Reader A) (a : A) (next : ℕ) → r at ≡ Some (a, next) → (one_line r >>= f) line at ≡ f a (suc line) next
   unfolding at_line go_on
   line_reads r a next e = rw e refl
 
   -- A line that does not read breaks the form.
-  pub line_breaks : (r : Reader A) → r at ≡ none → (one_line r >>= f) line at ≡ refused (InputMalformed line)
+  pub line_breaks : (r : Reader A) → r at ≡ None → (one_line r >>= f) line at ≡ Err (InputMalformed line)
   unfolding at_line go_on
   line_breaks r e = rw e refl
 
   -- From lines that read one goes on with the line after them.
-  pub lines_read : (r : Lines A) (a : A) (line' next : ℕ) → r line at ≡ granted (a, line', next) → (r >>= f) line at ≡ f a line' next
+  pub lines_read : (r : Lines A) (a : A) (line' next : ℕ) → r line at ≡ Ok (a, line', next) → (r >>= f) line at ≡ f a line' next
   unfolding go_on
   lines_read r a line' next e = rw e refl
 
   -- Where one of several lines breaks the form, it does so of what follows too.
-  pub lines_break : (r : Lines A) (answer : Answer) → r line at ≡ refused answer → (r >>= f) line at ≡ refused answer
+  pub lines_break : (r : Lines A) (answer : Answer) → r line at ≡ Err answer → (r >>= f) line at ≡ Err answer
   unfolding go_on
   lines_break r answer e = rw e refl

@@ -6,7 +6,8 @@ use mathlib.Core.List.{List}
 use native.Mathlib.Omega.{arith}
 use lib.ListN.{length}
 use Rattle.procap.specs.Answers.{number_of}
-use Rattle.procap.specs.Outcome.{Outcome, granted, refused, answer_of, procap_handed}
+use Rattle.std.specs.Prelude.{Err, Ok}
+use Rattle.procap.specs.Outcome.{Outcome, answer_of, procap_handed}
 use Rattle.procap.specs.declared.procap.Procap.{Procap}
 use Rattle.text.specs.Text.{refusal_text}
 use Rattle.text.specs.Calls.{fitting, writing, Wrote}
@@ -22,11 +23,11 @@ module _ (v : Verified) (before : List ℕ) (r : WrittenText) (after : List ℕ)
   pub text_is_printed : number_of v.answer ≡ 0 → Wrote (writing v.procap (length before)) before r after
       → (o : Outcome Procap) → HandsOver o v → Printable o → Wrote (fitting (printed_of o) (length before)) before r after
   unfolding answer_of procap_handed printed_of
-  text_is_printed zero written (granted p) hands writable =
-      let same : writing v.procap (length before) ≡ fitting (printed_of (granted p)) (length before) =
+  text_is_printed zero written (Ok p) hands writable =
+      let same : writing v.procap (length before) ≡ fitting (printed_of (Ok p)) (length before) =
       ap (λ q. writing q (length before)) hands.procap ∙ can_be_written p (length before) writable in
       rw same at written
-  text_is_printed zero written (refused answer) hands refuses =
+  text_is_printed zero written (Err answer) hands refuses =
       let same : number_of v.answer ≡ number_of answer = ap number_of hands.answer in
       absurd (omega (arith, refuses))
 
@@ -34,5 +35,5 @@ module _ (v : Verified) (before : List ℕ) (r : WrittenText) (after : List ℕ)
   pub refusal_is_printed : (number_of v.answer ≡ 0 → ⊥) → Wrote (fitting (refusal_text v.answer) (length before)) before r after
       → (o : Outcome Procap) → HandsOver o v → Printable o → Wrote (fitting (printed_of o) (length before)) before r after
   unfolding answer_of printed_of
-  refusal_is_printed other written (granted p) hands writable = absurd (other (ap number_of hands.answer))
-  refusal_is_printed other written (refused answer) hands refuses = rw hands.answer at written
+  refusal_is_printed other written (Ok p) hands writable = absurd (other (ap number_of hands.answer))
+  refusal_is_printed other written (Err answer) hands refuses = rw hands.answer at written

@@ -1,7 +1,7 @@
 -- No refusal of verify, of the reader and the writer of a text, or of a case has the number of a grant.
 use Prim.Native.Nat.{ℕ, zero, suc, ◌<◌}
 use mathlib.Core.List.{List, []}
-use mathlib.Core.Option.{Option, some, none}
+use Rattle.std.specs.Prelude.{None, Option, Some}
 use native.Mathlib.Decide.{dec_le}
 use native.Mathlib.Omega.{arith}
 use lib.ListN.{length}
@@ -53,8 +53,8 @@ writing_refuses p room =
 -- One line.
 line_refuses : {A : Type 0} (line : ℕ) (o : Option (A × ℕ)) → IfRefused Refuses (at_line line o)
 unfolding at_line
-line_refuses line none = omega arith
-line_refuses line (some x) = tt
+line_refuses line None = omega arith
+line_refuses line (Some x) = tt
 
 module _ (bytes : List ℕ) where
   request_refuses : (line at : ℕ) → IfRefused Refuses (request_lines bytes line at)

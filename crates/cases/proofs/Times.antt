@@ -3,7 +3,7 @@
 use Prim.Native.Nat.{ℕ, ◌≤◌}
 use mathlib.Core.Path.{◌≡◌, subst}
 use mathlib.Core.List.{List}
-use mathlib.Core.Option.{Option, some, none}
+use Rattle.std.specs.Prelude.{None, Option, Some}
 use native.Mathlib.Omega.{arith}
 use Rattle.procap.specs.Times.{latest}
 use Rattle.procap.specs.Bytes.{then}
@@ -25,21 +25,21 @@ time_told o e h = subst (TimeReads o) e h
 
 -- A minus stands for the time before all others; without it a plus for the one after all; and without both there is a moment, or none.
 module _ (bytes : List ℕ) (at : ℕ) where
-  pub minus_here : (next : ℕ) → literal bytes (bytes_of "-") at ≡ some (tt, next) → case_time bytes at ≡ some (MinusInfinity, next)
+  pub minus_here : (next : ℕ) → literal bytes (bytes_of "-") at ≡ Some (tt, next) → case_time bytes at ≡ Some (MinusInfinity, next)
   unfolding case_time first_of sign then
   minus_here next e = rw e
 
-  module _ (e : literal bytes (bytes_of "-") at ≡ none) where
-    pub plus_here : (next : ℕ) → literal bytes (bytes_of "+") at ≡ some (tt, next) → case_time bytes at ≡ some (PlusInfinity, next)
+  module _ (e : literal bytes (bytes_of "-") at ≡ None) where
+    pub plus_here : (next : ℕ) → literal bytes (bytes_of "+") at ≡ Some (tt, next) → case_time bytes at ≡ Some (PlusInfinity, next)
     unfolding case_time first_of sign then
     plus_here next f = rw (e, f)
 
-    module _ (f : literal bytes (bytes_of "+") at ≡ none) where
-      pub moment_here : (k next : ℕ) → number_to bytes latest at ≡ some (k, next) → case_time bytes at ≡ some (Moment k, next)
+    module _ (f : literal bytes (bytes_of "+") at ≡ None) where
+      pub moment_here : (k next : ℕ) → number_to bytes latest at ≡ Some (k, next) → case_time bytes at ≡ Some (Moment k, next)
       unfolding case_time first_of sign moment then
       moment_here k next g = rw (e, f, g)
 
-      pub no_time : number_to bytes latest at ≡ none → case_time bytes at ≡ none
+      pub no_time : number_to bytes latest at ≡ None → case_time bytes at ≡ None
       unfolding case_time first_of sign moment then
       no_time g = rw (e, f, g)
 
@@ -47,21 +47,21 @@ module _ (bytes : List ℕ) (at : ℕ) where
 
 -- A line: its word, its time and its end, each from the place after the one before; without any of them there is none.
 module _ (bytes word : List ℕ) (at : ℕ) where
-  pub time_no_word : literal bytes word at ≡ none → time_line bytes word at ≡ none
+  pub time_no_word : literal bytes word at ≡ None → time_line bytes word at ≡ None
   unfolding time_line then
   time_no_word e = rw e
 
-  module _ (start : ℕ) (e : literal bytes word at ≡ some (tt, start)) where
-    pub time_no_time : case_time bytes start ≡ none → time_line bytes word at ≡ none
+  module _ (start : ℕ) (e : literal bytes word at ≡ Some (tt, start)) where
+    pub time_no_time : case_time bytes start ≡ None → time_line bytes word at ≡ None
     unfolding time_line then
     time_no_time f = rw (e, f)
 
-    module _ (t : Time) (end : ℕ) (f : case_time bytes start ≡ some (t, end)) where
-      pub time_no_end : literal bytes (bytes_of "\n") end ≡ none → time_line bytes word at ≡ none
+    module _ (t : Time) (end : ℕ) (f : case_time bytes start ≡ Some (t, end)) where
+      pub time_no_end : literal bytes (bytes_of "\n") end ≡ None → time_line bytes word at ≡ None
       unfolding time_line then
       time_no_end g = rw (e, f, g)
 
-      pub time_here : (next : ℕ) → literal bytes (bytes_of "\n") end ≡ some (tt, next) → time_line bytes word at ≡ some (t, next)
+      pub time_here : (next : ℕ) → literal bytes (bytes_of "\n") end ≡ Some (tt, next) → time_line bytes word at ≡ Some (t, next)
       unfolding time_line then
       time_here next g = rw (e, f, g)
 

@@ -1,6 +1,6 @@
 -- [Program] What the program prints for its input.
-use Rattle.std.specs.Prelude.{ℕ, List, []}
-use Rattle.procap.specs.Outcome.{Outcome, granted, refused, go_on}
+use Rattle.std.specs.Prelude.{ℕ, List, [], Err, Ok}
+use Rattle.procap.specs.Outcome.{Outcome, go_on}
 use Rattle.procap.specs.declared.procap.Procap.{Procap}
 use Rattle.bl.specs.Calls.{verified}
 use Rattle.text.specs.Text.{text_of, refusal_text}
@@ -15,8 +15,8 @@ checked input =
 
 -- [Program] The text of the procap, or the refusal's number and place.
 unfoldable pub printed_of : Outcome Procap → List ℕ
-printed_of (granted p) = text_of p
-printed_of (refused answer) = refusal_text answer
+printed_of (Ok p) = text_of p
+printed_of (Err answer) = refusal_text answer
 
 -- [Program] What is printed for this input.
 unfoldable pub printed : List ℕ → List ℕ

@@ -1,8 +1,8 @@
 -- [Program] What a case says: a request, certificates with the bytes of their formulas, and the bytes of a proof.
-use Rattle.std.specs.Prelude.{ℕ, zero, suc, ◌+◌, List, [], ◌∷◌, ◌++◌, length}
+use Rattle.std.specs.Prelude.{ℕ, zero, suc, ◌+◌, List, [], ◌∷◌, ◌++◌, length, Ok}
 use Rattle.std.proofs.Math.Decide.{dec_le}
 use Rattle.procap.specs.Writable.{largest_name}
-use Rattle.procap.specs.Outcome.{Outcome, granted, go_on, require}
+use Rattle.procap.specs.Outcome.{Outcome, go_on, require}
 use Rattle.procap.specs.declared.answer.Answer.TheVariants.{InputMalformed}
 use Rattle.procap.specs.declared.time.Time.{Time}
 use Rattle.procap.specs.declared.procap.Request.{Request}
@@ -79,7 +79,7 @@ unfoldable pub case_in : List ℕ → Outcome Case
 case_in bytes =
     go_on (require (InputMalformed 0) (dec_le (length bytes) most_input)) λ _.
     go_on (case_lines bytes 1 0) λ x.
-    granted x.0
+    Ok x.0
 
 -- [D62] The formulas of the groups as one buffer, one after another.
 unfoldable pub buffer_of : List Group → List ℕ

@@ -1,6 +1,5 @@
 -- [Program] What a single line of a case may hold besides a number: a time, bytes, or nothing more at all.
-use Rattle.std.specs.Prelude.{ℕ, ◌+◌, List, length, drop, eqb}
-use Rattle.std.proofs.Math.Option.{Option, some, none}
+use Rattle.std.specs.Prelude.{ℕ, ◌+◌, List, length, drop, eqb, None, Option, Some}
 use Rattle.procap.specs.Times.{latest}
 use Rattle.procap.specs.Bytes.{Reader, ◌>>=◌, give, ensure}
 use Rattle.procap.specs.declared.time.Time.{Time}
@@ -11,8 +10,8 @@ use Rattle.cases.specs.Hex.{leading_hex, in_pairs, paired}
 
 -- What the first reader finds, or else what the second does.
 unfoldable pub first_of : {A : Type 0} → Option (A × ℕ) → Option (A × ℕ) → Option (A × ℕ)
-first_of (some r) o = some r
-first_of none o = o
+first_of (Some r) o = Some r
+first_of None o = o
 
 module _ (bytes : List ℕ) where
   -- A sign that stands for a time.
@@ -41,7 +40,7 @@ module _ (bytes : List ℕ) where
 
   -- All hex digits that stand next.
   unfoldable pub hex_digits : Reader (List ℕ)
-  hex_digits at = let ds = leading_hex (drop at bytes) in some (ds, at + length ds)
+  hex_digits at = let ds = leading_hex (drop at bytes) in Some (ds, at + length ds)
 
   -- [Program; D57] A line with bytes in lower-case hex, possibly none.
   unfoldable pub hex_line : List ℕ → Reader (List ℕ)

@@ -1,7 +1,6 @@
 -- How what the code reads of a case stands to the readers of these pages. What is promised of answering a case does not rest on this.
-use Rattle.std.specs.Prelude.{ℕ, ◌+◌, ◌-◌, ◌*◌, ◌≤◌, ◌<◌, Bool, true, false, ◌≡◌, List, [], ◌∷◌, ◌++◌, length, take, drop}
-use Rattle.std.proofs.Math.Option.{Option, some, none}
-use Rattle.procap.specs.Outcome.{Outcome, granted}
+use Rattle.std.specs.Prelude.{ℕ, ◌+◌, ◌-◌, ◌*◌, ◌≤◌, ◌<◌, Bool, true, false, ◌≡◌, List, [], ◌∷◌, ◌++◌, length, take, drop, None, Ok, Option, Some}
+use Rattle.procap.specs.Outcome.{Outcome}
 use Rattle.procap.specs.declared.time.Time.{Time}
 use Rattle.procap.specs.declared.procap.Request.{Request}
 use Rattle.procap.specs.declared.procap.Procap.{Procap}
@@ -51,11 +50,11 @@ pub record PairsPut (input : List ℕ) (at start : ℕ) (before : List ℕ) (r :
 abbrev pub HexFound : Option (List ℕ × ℕ) → ℕ → ℕ → List ℕ → Bool → ℕ → ℕ → List ℕ → Type 0
 HexFound o at start before true next end after =
     (bs : List ℕ)
-    × (o ≡ some (bs, next))
+    × (o ≡ Some (bs, next))
     × (at + 2 * length bs ≤ next)
     × (end ≡ start + length bs)
     × (after ≡ put_at start bs before)
-HexFound o at start before false next end after = o ≡ none
+HexFound o at start before false next end after = o ≡ None
 
 abbrev pub HexReads : Option (List ℕ × ℕ) → ℕ → ℕ → List ℕ → HexRead → List ℕ → Type 0
 HexReads o at start before r after = HexFound o at start before r.found r.next r.end after
@@ -64,17 +63,17 @@ HexReads o at start before r after = HexFound o at start before r.found r.next r
 
 -- The time and the place that a reader finds, or none.
 abbrev pub TimeReads : Option (Time × ℕ) → TimeRead → Type 0
-TimeReads o (Found t next) = o ≡ some (t, next)
-TimeReads o NoTime = o ≡ none
+TimeReads o (Found t next) = o ≡ Some (t, next)
+TimeReads o NoTime = o ≡ None
 
 -- The lines of a group before its formula, no place of which is before the first.
 abbrev pub HeadingReads : Outcome ((ℕ × Time × Time) × ℕ × ℕ) → ℕ → ℕ → HeadingRead → Type 0
-HeadingReads o line at r = Reads o r.form ((o ≡ granted ((r.by, r.from, r.to), line + 3, r.next)) × (at ≤ r.next))
+HeadingReads o line at r = Reads o r.form ((o ≡ Ok ((r.by, r.from, r.to), line + 3, r.next)) × (at ≤ r.next))
 
 -- The group, its record, and its formula in the buffer.
 pub record GroupFound (o : Outcome (Group × ℕ × ℕ)) (line start : ℕ) (before : List ℕ) (r : GroupRead) (after : List ℕ) : Type 0 where
   pub found : Group
-  pub reads : o ≡ granted (found, line + 4, r.next)
+  pub reads : o ≡ Ok (found, line + 4, r.next)
   pub its_record : r.certificate ≡ record_at start found
   pub end : r.end ≡ start + length found.says
   pub behind : 2 * r.end ≤ r.next
@@ -90,7 +89,7 @@ kept_records rs = take rs.count rs.records
 -- The groups, their records, and their formulas in the buffer.
 pub record GroupsFound (o : Outcome (List Group × ℕ × ℕ)) (count : ℕ) (before : List ℕ) (r : GroupsRead) (after : List ℕ) : Type 0 where
   pub found : List Group
-  pub reads : o ≡ granted (found, first_group_line + 4 * count, r.next)
+  pub reads : o ≡ Ok (found, first_group_line + 4 * count, r.next)
   pub few : r.certificates.count ≤ most_certificates
   pub their_records : kept_records r.certificates ≡ records_from 0 found
   pub end : r.end ≡ length (buffer_of found)
@@ -105,7 +104,7 @@ pub record CaseFound (o : Outcome (Case × ℕ × ℕ)) (r : CaseRead) (bytes : 
   pub found : Case
   pub line : ℕ
   pub next : ℕ
-  pub reads : o ≡ granted (found, line, next)
+  pub reads : o ≡ Ok (found, line, next)
   pub its_request : r.request ≡ found.request
   pub few : r.certificates.count ≤ most_certificates
   pub its_records : kept_records r.certificates ≡ records_from 0 found.groups

@@ -3,7 +3,7 @@
 use Prim.Native.Nat.{ℕ, ◌≤◌}
 use mathlib.Core.Path.{◌≡◌, sym, ◌∙◌}
 use mathlib.Core.List.{List, []}
-use mathlib.Core.Option.{some}
+use Rattle.std.specs.Prelude.{Ok, Some}
 use mathlib.Core.Logic.Iff
 use mathlib.Core.Logic.{◌↔◌}
 use native.Mathlib.Omega.{arith}
@@ -14,7 +14,7 @@ use Rattle.procap.specs.Facts.{Spelled}
 use Rattle.procap.specs.Procaps.{empty_procap}
 use Rattle.procap.specs.Writable.{RequestInForm}
 use Rattle.procap.specs.Answers.{number_of, numbers}
-use Rattle.procap.specs.Outcome.{Outcome, granted}
+use Rattle.procap.specs.Outcome.{Outcome}
 use Rattle.procap.specs.States.{stated}
 use Rattle.procap.specs.declared.answer.Answer.{Answer}
 use Rattle.procap.specs.declared.answer.Answer.TheVariants.{Granted, ProcapMalformed}
@@ -125,7 +125,7 @@ module _ (r : Request) (certificates : List Certificate) (buffer pairs proof : L
       (gives : VerifyGives r certificates buffer pairs proof v) (issued : v.answer ≡ Granted) where
     -- Demand 3, the opening half. At every press, whatever was answered at another one: the procap that verify hands over, shown for its
     -- own request, opens the door exactly where the same proof would be accepted if the blender brought it to the desk.
-    pub opens_exactly_where_direct_answers : (m : ℕ) → m ≤ latest → (state : List ℕ) (σ : List Spelled) → stated state ≡ some σ
+    pub opens_exactly_where_direct_answers : (m : ℕ) → m ≤ latest → (state : List ℕ) (σ : List Spelled) → stated state ≡ Some σ
         → (opened : Answer) → OpenGives v.procap r m state opened
         → (checked : Answer) → DirectGives r certificates buffer pairs proof m state checked
         → (opened ≡ Granted) ↔ (checked ≡ Granted)
@@ -149,7 +149,7 @@ module _ (r : Request) (certificates : List Certificate) (buffer pairs proof : L
     -- Demand 3, the opening half, for the desk firmware. The text that is written of the procap opens the door exactly where the same proof
     -- would be accepted if the blender brought it to the desk: 0 is what the firmware sees then, and only then.
     pub its_text_opens_exactly_where_direct_answers : (before : List ℕ) (w : WrittenText) (after : List ℕ) → WriteGives v.procap before w after
-        → w.answer ≡ Granted → (m : ℕ) → m ≤ latest → (state : List ℕ) (σ : List Spelled) → stated state ≡ some σ
+        → w.answer ≡ Granted → (m : ℕ) → m ≤ latest → (state : List ℕ) (σ : List Spelled) → stated state ≡ Some σ
         → (number : ℕ) → DoorGives (take w.length after) r m state number
         → (checked : Answer) → DirectGives r certificates buffer pairs proof m state checked
         → (number ≡ 0) ↔ (checked ≡ Granted)
@@ -163,10 +163,10 @@ module _ (r : Request) (certificates : List Certificate) (buffer pairs proof : L
 
 -- Demand 3, from the case to the desk. Whatever the program prints for a case, a procap or a refusal, shown at the door for the case's own
 -- request opens it exactly where the case's proof would be accepted if the blender brought it to the desk.
-pub what_is_printed_opens_exactly_where_direct_accepts : (input : List ℕ) (c : Case) → case_in input ≡ granted c
-    → (m : ℕ) → m ≤ latest → (state : List ℕ) → AreBytes state → (σ : List Spelled) → stated state ≡ some σ
+pub what_is_printed_opens_exactly_where_direct_accepts : (input : List ℕ) (c : Case) → case_in input ≡ Ok c
+    → (m : ℕ) → m ≤ latest → (state : List ℕ) → AreBytes state → (σ : List Spelled) → stated state ≡ Some σ
     → (number : ℕ) → DoorGives (printed input) c.request m state number
-    → (number ≡ 0) ↔ (directly c.request (records_from 0 c.groups) (buffer_of c.groups) [] c.proof m state ≡ granted tt)
+    → (number ≡ 0) ↔ (directly c.request (records_from 0 c.groups) (buffer_of c.groups) [] c.proof m state ≡ Ok tt)
 what_is_printed_opens_exactly_where_direct_accepts input c reads m in_range state in_bytes σ states number opens =
     Iff.trans (lets_in_exactly (printed input) c.request m state number opens)
     (printed_opens_exactly input c reads m in_range state in_bytes σ states)

@@ -4,7 +4,7 @@
 use Prim.Native.Nat.{ℕ, ◌/◌, ◌%◌, ◌≤◌, ◌<◌}
 use mathlib.Core.Path.{◌≡◌, refl, sym, ap, ◌∙◌}
 use mathlib.Core.List.{List, []}
-use mathlib.Core.Option.{some}
+use Rattle.std.specs.Prelude.{Err, Ok, Some}
 use mathlib.Core.Logic.Iff
 use mathlib.Core.Logic.{◌↔◌, ◌⊎◌, inl, inr}
 use native.Mathlib.Omega.{arith}
@@ -15,7 +15,7 @@ use Rattle.procap.specs.Facts.{Spelled}
 use Rattle.procap.specs.Procaps.{most_facts}
 use Rattle.procap.specs.Writable.{RequestInForm}
 use Rattle.procap.specs.Answers.{number_of, place_of, numbers}
-use Rattle.procap.specs.Outcome.{Outcome, granted, refused, answer_of}
+use Rattle.procap.specs.Outcome.{Outcome, answer_of}
 use Rattle.procap.specs.States.{stated}
 use Rattle.procap.specs.declared.answer.Answer.{Answer}
 use Rattle.procap.specs.declared.procap.Request.{Request}
@@ -73,20 +73,20 @@ a_call_that_writes_hands_back_a_number o before number after hands =
 -- it: a number that there is, and not 0.
 pub record PrintsRefusal (input : List ℕ) : Type 0 where
   pub answer : Answer
-  pub refuses : checked input ≡ refused answer
+  pub refuses : checked input ≡ Err answer
   pub prints : printed input ≡ refusal_text answer
   pub is_a_number : In (number_of answer) numbers
   pub not_zero : 0 < number_of answer
 
 pub the_program_prints_a_procap_or_a_refusal : (input : List ℕ)
-    → ((p : Procap) × (checked input ≡ granted p) × (printed input ≡ text_of p)) ⊎ PrintsRefusal input
+    → ((p : Procap) × (checked input ≡ Ok p) × (printed input ≡ text_of p)) ⊎ PrintsRefusal input
 unfolding printed printed_of
 the_program_prints_a_procap_or_a_refusal input = by (checked input) refl (checked_refuses input)
   where
     by : (o : Outcome Procap) → checked input ≡ o → IfRefused Refuses o
-        → ((p : Procap) × (checked input ≡ granted p) × (printed input ≡ text_of p)) ⊎ PrintsRefusal input
-    by (granted p) e _ = inl (p, e, ap printed_of e)
-    by (refused answer) e not_zero =
+        → ((p : Procap) × (checked input ≡ Ok p) × (printed input ≡ text_of p)) ⊎ PrintsRefusal input
+    by (Ok p) e _ = inl (p, e, ap printed_of e)
+    by (Err answer) e not_zero =
         inr (record { answer = answer; refuses = e; prints = ap printed_of e; is_a_number = number_is_listed answer; not_zero = not_zero })
 
 -- With room for 1,223 bytes the number is 0, whatever the input, and what is printed stands in front.
@@ -152,7 +152,7 @@ module _ (r : Request) (records buffer pairs proof : List ℕ) where
       (number : ℕ) (after : List ℕ) (gives : OfficeVerifyGives r records buffer pairs proof before number after) where
     -- The text of the procap that is issued, where the number is 0.
     issued_text : {C : Type 0} → number_in number ≡ 0
-        → ((p : Procap) → verified r (records_in records) buffer (pair_numbers pairs) proof ≡ granted p → (text : List ℕ) → writing p (length before) ≡ granted text
+        → ((p : Procap) → verified r (records_in records) buffer (pair_numbers pairs) proof ≡ Ok p → (text : List ℕ) → writing p (length before) ≡ Ok text
         → take (length_in number) after ≡ text → C) → C
     issued_text zero k =
         let (text, grant) = zero_is_a_grant _ before number after gives (verifying_refuses r records buffer pairs proof (length before)) zero in
@@ -192,8 +192,8 @@ module _ (r : Request) (records buffer pairs proof : List ℕ) where
 
 -- From the case to the desk: whatever the program prints for a case, shown at the door for the case's own request, is answered 0 exactly
 -- where the number of the direct check of that case is 0.
-pub what_is_printed_opens_with_0_exactly_where_direct_has_0 : (input : List ℕ) (c : Case) → case_in input ≡ granted c
-    → (m : ℕ) → m ≤ latest → (state : List ℕ) → AreBytes state → (σ : List Spelled) → stated state ≡ some σ
+pub what_is_printed_opens_with_0_exactly_where_direct_has_0 : (input : List ℕ) (c : Case) → case_in input ≡ Ok c
+    → (m : ℕ) → m ≤ latest → (state : List ℕ) → AreBytes state → (σ : List Spelled) → stated state ≡ Some σ
     → (pressed : ℕ) → DoorGives (printed input) c.request m state pressed
     → (checked : Answer) → DirectGives c.request (records_from 0 c.groups) (buffer_of c.groups) [] c.proof m state checked
     → (pressed ≡ 0) ↔ (number_of checked ≡ 0)

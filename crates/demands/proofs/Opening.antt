@@ -3,14 +3,13 @@
 use Prim.Native.Nat.{ℕ, ◌≤◌}
 use mathlib.Core.Path.{◌≡◌, refl, sym, ◌∙◌}
 use mathlib.Core.List.{List}
-use mathlib.Core.Option.{some}
+use Rattle.std.specs.Prelude.{Ok, Some}
 use mathlib.Core.Logic.{◌↔◌}
 use native.Mathlib.Omega.{arith}
 use Rattle.procap.specs.Times.{latest}
 use Rattle.procap.specs.Facts.{Spelled}
 use Rattle.procap.specs.Procaps.{procap_of}
 use Rattle.procap.specs.Writable.{RequestInForm}
-use Rattle.procap.specs.Outcome.{granted}
 use Rattle.procap.specs.States.{stated}
 use Rattle.procap.specs.declared.procap.Request.{Request}
 use Rattle.procap.specs.declared.procap.Procap.{Procap}
@@ -31,14 +30,14 @@ use Rattle.door.proofs.Opening.{opens_exactly}
 
 module _ (r : Request) (records : List Certificate) (buffer pairs proof : List ℕ) (names : RequestInForm r) (in_bytes : AreBytes buffer) (proof_in_bytes : AreBytes proof) where
   -- An issued procap is for the request that was asked.
-  for_its_request : (p : Procap) → verified r records buffer pairs proof ≡ granted p → r ≡ p.request
+  for_its_request : (p : Procap) → verified r records buffer pairs proof ≡ Ok p → r ≡ p.request
   unfolding procap_of
   for_its_request p e = verified_from r records buffer pairs proof p e λ _ _ _ _ _ _ same. rw same refl
 
   -- The door opens to an issued procap, shown for its own request, exactly where the direct check accepts the same proof.
-  pub issued_opens_the_door_exactly_where_direct_accepts : (p : Procap) → verified r records buffer pairs proof ≡ granted p
-      → (m : ℕ) → m ≤ latest → (state : List ℕ) (σ : List Spelled) → stated state ≡ some σ
-      → (opening p r m state ≡ granted tt) ↔ (directly r records buffer pairs proof m state ≡ granted tt)
+  pub issued_opens_the_door_exactly_where_direct_accepts : (p : Procap) → verified r records buffer pairs proof ≡ Ok p
+      → (m : ℕ) → m ≤ latest → (state : List ℕ) (σ : List Spelled) → stated state ≡ Some σ
+      → (opening p r m state ≡ Ok tt) ↔ (directly r records buffer pairs proof m state ≡ Ok tt)
   issued_opens_the_door_exactly_where_direct_accepts p e m in_range state σ reads =
       let by_the_rules = issued_opens_exactly_where_direct_accepts r records buffer pairs proof p e m in_range state in
       let at_the_door = opens_exactly p r m state in (
@@ -55,26 +54,26 @@ module _ (r : Request) (records : List Certificate) (buffer pairs proof : List �
       )
 
   -- An issued procap is written as a text into every buffer with room for 1,223 bytes.
-  pub issued_is_written : (p : Procap) → verified r records buffer pairs proof ≡ granted p → (room : ℕ) → most_text ≤ room
-      → writing p room ≡ granted (text_of p)
+  pub issued_is_written : (p : Procap) → verified r records buffer pairs proof ≡ Ok p → (room : ℕ) → most_text ≤ room
+      → writing p room ≡ Ok (text_of p)
   issued_is_written p e room fits =
       let w = issued_can_be_written r records buffer pairs proof names in_bytes proof_in_bytes p e in
       is_written p room w (omega (arith, at_most_1223 p w))
 
   -- So the door opens to the text that is written of it exactly where the direct check accepts.
-  pub its_text_opens_the_door_exactly_where_direct_accepts : (p : Procap) → verified r records buffer pairs proof ≡ granted p
-      → (room : ℕ) (text : List ℕ) → writing p room ≡ granted text
-      → (m : ℕ) → m ≤ latest → (state : List ℕ) (σ : List Spelled) → stated state ≡ some σ
-      → (opening_text text r m state ≡ granted tt) ↔ (directly r records buffer pairs proof m state ≡ granted tt)
+  pub its_text_opens_the_door_exactly_where_direct_accepts : (p : Procap) → verified r records buffer pairs proof ≡ Ok p
+      → (room : ℕ) (text : List ℕ) → writing p room ≡ Ok text
+      → (m : ℕ) → m ≤ latest → (state : List ℕ) (σ : List Spelled) → stated state ≡ Some σ
+      → (opening_text text r m state ≡ Ok tt) ↔ (directly r records buffer pairs proof m state ≡ Ok tt)
   unfolding opening_text
   its_text_opens_the_door_exactly_where_direct_accepts p e room text written m in_range state σ reads =
       let same = goes_on (reading text) (λ q. opening q r m state) p (written_is_read p room text written) in
       rw same (issued_opens_the_door_exactly_where_direct_accepts p e m in_range state σ reads)
 
   -- It does so at every press, whatever the moment and the state: where the moment is out of range, or the state malformed, both refuse.
-  pub its_text_opens_the_door_at_the_same_presses : (p : Procap) → verified r records buffer pairs proof ≡ granted p
-      → (room : ℕ) (text : List ℕ) → writing p room ≡ granted text → (m : ℕ) (state : List ℕ)
-      → (opening_text text r m state ≡ granted tt) ↔ (directly r records buffer pairs proof m state ≡ granted tt)
+  pub its_text_opens_the_door_at_the_same_presses : (p : Procap) → verified r records buffer pairs proof ≡ Ok p
+      → (room : ℕ) (text : List ℕ) → writing p room ≡ Ok text → (m : ℕ) (state : List ℕ)
+      → (opening_text text r m state ≡ Ok tt) ↔ (directly r records buffer pairs proof m state ≡ Ok tt)
   unfolding opening_text
   its_text_opens_the_door_at_the_same_presses p e room text written m state =
       let same = goes_on (reading text) (λ q. opening q r m state) p (written_is_read p room text written) in

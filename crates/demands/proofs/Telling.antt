@@ -10,7 +10,8 @@ use lib.Seq.{take-append_seam}
 use Rattle.procap.specs.Procaps.{empty_procap}
 use Rattle.procap.specs.Writable.{Writable}
 use Rattle.procap.specs.Answers.{number_of}
-use Rattle.procap.specs.Outcome.{Outcome, granted, refused, answer_of, procap_handed}
+use Rattle.std.specs.Prelude.{Err, Ok}
+use Rattle.procap.specs.Outcome.{Outcome, answer_of, procap_handed}
 use Rattle.procap.specs.declared.answer.Answer.{Answer}
 use Rattle.procap.specs.declared.answer.Answer.TheVariants.{Granted}
 use Rattle.procap.specs.declared.procap.Request.{Request}
@@ -37,27 +38,27 @@ use Rattle.demands.specs.Gives.{VerifyGives, DirectGives, OpenGives, DoorGives, 
 -- ── Outcomes ──
 
 -- What answers 0 is a grant, and a grant answers 0.
-pub granted_answer : {A : Type 0} (o : Outcome A) → IfRefused Refuses o → answer_of o ≡ Granted → (a : A) × (o ≡ granted a)
+pub granted_answer : {A : Type 0} (o : Outcome A) → IfRefused Refuses o → answer_of o ≡ Granted → (a : A) × (o ≡ Ok a)
 unfolding answer_of
-granted_answer (granted a) h e = (a, refl)
-granted_answer (refused answer) h e = let z : number_of answer ≡ 0 = ap number_of e in absurd (omega arith)
+granted_answer (Ok a) h e = (a, refl)
+granted_answer (Err answer) h e = let z : number_of answer ≡ 0 = ap number_of e in absurd (omega arith)
 
-pub answer_granted : {A : Type 0} (o : Outcome A) (a : A) → o ≡ granted a → answer_of o ≡ Granted
+pub answer_granted : {A : Type 0} (o : Outcome A) (a : A) → o ≡ Ok a → answer_of o ≡ Granted
 unfolding answer_of
 answer_granted o a e = ap answer_of e
 
 -- A grant hands over its procap, and a refusal the empty one.
-pub handed_of_grant : (o : Outcome Procap) (p : Procap) → o ≡ granted p → procap_handed o ≡ p
+pub handed_of_grant : (o : Outcome Procap) (p : Procap) → o ≡ Ok p → procap_handed o ≡ p
 unfolding procap_handed
 handed_of_grant o p e = ap procap_handed e
 
 pub handed_of_refusal : (o : Outcome Procap) → (answer_of o ≡ Granted → ⊥) → procap_handed o ≡ empty_procap
 unfolding answer_of procap_handed
-handed_of_refusal (granted p) n = absurd (n refl)
-handed_of_refusal (refused answer) n = refl
+handed_of_refusal (Ok p) n = absurd (n refl)
+handed_of_refusal (Err answer) n = refl
 
 -- A grant leaves its text at the front of the buffer, and a refusal leaves the buffer as it was and tells no length.
-pub in_front : (o : Outcome (List ℕ)) (text before : List ℕ) (w : WrittenText) (after : List ℕ) → Wrote o before w after → o ≡ granted text
+pub in_front : (o : Outcome (List ℕ)) (text before : List ℕ) (w : WrittenText) (after : List ℕ) → Wrote o before w after → o ≡ Ok text
     → take w.length after ≡ text
 unfolding length_given buffer_left
 in_front o text before w after gives e = rw (gives.length_told, gives.buffer, e) (take-append_seam text (drop (length text) before))
@@ -65,16 +66,16 @@ in_front o text before w after gives e = rw (gives.length_told, gives.buffer, e)
 pub left_of_refusal : (o : Outcome (List ℕ)) (buffer : List ℕ) → (answer_of o ≡ Granted → ⊥)
     → (buffer_left o buffer ≡ buffer) × (length_given o ≡ 0)
 unfolding answer_of length_given buffer_left
-left_of_refusal (granted text) buffer n = absurd (n refl)
-left_of_refusal (refused answer) buffer n = (refl, refl)
+left_of_refusal (Ok text) buffer n = absurd (n refl)
+left_of_refusal (Err answer) buffer n = (refl, refl)
 
 -- So an answer tells whether something was granted, and with a procap it tells which.
 answer_tells : (o : Outcome (Unit {0})) → IfRefused Refuses o → (answer : Answer) → answer ≡ answer_of o
-    → (answer ≡ Granted) ↔ (o ≡ granted tt)
+    → (answer ≡ Granted) ↔ (o ≡ Ok tt)
 answer_tells o h answer told = (λ e. (granted_answer o h (sym told ∙ e)).1, λ e. told ∙ answer_granted o tt e)
 
 procap_tells : (o : Outcome Procap) → IfRefused Refuses o → (answer : Answer) (p : Procap) → answer ≡ answer_of o → p ≡ procap_handed o
-    → (answer ≡ Granted) ↔ (o ≡ granted p)
+    → (answer ≡ Granted) ↔ (o ≡ Ok p)
 procap_tells o h answer p told handed = (
   λ e. let (q, grant) = granted_answer o h (sym told ∙ e) in rw (handed ∙ handed_of_grant o q grant) grant,
   λ e. told ∙ answer_granted o p e,
@@ -107,7 +108,7 @@ module _ (r : Request) (records : List Certificate) (buffer pairs proof : List �
 
 module _ (r : Request) (certificates : List Certificate) (buffer pairs proof : List ℕ) where
   -- A press that is accepted has a moment in range and a state that is well formed: it is one somewhere.
-  pub accepted_there : (m : ℕ) (state : List ℕ) → AreBytes state → directly r certificates buffer pairs proof m state ≡ granted tt
+  pub accepted_there : (m : ℕ) (state : List ℕ) → AreBytes state → directly r certificates buffer pairs proof m state ≡ Ok tt
       → AcceptedSomewhere r certificates buffer pairs proof
   accepted_there m state in_bytes accepts =
       let derived = (direct_accepts_exactly_derivations r certificates buffer pairs proof m state).0 accepts in
@@ -123,12 +124,12 @@ module _ (r : Request) (certificates : List Certificate) (buffer pairs proof : L
 
   -- The direct check answers 0 exactly when it accepts.
   pub accepts_exactly : (m : ℕ) (state : List ℕ) (answer : Answer) → DirectGives r certificates buffer pairs proof m state answer
-      → (answer ≡ Granted) ↔ (directly r certificates buffer pairs proof m state ≡ granted tt)
+      → (answer ≡ Granted) ↔ (directly r certificates buffer pairs proof m state ≡ Ok tt)
   accepts_exactly m state answer gives = answer_tells _ (directly_refuses r certificates buffer pairs proof m state) answer gives
 
   -- Verify answers 0 exactly when it issues the procap that it hands over.
   pub issues_exactly : (v : Verified) → VerifyGives r certificates buffer pairs proof v
-      → (v.answer ≡ Granted) ↔ (verified r certificates buffer pairs proof ≡ granted v.procap)
+      → (v.answer ≡ Granted) ↔ (verified r certificates buffer pairs proof ≡ Ok v.procap)
   issues_exactly v gives =
       procap_tells _ (verified_refuses r certificates buffer pairs proof) v.answer v.procap gives.answer gives.procap
 
@@ -142,12 +143,12 @@ module _ (r : Request) (certificates : List Certificate) (buffer pairs proof : L
 -- ── Texts ──
 
 -- The reader answers 0 exactly when the text says the procap that it hands over.
-pub reads_exactly : (text : List ℕ) (v : ReadText) → ReadGives text v → (v.answer ≡ Granted) ↔ (reading text ≡ granted v.procap)
+pub reads_exactly : (text : List ℕ) (v : ReadText) → ReadGives text v → (v.answer ≡ Granted) ↔ (reading text ≡ Ok v.procap)
 reads_exactly text v gives = procap_tells _ (reading_refuses text) v.answer v.procap gives.answer gives.procap
 
 module _ (p : Procap) (before : List ℕ) (w : WrittenText) (after : List ℕ) (gives : WriteGives p before w after) where
   -- The writer answers 0 exactly when it gives what stands there.
-  pub writes_exactly : (w.answer ≡ Granted) ↔ (writing p (length before) ≡ granted (take w.length after))
+  pub writes_exactly : (w.answer ≡ Granted) ↔ (writing p (length before) ≡ Ok (take w.length after))
   writes_exactly = (
     λ e.
         let (text, grant) = granted_answer _ (writing_refuses p (length before)) (sym gives.answer ∙ e) in
@@ -159,7 +160,7 @@ module _ (p : Procap) (before : List ℕ) (w : WrittenText) (after : List ℕ) (
 
 -- To a procap that can be written the door answers 0 exactly when it opens: what it answers to the procap's text, it answers to the procap.
 pub opens_exactly : (p : Procap) → Writable p → (r : Request) (m : ℕ) (state : List ℕ) (answer : Answer) → OpenGives p r m state answer
-    → (answer ≡ Granted) ↔ (opening p r m state ≡ granted tt)
+    → (answer ≡ Granted) ↔ (opening p r m state ≡ Ok tt)
 unfolding opening_text
 opens_exactly p w r m state answer gives =
     let says = written_is_read p _ (text_of p) (is_written p (length (text_of p)) w (omega arith)) in
@@ -169,5 +170,5 @@ opens_exactly p w r m state answer gives =
 
 -- The firmware sees 0 exactly when the door opens to the text.
 pub lets_in_exactly : (text : List ℕ) (r : Request) (m : ℕ) (state : List ℕ) (number : ℕ) → DoorGives text r m state number
-    → (number ≡ 0) ↔ (opening_text text r m state ≡ granted tt)
+    → (number ≡ 0) ↔ (opening_text text r m state ≡ Ok tt)
 lets_in_exactly text r m state number gives = rw gives (zero_exactly_when_open text r m state)

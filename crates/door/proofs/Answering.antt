@@ -9,7 +9,8 @@ use lib.ListN.{length}
 use Rattle.procap.specs.Facts.{Spelled, spelled}
 use Rattle.procap.specs.Procaps.{listed, most_facts}
 use Rattle.procap.specs.Answers.{number_of, place_of}
-use Rattle.procap.specs.Outcome.{Outcome, granted, refused, answer_of}
+use Rattle.std.specs.Prelude.{Err, Ok}
+use Rattle.procap.specs.Outcome.{Outcome, answer_of}
 use Rattle.procap.specs.Deciding.{writable?, request?, holds_at?}
 use Rattle.procap.specs.declared.answer.Answer.{Answer}
 use Rattle.procap.specs.declared.answer.Answer.TheVariants.{RequestDiffers, MomentOutside, FactMissing, ProcapMalformed}
@@ -67,18 +68,18 @@ text_refuses text r m state =
 -- The place of what the door answers.
 small_place : (x : Outcome (Unit {0})) → RefusesWell x → place_of (answer_of x) < most_facts
 unfolding answer_of
-small_place (granted u) h = omega arith
-small_place (refused answer) h = h.1
+small_place (Ok u) h = omega arith
+small_place (Err answer) h = h.1
 
 pub places_are_small : (text : List ℕ) (r : Request) (m : ℕ) (state : List ℕ) → place_of (answer_of (opening_text text r m state)) < most_facts
 places_are_small text r m state = small_place _ (text_refuses text r m state)
 
 -- What is handed to C is 0 exactly when the door opens.
 pub zero_exactly_when_open : (text : List ℕ) (r : Request) (m : ℕ) (state : List ℕ)
-    → (packed (answer_of (opening_text text r m state)) ≡ 0) ↔ (opening_text text r m state ≡ granted tt)
+    → (packed (answer_of (opening_text text r m state)) ≡ 0) ↔ (opening_text text r m state ≡ Ok tt)
 unfolding answer_of
 zero_exactly_when_open text r m state = (is_open _ (text_refuses text r m state), λ e. rw e refl)
   where
-    is_open : (x : Outcome (Unit {0})) → RefusesWell x → packed (answer_of x) ≡ 0 → x ≡ granted tt
-    is_open (granted u) h e = refl
-    is_open (refused answer) h e = absurd (omega (arith, h.0))
+    is_open : (x : Outcome (Unit {0})) → RefusesWell x → packed (answer_of x) ≡ 0 → x ≡ Ok tt
+    is_open (Ok u) h e = refl
+    is_open (Err answer) h e = absurd (omega (arith, h.0))

@@ -3,7 +3,7 @@
 use Prim.Native.Nat.{ℕ, ◌≤◌}
 use mathlib.Core.Path.{◌≡◌, sym, ap, refl, ◌∙◌}
 use mathlib.Core.List.{List}
-use mathlib.Core.Option.{some}
+use Rattle.std.specs.Prelude.{Err, Ok, Some}
 use native.Mathlib.Decide.{dec_le}
 use native.Mathlib.Omega.{arith}
 use Rattle.procap.specs.Times.{latest}
@@ -11,7 +11,7 @@ use Rattle.procap.specs.Facts.{Spelled}
 use Rattle.procap.specs.Procaps.{listed}
 use Rattle.procap.specs.Writable.{Writable}
 use Rattle.procap.specs.Answers.{number_of}
-use Rattle.procap.specs.Outcome.{Outcome, granted, refused, go_on, answer_of}
+use Rattle.procap.specs.Outcome.{Outcome, go_on, answer_of}
 use Rattle.procap.specs.States.{stated}
 use Rattle.procap.specs.Deciding.{writable?, request?}
 use Rattle.procap.specs.declared.answer.Answer.{Answer}
@@ -26,13 +26,13 @@ use Rattle.door.proofs.Answering.{RefusesWell, before_refuses}
 pub stays_refused : {A B : Type 0} (x : Outcome A) (f : A → Outcome B) (answer : Answer) → answer ≡ answer_of x → (number_of answer ≡ 0 → ⊥)
     → answer ≡ answer_of (go_on x f)
 unfolding go_on answer_of
-stays_refused (granted a) f answer e n = absurd (n (ap number_of e))
-stays_refused (refused b) f answer e n = e
+stays_refused (Ok a) f answer e n = absurd (n (ap number_of e))
+stays_refused (Err b) f answer e n = e
 
 module _ (asked : Request) (from to : ℕ) (r : Request) (m : ℕ) (state : List ℕ) where
   -- Where nothing comes before the facts, each test was passed, and the facts are looked for in what the state says.
-  pub was_passed : {C : Type 0} (σ : List Spelled) → before_facts asked from to r m state ≡ granted σ
-      → (m ≤ latest → stated state ≡ some σ → r ≡ asked → from ≤ m → m ≤ to → C) → C
+  pub was_passed : {C : Type 0} (σ : List Spelled) → before_facts asked from to r m state ≡ Ok σ
+      → (m ≤ latest → stated state ≡ Some σ → r ≡ asked → from ≤ m → m ≤ to → C) → C
   unfolding before_facts
   was_passed σ e k =
       went_on _ _ _ e λ τ e₁ e.
@@ -40,12 +40,12 @@ module _ (asked : Request) (from to : ℕ) (r : Request) (m : ℕ) (state : List
       went_on _ _ _ e λ w e₃ e.
       went_on _ _ _ e λ x e₄ e₅.
       press_read m state τ e₁ λ in_range reads.
-      k in_range (reads ∙ ap some (same_grant e₅)) (was_so RequestDiffers (request? r asked) v e₂)
+      k in_range (reads ∙ ap Some (same_grant e₅)) (was_so RequestDiffers (request? r asked) v e₂)
       (was_so MomentOutside (dec_le from m) w e₃) (was_so MomentOutside (dec_le m to) x e₄)
 
   -- And where each is passed, nothing does.
-  pub is_passed : (σ : List Spelled) → m ≤ latest → stated state ≡ some σ → r ≡ asked → from ≤ m → m ≤ to
-      → before_facts asked from to r m state ≡ granted σ
+  pub is_passed : (σ : List Spelled) → m ≤ latest → stated state ≡ Some σ → r ≡ asked → from ≤ m → m ≤ to
+      → before_facts asked from to r m state ≡ Ok σ
   unfolding before_facts go_on
   is_passed σ in_range reads own since until =
       rw (reads_press m state σ in_range reads)
@@ -54,13 +54,13 @@ module _ (asked : Request) (from to : ℕ) (r : Request) (m : ℕ) (state : List
 
   -- Nothing comes before the facts where the answer's number is 0.
   left : (early : Answer) → early ≡ answer_of (before_facts asked from to r m state) → number_of early ≡ 0
-      → (σ : List Spelled) × (before_facts asked from to r m state ≡ granted σ)
+      → (σ : List Spelled) × (before_facts asked from to r m state ≡ Ok σ)
   unfolding answer_of
   left early e zero = by (before_facts asked from to r m state) (before_refuses asked from to r m state) e
     where
-      by : (x : Outcome (List Spelled)) → RefusesWell x → early ≡ answer_of x → (σ : List Spelled) × (x ≡ granted σ)
-      by (granted σ) h e = (σ, refl)
-      by (refused answer) h e = let same = sym zero ∙ ap number_of e in absurd (omega (arith, h.0, same))
+      by : (x : Outcome (List Spelled)) → RefusesWell x → early ≡ answer_of x → (σ : List Spelled) × (x ≡ Ok σ)
+      by (Ok σ) h e = (σ, refl)
+      by (Err answer) h e = let same = sym zero ∙ ap number_of e in absurd (omega (arith, h.0, same))
 
 module _ (p : Procap) (w : Writable p) (r : Request) (m : ℕ) (state : List ℕ) where
   -- A procap that can be written leaves the door to what comes before the facts, and then to these.

@@ -3,7 +3,7 @@
 use Prim.Native.Nat.{ℕ, suc, ◌+◌, ◌≤◌, ◌<◌}
 use mathlib.Core.Path.{◌≡◌, refl, sym, ap, ◌∙◌}
 use mathlib.Core.List.{List, ◌∷◌}
-use mathlib.Core.Option.{some}
+use Rattle.std.specs.Prelude.{Some}
 use native.Mathlib.Numerals.{add-one}
 use native.Mathlib.Omega.{arith}
 use lib.ListN.{length, get_or, take, drop, drop_of_length-le}
@@ -28,14 +28,14 @@ use Rattle.door.specs.Door.{each_holds, NamesMissing}
 
 -- The fact holds in bytes that are a state, or does not.
 abbrev pub Holding : ℕ → List ℕ → Spelled → Type 0
-Holding m state f = (σ : List Spelled) → stated state ≡ some σ → HoldsAt m σ f
+Holding m state f = (σ : List Spelled) → stated state ≡ Some σ → HoldsAt m σ f
 
 abbrev pub NotHolding : ℕ → List ℕ → Spelled → Type 0
-NotHolding m state f = (σ : List Spelled) → stated state ≡ some σ → HoldsAt m σ f → ⊥
+NotHolding m state f = (σ : List Spelled) → stated state ≡ Some σ → HoldsAt m σ f → ⊥
 
 -- The first i facts hold, so that the answer is that of the others.
 abbrev pub Passed : ℕ → List ℕ → List Spelled → ℕ → Type 0
-Passed m state fs i = (σ : List Spelled) → stated state ≡ some σ → each_holds m σ 0 fs ≡ each_holds m σ i (drop i fs)
+Passed m state fs i = (σ : List Spelled) → stated state ≡ Some σ → each_holds m σ 0 fs ≡ each_holds m σ i (drop i fs)
 
 -- At the beginning none is passed.
 pub none_passed : (m : ℕ) (state : List ℕ) (fs : List Spelled) → Passed m state fs 0

@@ -4,7 +4,8 @@ use Prim.Native.Nat.{ℕ, suc, ◌≤◌, ◌<◌}
 use mathlib.Core.Bool.{Bool, false}
 use mathlib.Core.Path.{◌≡◌, refl, sym, ap, ◌∙◌}
 use mathlib.Core.List.{List}
-use mathlib.Core.Option.{Option, some, none, none-ne-some}
+use Rattle.std.proofs.lemmas.Option.{none-some}
+use Rattle.std.specs.Prelude.{None, Option, Some}
 use lib.ListN.{length}
 use lib.Dec.{leb}
 use Rattle.procap.specs.Tells.{Tells}
@@ -24,40 +25,40 @@ use Rattle.state.proofs.Passes.{FactsRead, no_facts_read, wanted_read, other_rea
 
 -- If the bytes are a state, none of its facts before a place is the wanted one.
 pub record NoneBefore (bytes : List ℕ) (wanted : Spelled) (at : ℕ) : Type 0 where
-  pub passed : (σ : List Spelled) → stated bytes ≡ some σ → FactsRead bytes wanted false at
+  pub passed : (σ : List Spelled) → stated bytes ≡ Some σ → FactsRead bytes wanted false at
 
 pub none_before : (bytes : List ℕ) (wanted : Spelled) → NoneBefore bytes wanted 0
 none_before bytes wanted = record { passed = λ σ s. no_facts_read bytes wanted }
 
 -- What stands among the first values stands among all.
-in_all : {A : Type 0} (x : A) (xs : List A) (rest : Option (List A × ℕ)) (ys : List A) (e : ℕ) → led_by xs rest ≡ some (ys, e) → In x xs → In x ys
+in_all : {A : Type 0} (x : A) (xs : List A) (rest : Option (List A × ℕ)) (ys : List A) (e : ℕ) → led_by xs rest ≡ Some (ys, e) → In x xs → In x ys
 unfolding led_by
-in_all x xs none ys e h i = absurd (none-ne-some (ys, e) h)
-in_all x xs (some r) ys e h i = rw (same_read _ refl h).0 at (in_more x xs r.0 i)
+in_all x xs None ys e h i = absurd (none-some (ys, e) h)
+in_all x xs (Some r) ys e h i = rw (same_read _ refl h).0 at (in_more x xs r.0 i)
 
 module _ (bytes : List ℕ) (wanted : Spelled) (at : ℕ) (h : NoneBefore bytes wanted at) where
-  module _ (σ : List Spelled) (s : stated bytes ≡ some σ) where
+  module _ (σ : List Spelled) (s : stated bytes ≡ Some σ) where
     -- The facts of a state are read up to its end.
-    all_said : facts bytes (suc (length bytes)) 0 ≡ some (σ, length bytes)
+    all_said : facts bytes (suc (length bytes)) 0 ≡ Some (σ, length bytes)
     unfolding stated whole
     all_said =
-        picked (leb (length bytes) most_state_bytes) _ none (some σ) (none-ne-some σ) s λ _ same.
+        picked (leb (length bytes) most_state_bytes) _ None (Some σ) (none-some σ) s λ _ same.
         at_the_end bytes (facts bytes (suc (length bytes)) 0) σ same
 
     -- So before the end there is a next one.
-    next_fact : at < length bytes → (f : Spelled) × (e : ℕ) × (fact bytes at ≡ some (f, e))
+    next_fact : at < length bytes → (f : Spelled) × (e : ℕ) × (fact bytes at ≡ Some (f, e))
     next_fact l = by (fact bytes at) refl
       where
-        by : (o : Option (Spelled × ℕ)) → fact bytes at ≡ o → (f : Spelled) × (e : ℕ) × (fact bytes at ≡ some (f, e))
-        by none m = absurd (not_read _ (fact_missing_read bytes wanted false at (h.passed σ s) l m) all_said)
-        by (some r) m = (r.0, r.1, m)
+        by : (o : Option (Spelled × ℕ)) → fact bytes at ≡ o → (f : Spelled) × (e : ℕ) × (fact bytes at ≡ Some (f, e))
+        by None m = absurd (not_read _ (fact_missing_read bytes wanted false at (h.passed σ s) l m) all_said)
+        by (Some r) m = (r.0, r.1, m)
 
     -- It has a predicate.
-    pub predicate_there : at < length bytes → number bytes 2 at ≡ none → ⊥
+    pub predicate_there : at < length bytes → number bytes 2 at ≡ None → ⊥
     predicate_there l m = let (f, e, r) = next_fact l in not_read (fact bytes at) (no_predicate bytes at m) r
 
     -- Where it is the wanted one, that stands in the state.
-    pub next_is_wanted : at < length bytes → ((f : Spelled) (e : ℕ) → fact bytes at ≡ some (f, e) → wanted ≡ f) → In wanted σ
+    pub next_is_wanted : at < length bytes → ((f : Spelled) (e : ℕ) → fact bytes at ≡ Some (f, e) → wanted ≡ f) → In wanted σ
     next_is_wanted l is =
         let (f, e, r) = next_fact l in
         let more = wanted_read bytes wanted false at (h.passed σ s) f e l r (sym (is f e r)) in
@@ -71,8 +72,8 @@ module _ (bytes : List ℕ) (wanted : Spelled) (at : ℕ) (h : NoneBefore bytes 
         read.told (rw same.0 at i)
 
   -- Where the next fact is another one, none up to its end is the wanted one.
-  pub next_is_another : at < length bytes → (next : ℕ) → ((f : Spelled) (e : ℕ) → fact bytes at ≡ some (f, e) → wanted ≡ f → ⊥)
-      → ((f : Spelled) (e : ℕ) → fact bytes at ≡ some (f, e) → next ≡ e) → NoneBefore bytes wanted next
+  pub next_is_another : at < length bytes → (next : ℕ) → ((f : Spelled) (e : ℕ) → fact bytes at ≡ Some (f, e) → wanted ≡ f → ⊥)
+      → ((f : Spelled) (e : ℕ) → fact bytes at ≡ Some (f, e) → next ≡ e) → NoneBefore bytes wanted next
   next_is_another l next differs ends = record {
     passed = λ σ s.
         let (f, e, r) = next_fact σ s l in
@@ -80,8 +81,8 @@ module _ (bytes : List ℕ) (wanted : Spelled) (at : ℕ) (h : NoneBefore bytes 
   }
 
 -- A fact with another predicate is another fact, whatever the moment.
-pub other_predicate : (bytes : List ℕ) (at p place : ℕ) → number bytes 2 at ≡ some (p, place) → (w : Fact) (m : ℕ) → (p ≡ w.predicate → ⊥)
-    → (f : Spelled) (e : ℕ) → fact bytes at ≡ some (f, e) → spelled_at_moment m (spelled w) ≡ f → ⊥
+pub other_predicate : (bytes : List ℕ) (at p place : ℕ) → number bytes 2 at ≡ Some (p, place) → (w : Fact) (m : ℕ) → (p ≡ w.predicate → ⊥)
+    → (f : Spelled) (e : ℕ) → fact bytes at ≡ Some (f, e) → spelled_at_moment m (spelled w) ≡ f → ⊥
 unfolding spelled spelled_at_moment
 other_predicate bytes at p place r w m n f e h same =
     let read = same_read (number bytes 2 at) (fact_parts bytes at f e h).predicate_reads r in
@@ -89,5 +90,5 @@ other_predicate bytes at p place r w m n f e h same =
 
 -- A flag that tells whether the fact that was read at a place is the wanted one tells it of the fact there.
 pub same_there : (bytes : List ℕ) (at : ℕ) (w g : Fact) (m next : ℕ) (b : Bool) → Tells b (spelled (fact_at_moment m w) ≡ spelled g)
-    → fact bytes at ≡ some (spelled g, next) → (f : Spelled) (e : ℕ) → fact bytes at ≡ some (f, e) → Tells b (spelled_at_moment m (spelled w) ≡ f)
+    → fact bytes at ≡ Some (spelled g, next) → (f : Spelled) (e : ℕ) → fact bytes at ≡ Some (f, e) → Tells b (spelled_at_moment m (spelled w) ≡ f)
 same_there bytes at w g m next b t r f e h = rw (← (same_read (fact bytes at) r h).0, ← spelled_put m w) t

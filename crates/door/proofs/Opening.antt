@@ -7,7 +7,8 @@ use mathlib.Core.Logic.{◌↔◌}
 use Rattle.procap.specs.Lists.{All}
 use Rattle.procap.specs.Facts.{Spelled}
 use Rattle.procap.specs.Procaps.{listed, HoldsAt}
-use Rattle.procap.specs.Outcome.{granted, go_on}
+use Rattle.std.specs.Prelude.{Ok}
+use Rattle.procap.specs.Outcome.{go_on}
 use Rattle.procap.specs.Deciding.{writable?, holds_at?}
 use Rattle.procap.specs.declared.answer.Answer.TheVariants.{FactMissing, ProcapMalformed}
 use Rattle.procap.specs.declared.procap.Request.{Request}
@@ -19,20 +20,20 @@ use Rattle.door.proofs.BeforeFacts.{was_passed, is_passed}
 
 module _ (m : ℕ) (σ : List Spelled) where
   -- Where no fact is missing, each holds, and the other way round.
-  none_missing : (i : ℕ) (fs : List Spelled) → each_holds m σ i fs ≡ granted tt → All (HoldsAt m σ) fs
+  none_missing : (i : ℕ) (fs : List Spelled) → each_holds m σ i fs ≡ Ok tt → All (HoldsAt m σ) fs
   unfolding each_holds All
   none_missing i [] e = tt
   none_missing i (f ∷ fs) e =
       went_on _ _ _ e λ u e₁ e₂.
       (was_so (FactMissing i) (holds_at? m σ f) u e₁, none_missing (suc i) fs e₂)
 
-  all_there : (i : ℕ) (fs : List Spelled) → All (HoldsAt m σ) fs → each_holds m σ i fs ≡ granted tt
+  all_there : (i : ℕ) (fs : List Spelled) → All (HoldsAt m σ) fs → each_holds m σ i fs ≡ Ok tt
   unfolding each_holds All
   all_there i [] h = refl
   all_there i (f ∷ fs) h = rw (goes_on _ (λ _. each_holds m σ (suc i) fs) tt (is_so (FactMissing i) (holds_at? m σ f) h.0)) (all_there (suc i) fs h.1)
 
 module _ (p : Procap) (r : Request) (m : ℕ) (state : List ℕ) where
-  opened : opening p r m state ≡ granted tt → Opens p r m state
+  opened : opening p r m state ≡ Ok tt → Opens p r m state
   unfolding opening
   opened e =
       went_on _ _ _ e λ u e₁ e.
@@ -47,7 +48,7 @@ module _ (p : Procap) (r : Request) (m : ℕ) (state : List ℕ) where
         satisfied = record { since = since; until = until; facts_hold = none_missing m σ 0 (listed p) e₃ };
       }
 
-  opens : Opens p r m state → opening p r m state ≡ granted tt
+  opens : Opens p r m state → opening p r m state ≡ Ok tt
   unfolding opening go_on
   opens o =
       let σ = o.facts in
@@ -57,5 +58,5 @@ module _ (p : Procap) (r : Request) (m : ℕ) (state : List ℕ) where
       (all_there m σ 0 (listed p) s.facts_hold))
 
   -- The door opens exactly when the request is the procap's own and the procap is satisfied, for a procap that can be written, a moment in range and a state that is well formed.
-  pub opens_exactly : (opening p r m state ≡ granted tt) ↔ Opens p r m state
+  pub opens_exactly : (opening p r m state ≡ Ok tt) ↔ Opens p r m state
   opens_exactly = (opened, opens)

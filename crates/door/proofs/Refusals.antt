@@ -2,7 +2,7 @@
 use Prim.Native.Nat.{ℕ, ◌≤◌, ◌<◌}
 use mathlib.Core.Path.{◌≡◌, refl}
 use mathlib.Core.List.{List}
-use mathlib.Core.Option.{Option, some, none}
+use Rattle.std.specs.Prelude.{None, Option, Some}
 use native.Mathlib.Decide.{dec_le}
 use native.Mathlib.Omega.{arith}
 use Rattle.procap.specs.Times.{latest}
@@ -21,12 +21,12 @@ use Rattle.door.specs.Door.{before_facts, opening}
 use Rattle.door.proofs.BeforeFacts.{is_passed}
 
 -- Bytes that are no state say nothing.
-says_nothing : (state : List ℕ) → (WellFormed state → ⊥) → stated state ≡ none
+says_nothing : (state : List ℕ) → (WellFormed state → ⊥) → stated state ≡ None
 says_nothing state n = by (stated state) refl
   where
-    by : (o : Option (List Spelled)) → stated state ≡ o → stated state ≡ none
-    by none e = e
-    by (some σ) e = absurd (n (σ, e))
+    by : (o : Option (List Spelled)) → stated state ≡ o → stated state ≡ None
+    by None e = e
+    by (Some σ) e = absurd (n (σ, e))
 
 -- 12
 pub unwritable : (p : Procap) (r : Request) (m : ℕ) (state : List ℕ) → (Writable p → ⊥) → ProcapMalformed ≡ answer_of (opening p r m state)

@@ -3,13 +3,13 @@
 use Prim.Native.Nat.{ℕ, ◌<◌}
 use mathlib.Core.Path.{◌≡◌, refl, sym, ap, ◌∙◌}
 use mathlib.Core.List.{List}
-use mathlib.Core.Option.{Option, some, none}
+use Rattle.std.specs.Prelude.{Err, None, Ok, Option, Some}
 use native.Mathlib.Omega.{arith}
 use Rattle.procap.specs.Facts.{Spelled}
 use Rattle.procap.specs.Procaps.{procap_of}
 use Rattle.procap.specs.Writable.{Writable}
 use Rattle.procap.specs.Answers.{number_of, place_of}
-use Rattle.procap.specs.Outcome.{granted, refused, go_on, or_else, answer_of, procap_handed}
+use Rattle.procap.specs.Outcome.{go_on, or_else, answer_of, procap_handed}
 use Rattle.procap.specs.declared.answer.Answer.{Answer}
 use Rattle.procap.specs.declared.answer.Answer.TheVariants.{ProcapMalformed}
 use Rattle.procap.specs.declared.procap.Request.{Request}
@@ -33,13 +33,13 @@ module _ (text : List ℕ) (answer : Answer) (given : answer ≡ answer_of (read
 
   module _ (p : Procap) (handed : p ≡ procap_handed (reading text)) (zero : number_of answer ≡ 0) where
     -- Where it is 0 the text says the procap that is handed over.
-    says : text_in text ≡ some p
+    says : text_in text ≡ Some p
     unfolding reading or_else answer_of procap_handed
     says = by (text_in text) given handed
       where
-        by : (o : Option Procap) → answer ≡ answer_of (or_else ProcapMalformed o) → p ≡ procap_handed (or_else ProcapMalformed o) → o ≡ some p
-        by none e f = let wrong = sym zero ∙ ap number_of e in absurd (omega (arith, wrong))
-        by (some q) e f = ap some (sym f)
+        by : (o : Option Procap) → answer ≡ answer_of (or_else ProcapMalformed o) → p ≡ procap_handed (or_else ProcapMalformed o) → o ≡ Some p
+        by None e f = let wrong = sym zero ∙ ap number_of e in absurd (omega (arith, wrong))
+        by (Some q) e f = ap Some (sym f)
 
     -- So the door on the text is the door on it.
     pub read_opens : (r : Request) (m : ℕ) (state : List ℕ) → opening_text text r m state ≡ opening p r m state
@@ -50,7 +50,7 @@ module _ (text : List ℕ) (answer : Answer) (given : answer ≡ answer_of (read
 
 module _ (text : List ℕ) (r : Request) (m : ℕ) (state : List ℕ) where
   -- Bytes that are no text are 12.
-  pub no_text : reading text ≡ refused ProcapMalformed → ProcapMalformed ≡ answer_of (opening_text text r m state)
+  pub no_text : reading text ≡ Err ProcapMalformed → ProcapMalformed ≡ answer_of (opening_text text r m state)
   unfolding opening_text go_on answer_of
   no_text e = rw e refl
 
@@ -58,7 +58,7 @@ module _ (text : List ℕ) (r : Request) (m : ℕ) (state : List ℕ) where
   pub small_place : (answer : Answer) → answer ≡ answer_of (opening_text text r m state) → place_of answer < 256
   small_place answer e = rw e (omega (arith, places_are_small text r m state))
 
-  module _ (asked : Request) (from to : ℕ) (fs : List Spelled) (reads : reading text ≡ granted (procap_of asked from to fs)) where
+  module _ (asked : Request) (from to : ℕ) (fs : List Spelled) (reads : reading text ≡ Ok (procap_of asked from to fs)) where
     -- What was seen can be written, since it was read.
     seen_writable : Writable (procap_of asked from to fs)
     unfolding reading

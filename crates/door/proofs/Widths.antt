@@ -3,7 +3,7 @@ use Prim.Native.Nat.{ℕ, suc, ◌+◌, ◌-◌, ◌≤◌, ◌<◌}
 use mathlib.Core.Bool.{Bool, true, false}
 use mathlib.Core.Path.{◌≡◌, refl, sym, ap, ◌∙◌}
 use mathlib.Core.List.{List}
-use mathlib.Core.Option.{some, none}
+use Rattle.std.specs.Prelude.{None, Some}
 use native.Mathlib.Omega.{arith}
 use lib.ListN.{length, get_or}
 use Rattle.procap.specs.Facts.{Spelled}
@@ -31,7 +31,7 @@ width NoTermTag = 1
 
 module _ (bytes : List ℕ) where
   -- A number of k bytes ends k places on.
-  pub number_width : (k at n e : ℕ) → number bytes k at ≡ some (n, e) → at + k ≡ e
+  pub number_width : (k at n e : ℕ) → number bytes k at ≡ Some (n, e) → at + k ≡ e
   number_width k at n e h =
       let inside = so_read (number bytes k at) h (number_ends bytes k at) in
       (same_read (number bytes k at) (number_read bytes k at _ (omega arith) refl) h).1
@@ -48,7 +48,7 @@ module _ (bytes : List ℕ) where
   by_tag_ends NoTermTag at = unread
 
   pub term_width : (at : ℕ) (tag kind : TermTag) → at < length bytes → tag ≡ term_tag (get_or bytes at 0) → tag ≡ kind
-      → (t : Term) (e : ℕ) → settled_term bytes at ≡ some (t, e) → at + width kind ≡ e
+      → (t : Term) (e : ℕ) → settled_term bytes at ≡ Some (t, e) → at + width kind ≡ e
   term_width at tag kind l h is t e s = rw is at (by (settled tag) refl)
     where
       by : (b : Bool) → settled tag ≡ b → at + width tag ≡ e
@@ -61,8 +61,8 @@ module _ (bytes : List ℕ) where
 pub record TermsPassed (bytes : List ℕ) (count from next i : ℕ) : Type 0 where
   pub few : i ≤ count
   pub onwards : from ≤ next
-  pub left : (ts : List Term) (e : ℕ) → many (settled_term bytes) count from ≡ some (ts, e)
-      → (us : List Term) × (many (settled_term bytes) (count - i) next ≡ some (us, e))
+  pub left : (ts : List Term) (e : ℕ) → many (settled_term bytes) count from ≡ Some (ts, e)
+      → (us : List Term) × (many (settled_term bytes) (count - i) next ≡ Some (us, e))
 
 pub no_term_passed : (bytes : List ℕ) (count from : ℕ) → TermsPassed bytes count from from 0
 no_term_passed bytes count from = record {
@@ -73,7 +73,7 @@ no_term_passed bytes count from = record {
 
 module _ {bytes : List ℕ} {count from next i : ℕ} (h : TermsPassed bytes count from next i) where
   -- One more.
-  pub one_term_passed : i < count → (after : ℕ) → ((t : Term) (e : ℕ) → settled_term bytes next ≡ some (t, e) → after ≡ e) → next ≤ after
+  pub one_term_passed : i < count → (after : ℕ) → ((t : Term) (e : ℕ) → settled_term bytes next ≡ Some (t, e) → after ≡ e) → next ≤ after
       → TermsPassed bytes count from after (i + 1)
   one_term_passed l after ends further = record {
     few = omega arith;
@@ -87,7 +87,7 @@ module _ {bytes : List ℕ} {count from next i : ℕ} (h : TermsPassed bytes cou
   }
 
   -- All of them.
-  pub all_terms_passed : count ≤ i → (ts : List Term) (e : ℕ) → many (settled_term bytes) count from ≡ some (ts, e) → next ≡ e
+  pub all_terms_passed : count ≤ i → (ts : List Term) (e : ℕ) → many (settled_term bytes) count from ≡ Some (ts, e) → next ≡ e
   all_terms_passed l ts e r =
       let (us, others) = h.left ts e r in
       (none_of (settled_term bytes) (count - i) next us e (omega arith) others).1
@@ -96,13 +96,13 @@ module _ {bytes : List ℕ} {count from next i : ℕ} (h : TermsPassed bytes cou
 
 -- The parts of a fact: its predicate, its count and its terms.
 pub record FactParts (bytes : List ℕ) (at : ℕ) (f : Spelled) (e : ℕ) : Type 0 where
-  pub predicate_reads : number bytes 2 at ≡ some (f.0, at + 2)
+  pub predicate_reads : number bytes 2 at ≡ Some (f.0, at + 2)
   pub count : ℕ
   pub from : ℕ
-  pub count_reads : byte bytes (at + 2) ≡ some (count, from)
-  pub terms_read : many (settled_term bytes) count from ≡ some (f.1, e)
+  pub count_reads : byte bytes (at + 2) ≡ Some (count, from)
+  pub terms_read : many (settled_term bytes) count from ≡ Some (f.1, e)
 
-module _ (bytes : List ℕ) (at : ℕ) (f : Spelled) (e : ℕ) (h : fact bytes at ≡ some (f, e)) where
+module _ (bytes : List ℕ) (at : ℕ) (f : Spelled) (e : ℕ) (h : fact bytes at ≡ Some (f, e)) where
   pub fact_parts : FactParts bytes at f e
   unfolding fact predicate_and
   fact_parts = so_read (fact bytes at) h found
@@ -124,10 +124,10 @@ module _ (bytes : List ℕ) (at : ℕ) (f : Spelled) (e : ℕ) (h : fact bytes a
 
   -- So it has a count two places on, and from there its terms.
   module _ (place : ℕ) (two : at + 2 ≡ place) where
-    pub count_there : byte bytes place ≡ none → ⊥
+    pub count_there : byte bytes place ≡ None → ⊥
     count_there missing = not_read (byte bytes place) missing (rw two at fact_parts.count_reads)
 
-    pub terms_there : (n from : ℕ) → byte bytes place ≡ some (n, from) → many (settled_term bytes) n from ≡ some (f.1, e)
+    pub terms_there : (n from : ℕ) → byte bytes place ≡ Some (n, from) → many (settled_term bytes) n from ≡ Some (f.1, e)
     terms_there n from r =
         let same = same_read (byte bytes place) (rw two at fact_parts.count_reads) r in
         rw (same.0, same.1) at fact_parts.terms_read

@@ -1,12 +1,11 @@
 -- What the door answers, on a procap value and on a text.
-use Rattle.std.specs.Prelude.{ℕ, suc, ◌+◌, ◌*◌, ◌≡◌, List, [], ◌∷◌, take}
-use Rattle.std.proofs.Math.Option.{some}
+use Rattle.std.specs.Prelude.{ℕ, suc, ◌+◌, ◌*◌, ◌≡◌, List, [], ◌∷◌, take, Ok, Some}
 use Rattle.std.proofs.Math.Decide.{dec_le}
 use Rattle.procap.specs.Lent.{Lent}
 use Rattle.procap.specs.Facts.{Spelled}
 use Rattle.procap.specs.Procaps.{listed}
 use Rattle.procap.specs.Answers.{number_of, place_of}
-use Rattle.procap.specs.Outcome.{Outcome, granted, go_on, require, answer_of}
+use Rattle.procap.specs.Outcome.{Outcome, go_on, require, answer_of}
 use Rattle.procap.specs.States.{stated}
 use Rattle.procap.specs.Desk.{read_press}
 use Rattle.procap.specs.Deciding.{writable?, request?, holds_at?}
@@ -19,14 +18,14 @@ use Rattle.text.specs.Calls.{reading}
 
 -- [Numbers 10; D44] Each fact holds; the first that does not is named by its index, the first of these being i.
 unfoldable pub each_holds : ℕ → List Spelled → ℕ → List Spelled → Outcome (Unit {0})
-each_holds m σ i [] = granted tt
+each_holds m σ i [] = Ok tt
 each_holds m σ i (f ∷ fs) =
     go_on (require (FactMissing i) (holds_at? m σ f)) λ _.
     each_holds m σ (suc i) fs
 
 -- The answer names the first of these facts that does not hold, in bytes that are a state.
 abbrev pub NamesMissing : ℕ → List ℕ → List Spelled → Answer → Type 0
-NamesMissing m state fs answer = (σ : List Spelled) → stated state ≡ some σ → answer ≡ answer_of (each_holds m σ 0 fs)
+NamesMissing m state fs answer = (σ : List Spelled) → stated state ≡ Some σ → answer ≡ answer_of (each_holds m σ 0 fs)
 
 -- The same of the facts on the lines of a text that begin at the first so many places.
 abbrev pub NamesMissingOn : Lent → List ℕ → ℕ → ℕ → Lent → Answer → Type 0
@@ -40,7 +39,7 @@ before_facts asked from to r m state =
     go_on (require RequestDiffers (request? r asked)) λ _.
     go_on (require MomentOutside (dec_le from m)) λ _.
     go_on (require MomentOutside (dec_le m to)) λ _.
-    granted σ
+    Ok σ
 
 -- [Numbers, order of the door] 12, then what comes before the facts, then 10: in all 12, 11, 7, 8, 9, 10.
 unfoldable pub opening : Procap → Request → ℕ → List ℕ → Outcome (Unit {0})

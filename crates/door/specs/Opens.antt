@@ -1,6 +1,5 @@
 -- When the door opens.
-use Rattle.std.specs.Prelude.{ℕ, ◌≤◌, ◌≡◌, List}
-use Rattle.std.proofs.Math.Option.{some}
+use Rattle.std.specs.Prelude.{ℕ, ◌≤◌, ◌≡◌, List, Some}
 use Rattle.procap.specs.Times.{latest}
 use Rattle.procap.specs.Facts.{Spelled}
 use Rattle.procap.specs.Procaps.{Satisfied}
@@ -14,6 +13,6 @@ pub record Opens (p : Procap) (r : Request) (m : ℕ) (state : List ℕ) : Type 
   pub can_be_written : Writable p
   pub moment_in_range : m ≤ latest
   pub facts : List Spelled
-  pub state_reads : stated state ≡ some facts
+  pub state_reads : stated state ≡ Some facts
   pub own_request : r ≡ p.request
   pub satisfied : Satisfied p m facts

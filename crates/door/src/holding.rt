@@ -1,6 +1,5 @@
 // Whether a fact holds in a state: a pass that ends at the fact that is asked. One with another predicate is passed by its width, unread.
 ghost use Rattle.std.specs.Prelude.{◌≡◌, List, ℕ, ◌+◌, ◌≤◌};
-ghost use Rattle.std.proofs.Math.Option.{some};
 ghost use Rattle.procap.specs.Tells.{Tells};
 ghost use Rattle.procap.specs.Facts.{Spelled, spelled};
 ghost use Rattle.procap.specs.Procaps.{HoldsAt};
@@ -14,7 +13,7 @@ use state::fact_at;
 
 // Whether the fact, with the moment put for ctime, stands in a state. Of bytes that are no state the answer says nothing.
 pub(crate) fn holds_at(state: &[u8], wanted: Fact, moment: u64) -> bool
-    ensures { (σ : List Spelled) → stated state.now ≡ some σ → Tells result (HoldsAt moment σ (spelled wanted)) }
+    ensures { (σ : List Spelled) → stated state.now ≡ Some σ → Tells result (HoldsAt moment σ (spelled wanted)) }
 {
     let mut at: usize = 0;
     while at < state.len() {
@@ -45,7 +44,7 @@ fn stands_at(state: &[u8], at: usize, wanted: Fact, moment: u64) -> bool
 
 // Where a fact ends, from the place after its predicate.
 fn past_terms(state: &[u8], at: usize) -> usize
-    ensures ends { (f : Spelled) (start e : ℕ) → start + 2 ≡ at → fact state.now start ≡ some (f, e) → result ≡ e }
+    ensures ends { (f : Spelled) (start e : ℕ) → start + 2 ≡ at → fact state.now start ≡ Some (f, e) → result ≡ e }
     ensures onwards { at ≤ result }
 {
     let NumberRead::Number(count, after_count) = byte_at(state, at) else {
@@ -62,7 +61,7 @@ fn past_terms(state: &[u8], at: usize) -> usize
 
 // Where the term at a place of the state ends.
 fn past_term(state: &[u8], at: usize) -> usize
-    ensures ends { (t : Term) (e : ℕ) → settled_term state.now at ≡ some (t, e) → result ≡ e }
+    ensures ends { (t : Term) (e : ℕ) → settled_term state.now at ≡ Some (t, e) → result ≡ e }
     ensures onwards { at ≤ result }
 {
     if state.len() <= at {

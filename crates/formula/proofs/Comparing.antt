@@ -2,7 +2,7 @@
 use Prim.Native.Nat.{ℕ}
 use mathlib.Core.Path.{◌≡◌, refl, ap, ◌∙◌}
 use mathlib.Core.List.{List}
-use mathlib.Core.Option.{Option, none}
+use Rattle.std.specs.Prelude.{None, Option}
 use mathlib.Core.Logic.{if_pos, if_neg}
 use native.Mathlib.Decide.{ℕ_discrete}
 use native.Mathlib.Omega.{arith}
@@ -42,7 +42,7 @@ unfolding need_equal
 other_numbers q n k e = if_neg (ℕ_discrete n k) e (done tt) (misfit q)
 
 -- What must be there and is not.
-pub not_there : {A : Type 0} (q : ℕ) (o : Option A) (f : A → Test) → o ≡ none → (need q o >>= f) ≡ misfit q
+pub not_there : {A : Type 0} (q : ℕ) (o : Option A) (f : A → Test) → o ≡ None → (need q o >>= f) ≡ misfit q
 unfolding need ◌>>=◌
 not_there q o f e = rw e
 

@@ -2,7 +2,7 @@
 use Prim.Native.Nat.{ℕ}
 use mathlib.Core.Path.{◌≡◌, sym, ap, ◌∙◌}
 use mathlib.Core.List.{List}
-use mathlib.Core.Option.{some}
+use Rattle.std.specs.Prelude.{Some}
 use lib.ListN.{length, length-map}
 use Rattle.procap.specs.Bytes.{number, byte, many}
 use Rattle.procap.proofs.Readers.{so_read, any_read, many_read}
@@ -29,7 +29,7 @@ as_many bytes d count f xs e h =
 -- What `head_at` promises of a place.
 abbrev FindsHead : List ℕ → ℕ → Head → Type 0
 FindsHead bytes place r =
-    (p n e₁ e₂ : ℕ) → number bytes 2 place ≡ some (p, e₁) → byte bytes e₁ ≡ some (n, e₂)
+    (p n e₁ e₂ : ℕ) → number bytes 2 place ≡ Some (p, e₁) → byte bytes e₁ ≡ Some (n, e₂)
     → (r.predicate ≡ p) × (r.count ≡ n) × (r.next ≡ e₂)
 
 module _ (bytes : List ℕ) (d : ℕ) (f : FormulaAt) (found : Head) where

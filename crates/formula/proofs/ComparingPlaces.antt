@@ -2,7 +2,7 @@
 use Prim.Native.Nat.{ℕ, suc}
 use mathlib.Core.Path.{◌≡◌, refl, sym, ap, ap₂, ◌∙◌}
 use mathlib.Core.List.{List, [], ◌∷◌, map}
-use mathlib.Core.Option.{some}
+use Rattle.std.specs.Prelude.{Some}
 use Rattle.procap.specs.Bytes.{then, many}
 use Rattle.procap.specs.declared.time.Time.{Time}
 use Rattle.procap.specs.declared.fact.Term.{Term}
@@ -125,8 +125,8 @@ module _ (bytes : List ℕ) (d : ℕ) (f : FormulaAt) where
   -- What `place_at` promises of a place.
   abbrev FindsPlace : ℕ → PlaceRead → Type 0
   FindsPlace place r =
-      ((sorts : List Sort) (x : Place) (e : ℕ) → FewTerms f.terms → argument bytes sorts place ≡ some (x, e) → place_of r.place ≡ fill x)
-      × ((sorts : List Sort) (x : Place) (e : ℕ) → argument bytes sorts place ≡ some (x, e) → r.next ≡ e)
+      ((sorts : List Sort) (x : Place) (e : ℕ) → FewTerms f.terms → argument bytes sorts place ≡ Some (x, e) → place_of r.place ≡ fill x)
+      × ((sorts : List Sort) (x : Place) (e : ℕ) → argument bytes sorts place ≡ Some (x, e) → r.next ≡ e)
 
   -- Where it finds the first of some places, the others stand after it.
   record MoreStand (found : PlaceRead) (count : ℕ) (xs : List Place) (e : ℕ) : Type 0 where

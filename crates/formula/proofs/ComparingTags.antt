@@ -2,7 +2,7 @@
 use Prim.Native.Nat.{ℕ, ◌≤◌}
 use mathlib.Core.Path.{◌≡◌, refl, sym, ap, ◌∙◌}
 use mathlib.Core.List.{List}
-use mathlib.Core.Option.{Option, some, none}
+use Rattle.std.specs.Prelude.{None, Option, Some}
 use native.Mathlib.Omega.{arith}
 use Rattle.bl.specs.declared.FormulaTag.{FormulaTag}
 use Rattle.bl.specs.declared.FormulaTag.TheVariants.{TopTag, AndTag, ImpliesTag, AllNamesTag, AllTimesTag, SaysTag, AtTag, AtomTag, FactTag, OrderTag, OrTag, FalsityTag, NoFormulaTag}
@@ -30,10 +30,10 @@ other_sorts q times names n = refl
 other_sorts q times times n = absurd (n refl)
 
 -- What is seen as no for-all is none, and a for-all has one sort.
-none_seen : (G : Formula) (s : Sort) (A : Formula) → as_all G ≡ none → G ≡ all s A → ⊥
+none_seen : (G : Formula) (s : Sort) (A : Formula) → as_all G ≡ None → G ≡ all s A → ⊥
 unfolding as_all
 none_seen G s A none_such is =
-    let seen : as_all (all s A) ≡ none = rw is at none_such in
+    let seen : as_all (all s A) ≡ None = rw is at none_such in
     let z : ◌≡◌ {A = ℕ} 0 1 = cc in
     absurd (omega arith)
 
@@ -54,8 +54,8 @@ module _ (bytes : List ℕ) (d : ℕ) (f : FormulaAt) {G : Formula} (n : Means b
   other_binder q s A other = by (as_all G)
     where
       by : (o : Option ((s' : Sort) × (B : Formula) × (G ≡ all s' B))) → (need q o >>= λ (s', B, _). same_sort q s s' >> same q A B) ≡ misfit q
-      by none = refl
-      by (some x) = rw (other_sorts q s x.0 (λ same. not_this_sort s x.1 other (x.2 ∙ ap (λ s'. all s' x.1) (sym same))))
+      by None = refl
+      by (Some x) = rw (other_sorts q s x.0 (λ same. not_this_sort s x.1 other (x.2 ∙ ap (λ s'. all s' x.1) (sym same))))
 
 -- ── All kinds ──
 
@@ -91,7 +91,7 @@ some_level : (bytes : List ℕ) (d : ℕ) (f : FormulaAt) (F : Formula) (m : Mea
 unfolding formula
 some_level bytes d f F m low =
     let is : m.level ≡ 0 = omega arith in
-    let reads : formula bytes 0 m.sorts f.at ≡ some (m.tree, m.end) = rw is at m.reads in
+    let reads : formula bytes 0 m.sorts f.at ≡ Some (m.tree, m.end) = rw is at m.reads in
     let z : ◌≡◌ {A = ℕ} 0 1 = cc reads in
     absurd (omega arith)
 

@@ -3,7 +3,7 @@ use Prim.Native.Nat.{ℕ, zero, suc, ◌+◌, ◌-◌, ◌≤◌, ◌<◌}
 use mathlib.Core.Path.{◌≡◌, refl, ap, subst}
 use mathlib.Core.Bool.{Bool, true, false, beq}
 use mathlib.Core.List.{List, [], ◌∷◌}
-use mathlib.Core.Option.{Option, some, none}
+use Rattle.std.specs.Prelude.{None, Option, Some}
 use native.Mathlib.Omega.{arith}
 use native.Mathlib.Numerals.{sub-one}
 use borrow.Author.Tests.{le-leb, lt-leb, lt-ltb, le-ltb}
@@ -43,42 +43,42 @@ place_told sorts o e h = subst (PlaceEnds sorts o) e h
 
 module _ {A B : Type 0} (o : Option (A × ℕ)) where
   -- After what is not there there is nothing; else it goes on from what was read.
-  none_after : (f : A → Reader B) → o ≡ none → then o f ≡ none
+  none_after : (f : A → Reader B) → o ≡ None → then o f ≡ None
   unfolding then
   none_after f e = rw e
 
-  goes_on : (f : A → Reader B) (a : A) (e : ℕ) (r : End) → o ≡ some (a, e) → Ends (f a e) r → Ends (then o f) r
+  goes_on : (f : A → Reader B) (a : A) (e : ℕ) (r : End) → o ≡ Some (a, e) → Ends (f a e) r → Ends (then o f) r
   unfolding then
   goes_on f a e r q h = rw q h
 
   -- A value made of what was read ends there too.
-  made_of : (f : A → B) (r : End) → Ends o r → Ends (then o (λ a at. some (f a, at))) r
+  made_of : (f : A → B) (r : End) → Ends o r → Ends (then o (λ a at. Some (f a, at))) r
   unfolding then
   made_of f (At e) h = rw h.1 (f h.0, refl)
   made_of f Nowhere h = rw h refl
 
 -- One reader and another, and a value made of both.
 both_ended : {A B C : Type 0} (o : Option (A × ℕ)) (g : Reader B) (f : A → B → C) (b r : End) → Ends o b → EndsAfter g b r
-    → Ends (then o (λ a at. then (g at) (λ x at. some (f a x, at)))) r
+    → Ends (then o (λ a at. then (g at) (λ x at. Some (f a x, at)))) r
 both_ended o g f (At e) r h k = goes_on o _ h.0 e r h.1 (made_of (g e) (f h.0) r k)
 both_ended o g f Nowhere r h k = rw k (none_after o _ h)
 
 -- To go on from two values one after the other is to go on from both.
 paired : {A B C : Type 0} (o : Option (A × ℕ)) (p : Reader B) (g : A → B → Reader C) (r : End)
-    → Ends (then {A = A × B} (then o (λ a at. then (p at) (λ b at. some ((a, b), at)))) (λ both. g both.0 both.1)) r
+    → Ends (then {A = A × B} (then o (λ a at. then (p at) (λ b at. Some ((a, b), at)))) (λ both. g both.0 both.1)) r
     → Ends (then o (λ a at. then (p at) (g a))) r
 unfolding then
-paired none p g r h = h
-paired {A} {B} (some x) p g r h = by (p x.1) h
+paired None p g r h = h
+paired {A} {B} (Some x) p g r h = by (p x.1) h
   where
-    by : (q : Option (B × ℕ)) → Ends (then {A = A × B} (then q (λ b at. some ((x.0, b), at))) (λ both. g both.0 both.1)) r → Ends (then q (g x.0)) r
-    by none h = h
-    by (some y) h = h
+    by : (q : Option (B × ℕ)) → Ends (then {A = A × B} (then q (λ b at. Some ((x.0, b), at))) (λ both. g both.0 both.1)) r → Ends (then q (g x.0)) r
+    by None h = h
+    by (Some y) h = h
 
 -- ── Places ──
 
 -- Of the sort wanted is what has the same flag.
-sort_told : (wanted is : Bool) → variable_of (sort_of wanted) (some (sort_of is)) ≡ beq is wanted
+sort_told : (wanted is : Bool) → variable_of (sort_of wanted) (Some (sort_of is)) ≡ beq is wanted
 unfolding variable_of sort_of
 sort_told true true = refl
 sort_told true false = refl
@@ -87,11 +87,11 @@ sort_told false false = refl
 
 module _ (part : List ℕ) (tag : TermTag) (from : ℕ) (sorts : List Sort) where
   -- A term that is not there is no place; a name is a place for names, a time one for times.
-  pub no_term : term_by part tag from ≡ none → fixed_by part tag from ≡ none
+  pub no_term : term_by part tag from ≡ None → fixed_by part tag from ≡ None
   unfolding fixed_by
   no_term e = none_after _ _ e
 
-  pub a_name : (x : Term) (n next : ℕ) → x ≡ Name n → term_by part tag from ≡ some (x, next) → PlaceEnds sorts (fixed_by part tag from) (Found false next)
+  pub a_name : (x : Term) (n next : ℕ) → x ≡ Name n → term_by part tag from ≡ Some (x, next) → PlaceEnds sorts (fixed_by part tag from) (Found false next)
   unfolding fixed_by then place_of variable_of sort_of
   a_name x n next d e = (fixed (Name n), rw (e, d) refl, sort)
     where
@@ -99,7 +99,7 @@ module _ (part : List ℕ) (tag : TermTag) (from : ℕ) (sorts : List Sort) wher
       sort names = refl
       sort times = refl
 
-  pub a_time : (x : Term) (t : Time) (next : ℕ) → x ≡ When t → term_by part tag from ≡ some (x, next) → PlaceEnds sorts (fixed_by part tag from) (Found true next)
+  pub a_time : (x : Term) (t : Time) (next : ℕ) → x ≡ When t → term_by part tag from ≡ Some (x, next) → PlaceEnds sorts (fixed_by part tag from) (Found true next)
   unfolding fixed_by then place_of variable_of sort_of
   a_time x t next d e = (fixed (When t), rw (e, d) refl, sort)
     where
@@ -109,31 +109,31 @@ module _ (part : List ℕ) (tag : TermTag) (from : ℕ) (sorts : List Sort) wher
 
 module _ (part : List ℕ) (sorts : List Sort) (from : ℕ) where
   -- A variable without its index, or without its binder, is no place; else it is of its binder's sort.
-  pub no_index : byte part from ≡ none → place_by part sorts VariableTag from ≡ none
+  pub no_index : byte part from ≡ None → place_by part sorts VariableTag from ≡ None
   unfolding place_by
   no_index e = none_after _ _ e
 
-  module _ (i next : ℕ) (e : byte part from ≡ some (i, next)) where
-    pub no_binder : length sorts ≤ i → place_by part sorts VariableTag from ≡ none
+  module _ (i next : ℕ) (e : byte part from ≡ Some (i, next)) where
+    pub no_binder : length sorts ≤ i → place_by part sorts VariableTag from ≡ None
     unfolding place_by then ensure
     no_binder l = rw (e, le-ltb i (length sorts) l) refl
 
-    pub a_variable : (s : Bool) → i < length sorts → nth sorts i ≡ some (sort_of s) → PlaceEnds sorts (place_by part sorts VariableTag from) (Found s next)
+    pub a_variable : (s : Bool) → i < length sorts → nth sorts i ≡ Some (sort_of s) → PlaceEnds sorts (place_by part sorts VariableTag from) (Found s next)
     unfolding place_by then ensure place_of
     a_variable s l h = (bound i, rw (e, lt-ltb i (length sorts) l) refl, λ wanted. ap (variable_of wanted) h)
 
   -- Past the end there is no argument; else it is the one that its tag announces.
-  pub no_argument : byte part from ≡ none → argument part sorts from ≡ none
+  pub no_argument : byte part from ≡ None → argument part sorts from ≡ None
   unfolding argument
   no_argument e = none_after _ _ e
 
-  pub argument_by : (b next : ℕ) (tag announced : TermTag) (r : PlaceEnd) → byte part from ≡ some (b, next) → tag ≡ term_tag b → tag ≡ announced
+  pub argument_by : (b next : ℕ) (tag announced : TermTag) (r : PlaceEnd) → byte part from ≡ Some (b, next) → tag ≡ term_tag b → tag ≡ announced
       → PlaceEnds sorts (place_by part sorts announced next) r → PlaceEnds sorts (argument part sorts from) r
   unfolding argument then
   argument_by b next tag announced r e f g h = rw (e, ← f, g) h
 
   -- A place is an argument of the sort wanted there.
-  pub no_place : (s : Sort) → argument part sorts from ≡ none → place part s sorts from ≡ none
+  pub no_place : (s : Sort) → argument part sorts from ≡ None → place part s sorts from ≡ None
   unfolding place
   no_place s e = none_after _ _ e
 
@@ -142,12 +142,12 @@ module _ (part : List ℕ) (sorts : List Sort) (from : ℕ) where
     unfolding place then ensure
     place_of_sort e = rw (h.1, h.2 (sort_of wanted), sort_told wanted is, e) (h.0, refl)
 
-    pub place_of_other : beq is wanted ≡ false → place part (sort_of wanted) sorts from ≡ none
+    pub place_of_other : beq is wanted ≡ false → place part (sort_of wanted) sorts from ≡ None
     unfolding place then ensure
     place_of_other e = rw (h.1, h.2 (sort_of wanted), sort_told wanted is, e) refl
 
   -- Two times end where the second does.
-  pub no_times : place part times sorts from ≡ none → two_times part sorts from ≡ none
+  pub no_times : place part times sorts from ≡ None → two_times part sorts from ≡ None
   unfolding two_times
   no_times e = none_after _ _ e
 
@@ -173,11 +173,11 @@ module _ {A : Type 0} (read : Reader A) (count from : ℕ) where
       (omega arith, λ r h. rw all at h)
 
   module _ (i next : ℕ) (h : EndsAsRest read count from i next) where
-    pub one_passed : (x : A) (after : ℕ) → i < count → read next ≡ some (x, after) → EndsAsRest read count from (i + 1) after
+    pub one_passed : (x : A) (after : ℕ) → i < count → read next ≡ Some (x, after) → EndsAsRest read count from (i + 1) after
     unfolding many
     one_passed x after l e = (omega arith, λ r k. h.1 r (rw (one_and_rest i l) (goes_on _ _ x after r e (made_of _ (λ xs. x ∷ xs) r k))))
 
-    pub one_missing : i < count → read next ≡ none → many read count from ≡ none
+    pub one_missing : i < count → read next ≡ None → many read count from ≡ None
     unfolding many
     one_missing l e = h.1 Nowhere (rw (one_and_rest i l) (none_after _ _ e))
 
@@ -189,17 +189,17 @@ module _ {A : Type 0} (read : Reader A) (count from : ℕ) where
 
 -- A predicate, a count of at most four, and so many arguments.
 module _ {A : Type 0} (part : List ℕ) (read : Reader A) (from : ℕ) where
-  pub no_predicate : number part 2 from ≡ none → predicate_and part read from ≡ none
+  pub no_predicate : number part 2 from ≡ None → predicate_and part read from ≡ None
   unfolding predicate_and
   no_predicate e = none_after _ _ e
 
-  module _ (p middle : ℕ) (e : number part 2 from ≡ some (p, middle)) where
-    pub no_count : byte part middle ≡ none → predicate_and part read from ≡ none
+  module _ (p middle : ℕ) (e : number part 2 from ≡ Some (p, middle)) where
+    pub no_count : byte part middle ≡ None → predicate_and part read from ≡ None
     unfolding predicate_and then
     no_count f = rw (e, f) refl
 
-    module _ (n next : ℕ) (f : byte part middle ≡ some (n, next)) where
-      pub too_many : most_terms < n → predicate_and part read from ≡ none
+    module _ (n next : ℕ) (f : byte part middle ≡ Some (n, next)) where
+      pub too_many : most_terms < n → predicate_and part read from ≡ None
       unfolding predicate_and then ensure
       too_many l = rw (e, f, lt-leb n most_terms l) refl
 
@@ -211,7 +211,7 @@ module _ {A : Type 0} (part : List ℕ) (read : Reader A) (from : ℕ) where
 
 module _ (part : List ℕ) (sorts : List Sort) (from left : ℕ) where
   -- With no level left, or past the end, there is no formula; else it is the one that its tag announces.
-  pub no_level : left ≡ 0 → formula part left sorts from ≡ none
+  pub no_level : left ≡ 0 → formula part left sorts from ≡ None
   unfolding formula
   no_level e = rw e
 
@@ -229,7 +229,7 @@ module _ (part : List ℕ) (sorts : List Sort) (from left : ℕ) where
 module _ (part : List ℕ) (below : List Sort → Reader Formula) (sorts : List Sort) (from : ℕ) where
   -- A ninth binder is malformed; one that is no ninth ends where its body does.
   module _ (s : Sort) where
-    pub ninth_binder : most_binders ≤ length sorts → for_all part below sorts s from ≡ none
+    pub ninth_binder : most_binders ≤ length sorts → for_all part below sorts s from ≡ None
     unfolding for_all then ensure
     ninth_binder l = rw (le-ltb (length sorts) most_binders l) refl
 
@@ -293,7 +293,7 @@ module _ (part : List ℕ) (below : List Sort → Reader Formula) (sorts : List 
   unfolding formula_by
   falsity_ends = (falsity, refl)
 
-  pub no_formula : formula_by part below sorts NoFormulaTag from ≡ none
+  pub no_formula : formula_by part below sorts NoFormulaTag from ≡ None
   unfolding formula_by
   no_formula = refl
 
@@ -302,10 +302,10 @@ module _ (part : List ℕ) (below : List Sort → Reader Formula) (sorts : List 
 -- A part holds a formula when one is read from its start and ends where the part does.
 module _ (part : List ℕ) (sorts : List Sort) (none_around : sorts ≡ []) where
   pub held_to_the_end : (e : ℕ) → Ends (formula part most_formula_levels sorts 0) (At e)
-      → Tells (eqb e (length part)) ((A : Formula) × (formula_in part ≡ some A))
+      → Tells (eqb e (length part)) ((A : Formula) × (formula_in part ≡ Some A))
   unfolding formula_in whole to_the_end
   held_to_the_end e h = rw (← none_around, h.1) (tells_picked (eqb e (length part)) h.0)
 
-  pub none_held : formula part most_formula_levels sorts 0 ≡ none → (A : Formula) × (formula_in part ≡ some A) → ⊥
+  pub none_held : formula part most_formula_levels sorts 0 ≡ None → (A : Formula) × (formula_in part ≡ Some A) → ⊥
   unfolding formula_in whole to_the_end
-  none_held e x = not_read none refl (rw (← none_around, e) at x.1)
+  none_held e x = not_read None refl (rw (← none_around, e) at x.1)

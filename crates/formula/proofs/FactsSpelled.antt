@@ -3,7 +3,8 @@ use Prim.Native.Nat.{ℕ, ◌+◌, ◌-◌, ◌≤◌, ◌<◌}
 use mathlib.Core.Bool.{Bool, true}
 use mathlib.Core.Path.{◌≡◌, refl, sym, ap, ap₂, subst₂, ◌∙◌}
 use mathlib.Core.List.{List, [], ◌∷◌, map}
-use mathlib.Core.Option.{Option, some, none, some-injective, none-ne-some, some-ne-none}
+use Rattle.std.proofs.lemmas.Option.{none-some, same_Some}
+use Rattle.std.specs.Prelude.{None, Option, Some}
 use native.Mathlib.Decide.{ℕ_discrete}
 use native.Mathlib.Omega.{arith}
 use lib.ListN.{length, set}
@@ -36,14 +37,14 @@ use Rattle.formula.proofs.Shapes.{inside, fact_shape, not_fact}
 
 -- The terms that places were seen as, as if they were read.
 unfoldable pub seen : {xs : List Place} → Option ((ts : List Term) × (xs ≡ map fixed ts)) → Option (List Term × ℕ)
-seen none = none
-seen (some t) = some (t.0, 0)
+seen None = None
+seen (Some t) = Some (t.0, 0)
 
 abbrev terms_in : List Place → Option (List Term × ℕ)
 terms_in xs = seen (as_terms xs)
 
 -- No places are no terms; a term goes before the others; after a variable there are none.
-no_terms_in : terms_in [] ≡ some ([], 0)
+no_terms_in : terms_in [] ≡ Some ([], 0)
 unfolding seen as_terms
 no_terms_in = refl
 
@@ -51,30 +52,30 @@ fixed_before : (t : Term) (xs : List Place) → terms_in (fixed t ∷ xs) ≡ le
 unfolding seen as_terms as_term terms_too led_by
 fixed_before t xs = by (as_terms xs)
   where
-    by : (o : Option ((ts : List Term) × (xs ≡ map fixed ts))) → seen (terms_too {x = fixed t} (some (t, refl)) o) ≡ led_by (t ∷ []) (seen o)
-    by none = refl
-    by (some u) = refl
+    by : (o : Option ((ts : List Term) × (xs ≡ map fixed ts))) → seen (terms_too {x = fixed t} (Some (t, refl)) o) ≡ led_by (t ∷ []) (seen o)
+    by None = refl
+    by (Some u) = refl
 
-bound_before : (j : ℕ) (xs : List Place) → terms_in (bound j ∷ xs) ≡ none
+bound_before : (j : ℕ) (xs : List Place) → terms_in (bound j ∷ xs) ≡ None
 unfolding seen as_terms as_term terms_too
 bound_before j xs = refl
 
 -- What is not seen so is not so, and a fact of the terms seen spells the places.
-not_terms : (xs : List Place) → terms_in xs ≡ none → as_terms xs ≡ none
+not_terms : (xs : List Place) → terms_in xs ≡ None → as_terms xs ≡ None
 unfolding seen
 not_terms xs e = by (as_terms xs) e
   where
-    by : (o : Option ((ts : List Term) × (xs ≡ map fixed ts))) → seen o ≡ none → o ≡ none
-    by none q = refl
-    by (some u) q = absurd (some-ne-none (u.0, 0) q)
+    by : (o : Option ((ts : List Term) × (xs ≡ map fixed ts))) → seen o ≡ None → o ≡ None
+    by None q = refl
+    by (Some u) q = absurd (none-some (u.0, 0) (sym q))
 
 spells_terms : (p : ℕ) (xs : List Place) (f : Fact) → FactFound (with_predicate p (terms_in xs)) true f 0 → SpellsPlaces p xs true f
 unfolding seen SpellsPlaces
 spells_terms p xs f h = by (as_terms xs) refl h
   where
     by : (o : Option ((ts : List Term) × (xs ≡ map fixed ts))) → as_terms xs ≡ o → FactFound (with_predicate p (seen o)) true f 0 → SpellsPlaces p xs true f
-    by none q h = absurd (none-ne-some (spelled f, 0) h.0)
-    by (some u) q h = (u.0, u.1, q, ap (λ s. s.0) (sym (some-injective ((p, u.0), 0) (spelled f, 0) h.0)), h.1)
+    by None q h = absurd (none-some (spelled f, 0) h.0)
+    by (Some u) q h = (u.0, u.1, q, ap (λ s. s.0) (sym (same_Some ((p, u.0), 0) (spelled f, 0) h.0)), h.1)
 
 -- ── Places read one after another ──
 
@@ -89,13 +90,13 @@ first_filled terms xs y ys x e f = rw (e, f) refl
 -- Of some places i are read and are terms, kept in the array of a fact, and the others are still to be read.
 pub record TermsKept (terms : Terms) (r : Reader Place) (xs : List Place) (e more next : ℕ) (arguments : List Argument) (i : ℕ) : Type 0 where
   pub left : List Place
-  pub reads : many r more next ≡ some (left, e)
+  pub reads : many r more next ≡ Some (left, e)
   pub kept : ReadSoFar most_terms no_argument argument_of (terms_in (filled terms xs)) (terms_in (filled terms left)) arguments i
 
 -- The same, if the reader finds so many places from one on.
 pub record PlacesKept (bytes : List ℕ) (terms : Terms) (count at : ℕ) (arguments : List Argument) (next i : ℕ) : Type 0 where
   pub few : i ≤ count
-  pub so_far : (sorts : List Sort) (xs : List Place) (e : ℕ) → FewTerms terms → many (argument bytes sorts) count at ≡ some (xs, e)
+  pub so_far : (sorts : List Sort) (xs : List Place) (e : ℕ) → FewTerms terms → many (argument bytes sorts) count at ≡ Some (xs, e)
       → TermsKept terms (argument bytes sorts) xs e (count - i) next arguments i
 
 module _ {bytes : List ℕ} {terms : Terms} {count at : ℕ} {arguments : List Argument} where
@@ -114,11 +115,11 @@ module _ {bytes : List ℕ} {terms : Terms} {count at : ℕ} {arguments : List A
     -- The next place, which is what was handed back, and those after it.
     record NextPlace (x : Place) (sorts : List Sort) (xs : List Place) (e : ℕ) : Type 0 where
       rest : List Place
-      reads : many (argument bytes sorts) (count - (i + 1)) r.next ≡ some (rest, e)
+      reads : many (argument bytes sorts) (count - (i + 1)) r.next ≡ Some (rest, e)
       kept : ReadSoFar most_terms no_argument argument_of (terms_in (filled terms xs)) (terms_in (x ∷ filled terms rest)) arguments i
 
     next_place : (x : Place) → place_of r.place ≡ x → (sorts : List Sort) (xs : List Place) (e : ℕ) → FewTerms terms
-        → many (argument bytes sorts) count at ≡ some (xs, e) → NextPlace x sorts xs e
+        → many (argument bytes sorts) count at ≡ Some (xs, e) → NextPlace x sorts xs e
     next_place x is sorts xs e few q =
         let before = h.so_far sorts xs e few q in
         let one = next_of (argument bytes sorts) count i next r.next before.left e l (found.1 sorts) before.reads in
@@ -144,8 +145,8 @@ module _ {bytes : List ℕ} {terms : Terms} {count at : ℕ} {arguments : List A
     }
 
     -- A variable leaves no fact.
-    pub variable_left : (j : ℕ) → r.place ≡ Bound j → (sorts : List Sort) (xs : List Place) (e : ℕ) → FewTerms terms → many (argument bytes sorts) count at ≡ some (xs, e)
-        → as_terms (filled terms xs) ≡ none
+    pub variable_left : (j : ℕ) → r.place ≡ Bound j → (sorts : List Sort) (xs : List Place) (e : ℕ) → FewTerms terms → many (argument bytes sorts) count at ≡ Some (xs, e)
+        → as_terms (filled terms xs) ≡ None
     unfolding place_of
     variable_left j e sorts xs end few q =
         let one = next_place (bound j) (ap place_of e) sorts xs end few q in
@@ -153,7 +154,7 @@ module _ {bytes : List ℕ} {terms : Terms} {count at : ℕ} {arguments : List A
 
   -- All of them.
   pub all_kept : {next i : ℕ} → PlacesKept bytes terms count at arguments next i → count ≤ i → (p : ℕ)
-      → (sorts : List Sort) (xs : List Place) (e : ℕ) → FewTerms terms → many (argument bytes sorts) count at ≡ some (xs, e)
+      → (sorts : List Sort) (xs : List Place) (e : ℕ) → FewTerms terms → many (argument bytes sorts) count at ≡ Some (xs, e)
       → SpellsPlaces p (filled terms xs) true (record { predicate = p; count = count; arguments = arguments })
   all_kept {next} {i} h l p sorts xs e few q =
       let all : i ≡ count = omega (arith, h.few) in
@@ -168,14 +169,14 @@ fact_tagged : (bytes : List ℕ) (f : FormulaAt) (p : ℕ) (xs : List Place) →
 unfolding as_fact
 fact_tagged bytes f p xs m =
     elim (ℕ_discrete (tag_byte (tag_of bytes f.at)) (tag_byte FactTag))
-    [ yes e ↦ same_tags _ FactTag e | no n ↦ absurd (some-ne-none (p, xs, refl) (not_fact bytes 0 f m (λ e. n (ap tag_byte e)))) ]
+    [ yes e ↦ same_tags _ FactTag e | no n ↦ absurd (none-some (p, xs, refl) (sym (not_fact bytes 0 f m (λ e. n (ap tag_byte e))))) ]
 
 -- The code's head of it: the predicate, and as many places as the fact has.
 record FactHeaded (bytes : List ℕ) (f : FormulaAt) (head : Head) (p : ℕ) (xs : List Place) (sorts : List Sort) (e : ℕ) : Type 0 where
   written : List Place
   few : head.count ≤ most_terms
   predicate : head.predicate ≡ p
-  reads : many (argument bytes sorts) head.count head.next ≡ some (written, e)
+  reads : many (argument bytes sorts) head.count head.next ≡ Some (written, e)
   is : filled f.terms written ≡ xs
 
 module _ (bytes : List ℕ) (f : FormulaAt) (after : ℕ) (past : f.at < length bytes → after ≡ f.at + 1) (head : Head)
@@ -201,7 +202,7 @@ module _ (bytes : List ℕ) (f : FormulaAt) (after : ℕ) (past : f.at < length 
   few_read = fact_headed.few
 
   pub spells_fact : (found : Bool) (g : Fact)
-      → ((sorts : List Sort) (ys : List Place) (e : ℕ) → FewTerms f.terms → many (argument bytes sorts) head.count head.next ≡ some (ys, e)
+      → ((sorts : List Sort) (ys : List Place) (e : ℕ) → FewTerms f.terms → many (argument bytes sorts) head.count head.next ≡ Some (ys, e)
       → SpellsPlaces head.predicate (filled f.terms ys) found g)
       → SpellsPlaces p xs found g
   spells_fact found g h =

@@ -3,7 +3,7 @@
 use Prim.Native.Nat.{ℕ, suc, ◌-◌, ◌<◌}
 use mathlib.Core.Path.{◌≡◌, refl, sym, ap, ap₂, ◌∙◌}
 use mathlib.Core.List.{List, [], ◌∷◌, map}
-use mathlib.Core.Option.{Option, some, none}
+use Rattle.std.specs.Prelude.{None, Option, Some}
 use mathlib.Core.Logic.{ite, if_pos, if_neg, ◌≢◌}
 use native.Mathlib.Decide.{ℕ_discrete, dec_lt}
 use native.Mathlib.Omega.{arith}
@@ -22,8 +22,8 @@ module _ (t : Term) where
 
   put_elsewhere : (d j : ℕ) → j ≢ d → (o : Option Term) → put_place d t (put_for j o) ≡ put_for j o
   unfolding put_place put_for
-  put_elsewhere d j n none = if_neg (ℕ_discrete j d) n (fixed t) (bound j)
-  put_elsewhere d j n (some u) = refl
+  put_elsewhere d j n None = if_neg (ℕ_discrete j d) n (fixed t) (bound j)
+  put_elsewhere d j n (Some u) = refl
 
   module _ (ρ : List Term) (d j : ℕ) where
     -- A variable of a binder inside is left, and one of a binder outside is looked up.
@@ -44,7 +44,7 @@ module _ (t : Term) where
         by : Dec (j < d) → Dec (j ≡ d) → put_place d t (fill_place (suc d) ρ (bound j)) ≡ fill_place d (t ∷ ρ) (bound j)
         by (yes l) e =
             ap (put_place d t) (left_bound ρ (suc d) j (omega arith))
-            ∙ put_elsewhere d j (omega arith) none
+            ∙ put_elsewhere d j (omega arith) None
             ∙ sym (left_bound (t ∷ ρ) d j l)
         by (no n) (yes e) =
             ap (put_place d t) (left_bound ρ (suc d) j (omega arith))

@@ -2,7 +2,7 @@
 use Prim.Native.Nat.{ℕ, zero, suc, ◌+◌, ◌-◌, ◌≤◌, ◌<◌}
 use mathlib.Core.Path.{◌≡◌, refl}
 use mathlib.Core.List.{List, ◌∷◌}
-use mathlib.Core.Option.{some}
+use Rattle.std.specs.Prelude.{Some}
 use native.Mathlib.Omega.{arith}
 use lib.ListN.{length}
 use Rattle.procap.specs.Bytes.{then, give, predicate_and}
@@ -18,7 +18,7 @@ use Rattle.formula.proofs.PartsRead.{EndsAt, after_end}
 module _ (bytes : List ℕ) where
   -- The formula of at most so many levels at a place ends at r.
   abbrev FormulaEnds : ℕ → ℕ → ℕ → Type 0
-  FormulaEnds at left r = (n : ℕ) (sorts : List Sort) (A : Formula) (e : ℕ) → n ≤ left → formula bytes n sorts at ≡ some (A, e) → r ≡ e
+  FormulaEnds at left r = (n : ℕ) (sorts : List Sort) (A : Formula) (e : ℕ) → n ≤ left → formula bytes n sorts at ≡ Some (A, e) → r ≡ e
 
   -- What stands where a term may ends at r.
   abbrev PlaceEnds : ℕ → ℕ → Type 0
@@ -26,7 +26,7 @@ module _ (bytes : List ℕ) where
 
   -- A predicate and so many places end at r.
   abbrev HeadEnds : ℕ → ℕ → Type 0
-  HeadEnds at r = (sorts : List Sort) (p : ℕ) (xs : List Place) (e : ℕ) → predicate_and bytes (argument bytes sorts) at ≡ some ((p, xs), e) → r ≡ e
+  HeadEnds at r = (sorts : List Sort) (p : ℕ) (xs : List Place) (e : ℕ) → predicate_and bytes (argument bytes sorts) at ≡ Some ((p, xs), e) → r ≡ e
 
   -- A place of a sort ends where it does of any.
   sorted_ends : (at r : ℕ) → PlaceEnds at r → (s : Sort) (sorts : List Sort) → EndsAt (place bytes s sorts at) r

@@ -3,7 +3,7 @@
 use Prim.Native.Nat.{ℕ, suc, ◌+◌, ◌≤◌, ◌<◌}
 use mathlib.Core.Path.{◌≡◌, refl, sym}
 use mathlib.Core.List.{List, ◌∷◌, map}
-use mathlib.Core.Option.{Option, some}
+use Rattle.std.specs.Prelude.{Option, Some}
 use native.Mathlib.Omega.{arith}
 use borrow.Author.Tests.{leb-true, ltb-true}
 use lib.ListN.{length}
@@ -29,7 +29,7 @@ module _ (bytes : List ℕ) (d : ℕ) (f : FormulaAt) where
   -- What stands at a place where a term may, up to the place e.
   pub record Stands (sorts : List Sort) (place : ℕ) (x : Place) (e : ℕ) : Type 0 where
     pub written : Place
-    pub reads : argument bytes sorts place ≡ some (written, e)
+    pub reads : argument bytes sorts place ≡ Some (written, e)
     pub filled : fill_place d (terms_of f.terms) written ≡ x
 
   -- The terms put into what was read.
@@ -40,7 +40,7 @@ module _ (bytes : List ℕ) (d : ℕ) (f : FormulaAt) where
   put_in_place x = fill_place d (terms_of f.terms) x
 
   -- What an argument reads stands there with the terms put in.
-  stands : {sorts : List Sort} {place : ℕ} {x : Place} {e : ℕ} → argument bytes sorts place ≡ some (x, e) → Stands sorts place (put_in_place x) e
+  stands : {sorts : List Sort} {place : ℕ} {x : Place} {e : ℕ} → argument bytes sorts place ≡ Some (x, e) → Stands sorts place (put_in_place x) e
   stands {x = x} r = record { written = x; reads = r; filled = refl }
 
   module _ {F : Formula} (m : Means bytes d f F) where
@@ -66,7 +66,7 @@ module _ (bytes : List ℕ) (d : ℕ) (f : FormulaAt) where
 
     -- What is read one level lower is a part: under d' binders of these sorts, or under the same as the formula itself.
     part_under : (d' : ℕ) (sorts : List Sort) → length sorts ≡ d' + f.terms.count → (n : ℕ) → m.level ≡ suc n
-        → (A : Formula) (start e : ℕ) → formula bytes n sorts start ≡ some (A, e) → Part d' start (fill d' (terms_of f.terms) A)
+        → (A : Formula) (start e : ℕ) → formula bytes n sorts start ≡ Some (A, e) → Part d' start (fill d' (terms_of f.terms) A)
     part_under d' sorts s n l A start e r = record {
       means = record {
         level = n;
@@ -82,7 +82,7 @@ module _ (bytes : List ℕ) (d : ℕ) (f : FormulaAt) where
       lower = omega (arith, l);
     }
 
-    abbrev part_here : (n : ℕ) → m.level ≡ suc n → (A : Formula) (start e : ℕ) → formula bytes n m.sorts start ≡ some (A, e) → Part d start (put_in A)
+    abbrev part_here : (n : ℕ) → m.level ≡ suc n → (A : Formula) (start e : ℕ) → formula bytes n m.sorts start ≡ Some (A, e) → Part d start (put_in A)
     part_here = part_under d m.sorts m.as_many
 
     -- The tag stands inside of the bytes.
@@ -227,10 +227,10 @@ module _ (bytes : List ℕ) (d : ℕ) (f : FormulaAt) where
       pub count : ℕ
       pub after_count : ℕ
       pub written : List Place
-      pub predicate_reads : number bytes 2 (f.at + 1) ≡ some (p, after_predicate)
-      pub count_reads : byte bytes after_predicate ≡ some (count, after_count)
+      pub predicate_reads : number bytes 2 (f.at + 1) ≡ Some (p, after_predicate)
+      pub count_reads : byte bytes after_predicate ≡ Some (count, after_count)
       pub few : count ≤ most_terms
-      pub places_read : many (argument bytes m.sorts) count after_count ≡ some (written, m.end)
+      pub places_read : many (argument bytes m.sorts) count after_count ≡ Some (written, m.end)
       pub as_many : length written ≡ count
       pub filled : map (fill_place d (terms_of f.terms)) written ≡ xs
 

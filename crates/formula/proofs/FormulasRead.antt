@@ -2,7 +2,8 @@
 use Prim.Native.Nat.{ℕ, zero, suc, ◌+◌, ◌<◌}
 use mathlib.Core.Path.{◌≡◌, refl}
 use mathlib.Core.List.{List}
-use mathlib.Core.Option.{some, none-ne-some}
+use Rattle.std.proofs.lemmas.Option.{none-some}
+use Rattle.std.specs.Prelude.{Some}
 use lib.ListN.{length}
 use Rattle.bl.specs.Trees.{Sort, Formula}
 use Rattle.bl.specs.Formulas.{argument, place, formula_by, formula}
@@ -12,7 +13,7 @@ use Rattle.procap.proofs.ReadApart.{as_read, after_byte}
 
 module _ (bytes : List ℕ) (sorts : List Sort) (start : ℕ) where
   -- A place of the sort wanted there is an argument.
-  pub place_read : (s : Sort) → IfRead (λ x e. argument bytes sorts start ≡ some (x, e)) (place bytes s sorts start)
+  pub place_read : (s : Sort) → IfRead (λ x e. argument bytes sorts start ≡ Some (x, e)) (place bytes s sorts start)
   unfolding place
   place_read s = then_read (as_read (argument bytes sorts start)) λ x e r. ensure_read _ _ _ λ _. read r
 
@@ -21,11 +22,11 @@ module _ (bytes : List ℕ) (sorts : List Sort) (start : ℕ) where
     pub inside : start < length bytes
     pub below : ℕ
     pub lower : levels ≡ suc below
-    pub reads : formula_by bytes (λ around. formula bytes below around) sorts (tag_of bytes start) (start + 1) ≡ some r
+    pub reads : formula_by bytes (λ around. formula bytes below around) sorts (tag_of bytes start) (start + 1) ≡ Some r
 
-  pub read_by_tag : (levels : ℕ) (r : Formula × ℕ) → formula bytes levels sorts start ≡ some r → ReadByTag levels r
+  pub read_by_tag : (levels : ℕ) (r : Formula × ℕ) → formula bytes levels sorts start ≡ Some r → ReadByTag levels r
   unfolding formula
-  read_by_tag zero r h = absurd (none-ne-some r h)
+  read_by_tag zero r h = absurd (none-some r h)
   read_by_tag (suc n) r h =
       let (inside, reads) = after_byte bytes start _ r h in
       record { inside = inside; below = n; lower = refl; reads = reads }

@@ -2,7 +2,7 @@
 use Prim.Native.Nat.{ℕ, suc, ◌+◌, ◌-◌, ◌≤◌, ◌<◌}
 use mathlib.Core.Path.{◌≡◌, refl, sym, ap, ◌∙◌}
 use mathlib.Core.List.{List, ◌∷◌}
-use mathlib.Core.Option.{Option, some, none}
+use Rattle.std.specs.Prelude.{None, Option, Some}
 use native.Mathlib.Omega.{arith}
 use borrow.Author.Tests.{eqb-true, eqb-false}
 use lib.Dec.{eqb}
@@ -59,8 +59,8 @@ tells_same_tags one other m n e f =
 -- What is handed back for a place of the bytes is what the reader finds there, with the terms put in, and the place after it.
 abbrev pub PlaceFound : List ℕ → ℕ → Terms → ℕ → PlaceRead → Type 0
 PlaceFound bytes at terms under r =
-    ((sorts : List Sort) (x : Place) (e : ℕ) → FewTerms terms → argument bytes sorts at ≡ some (x, e) → place_of r.place ≡ fill_place under (terms_of terms) x)
-    × ((sorts : List Sort) (x : Place) (e : ℕ) → argument bytes sorts at ≡ some (x, e) → r.next ≡ e)
+    ((sorts : List Sort) (x : Place) (e : ℕ) → FewTerms terms → argument bytes sorts at ≡ Some (x, e) → place_of r.place ≡ fill_place under (terms_of terms) x)
+    × ((sorts : List Sort) (x : Place) (e : ℕ) → argument bytes sorts at ≡ Some (x, e) → r.next ≡ e)
 
 -- The tags of terms that may stand in a formula, and the reader that each of them picks.
 unfoldable pub Fixes : TermTag → Type 0
@@ -111,7 +111,7 @@ module _ (bytes : List ℕ) (at : ℕ) (terms : Terms) (under : ℕ) (r : PlaceR
 
     -- A tag that announces a term.
     pub fixed_found : {kind : TermTag} → tag ≡ kind → Fixes kind
-        → ((t : Term) (e : ℕ) → term_by bytes tag (at + 1) ≡ some (t, e) → (place_of r.place ≡ fixed t) × (r.next ≡ e))
+        → ((t : Term) (e : ℕ) → term_by bytes tag (at + 1) ≡ Some (t, e) → (place_of r.place ≡ fixed t) × (r.next ≡ e))
         → PlaceFound bytes at terms under r
     unfolding fixed_by fill_place
     fixed_found {kind} e f h =
@@ -121,8 +121,8 @@ module _ (bytes : List ℕ) (at : ℕ) (terms : Terms) (under : ℕ) (r : PlaceR
 
     -- A tag that announces a variable.
     pub variable_found : tag ≡ VariableTag
-        → ((i e : ℕ) → FewTerms terms → byte bytes (at + 1) ≡ some (i, e) → place_of r.place ≡ fill_place under (terms_of terms) (bound i))
-        × ((i e : ℕ) → byte bytes (at + 1) ≡ some (i, e) → r.next ≡ e)
+        → ((i e : ℕ) → FewTerms terms → byte bytes (at + 1) ≡ Some (i, e) → place_of r.place ≡ fill_place under (terms_of terms) (bound i))
+        × ((i e : ℕ) → byte bytes (at + 1) ≡ Some (i, e) → r.next ≡ e)
         → PlaceFound bytes at terms under r
     unfolding place_by
     variable_found e h =
@@ -136,23 +136,23 @@ module _ (bytes : List ℕ) (at : ℕ) (terms : Terms) (under : ℕ) (r : PlaceR
 -- What is handed back is the predicate, the count and the place after them that the readers find.
 abbrev pub HeadFound : List ℕ → ℕ → Head → Type 0
 HeadFound bytes at head =
-    (p n e₁ e₂ : ℕ) → number bytes 2 at ≡ some (p, e₁) → byte bytes e₁ ≡ some (n, e₂) → (head.predicate ≡ p) × (head.count ≡ n) × (head.next ≡ e₂)
+    (p n e₁ e₂ : ℕ) → number bytes 2 at ≡ Some (p, e₁) → byte bytes e₁ ≡ Some (n, e₂) → (head.predicate ≡ p) × (head.count ≡ n) × (head.next ≡ e₂)
 
-module _ (bytes : List ℕ) (at p after : ℕ) (h : number bytes 2 at ≡ some (p, after)) where
-  pub head_found : (n end : ℕ) → byte bytes after ≡ some (n, end) → HeadFound bytes at (record { predicate = p; count = n; next = end })
+module _ (bytes : List ℕ) (at p after : ℕ) (h : number bytes 2 at ≡ Some (p, after)) where
+  pub head_found : (n end : ℕ) → byte bytes after ≡ Some (n, end) → HeadFound bytes at (record { predicate = p; count = n; next = end })
   head_found n end k q m e₁ e₂ f g =
       let one = same_read (number bytes 2 at) h f in
       let two = same_read (byte bytes e₁) (rw one.1 at k) g in
       (one.0, two.0, two.1)
 
-  pub no_count_found : byte bytes after ≡ none → (head : Head) → HeadFound bytes at head
+  pub no_count_found : byte bytes after ≡ None → (head : Head) → HeadFound bytes at head
   no_count_found k head q m e₁ e₂ f g = absurd (not_read (byte bytes e₁) (rw (same_read (number bytes 2 at) h f).1 at k) g)
 
 -- ── Where parts end ──
 
 -- What the code hands back is where the reader's value ends, if it finds one.
 abbrev pub EndsAt : {A : Type 0} → Option (A × ℕ) → ℕ → Type 0
-EndsAt {A} o m = (a : A) (e : ℕ) → o ≡ some (a, e) → m ≡ e
+EndsAt {A} o m = (a : A) (e : ℕ) → o ≡ Some (a, e) → m ≡ e
 
 -- Going on from there.
 pub after_end : {A B : Type 0} {Q : B → ℕ → Type 0} (o : Option (A × ℕ)) (m : ℕ) (f : A → Reader B) → EndsAt o m → ((a : A) → IfRead Q (f a m)) → IfRead Q (then o f)
@@ -163,10 +163,10 @@ pub record NextOf {A : Type 0} (r : Reader A) (n at m : ℕ) (xs : List A) (e : 
   pub value : A
   pub rest : List A
   pub is : xs ≡ (value ∷ rest)
-  pub reads : r at ≡ some (value, m)
-  pub more : many r n m ≡ some (rest, e)
+  pub reads : r at ≡ Some (value, m)
+  pub more : many r n m ≡ Some (rest, e)
 
-pub next_of : {A : Type 0} (r : Reader A) (count i at m : ℕ) (xs : List A) (e : ℕ) → i < count → EndsAt (r at) m → many r (count - i) at ≡ some (xs, e)
+pub next_of : {A : Type 0} (r : Reader A) (count i at m : ℕ) (xs : List A) (e : ℕ) → i < count → EndsAt (r at) m → many r (count - i) at ≡ Some (xs, e)
     → NextOf r (count - (i + 1)) at m xs e
 next_of r count i at m xs e l h q =
     let n : ℕ = count - (i + 1) in
@@ -177,15 +177,15 @@ next_of r count i at m xs e l h q =
       value = one.first;
       rest = one.others;
       is = one.is;
-      reads = one.first_reads ∙ ap (λ k. some (one.first, k)) (sym ends);
+      reads = one.first_reads ∙ ap (λ k. Some (one.first, k)) (sym ends);
       more = ap (many r n) ends ∙ one.others_read;
     }
 
 -- Of so many places from one on, i are passed, up to the next place.
 pub record PlacesPassed (bytes : List ℕ) (count at next i : ℕ) : Type 0 where
   pub few : i ≤ count
-  pub left : (sorts : List Sort) (xs : List Place) (e : ℕ) → many (argument bytes sorts) count at ≡ some (xs, e)
-      → (ys : List Place) × (many (argument bytes sorts) (count - i) next ≡ some (ys, e))
+  pub left : (sorts : List Sort) (xs : List Place) (e : ℕ) → many (argument bytes sorts) count at ≡ Some (xs, e)
+      → (ys : List Place) × (many (argument bytes sorts) (count - i) next ≡ Some (ys, e))
 
 module _ {bytes : List ℕ} {count at : ℕ} where
   pub none_passed : PlacesPassed bytes count at at 0
@@ -209,7 +209,7 @@ module _ {bytes : List ℕ} {count at : ℕ} where
 -- A predicate, a count and so many places end where the places do.
 module _ (bytes : List ℕ) (at r : ℕ) (head : Head) where
   pub head_ends : HeadFound bytes at head → ((sorts : List Sort) → EndsAt (many (argument bytes sorts) head.count head.next) r)
-      → (sorts : List Sort) (p : ℕ) (xs : List Place) (e : ℕ) → predicate_and bytes (argument bytes sorts) at ≡ some ((p, xs), e) → r ≡ e
+      → (sorts : List Sort) (p : ℕ) (xs : List Place) (e : ℕ) → predicate_and bytes (argument bytes sorts) at ≡ Some ((p, xs), e) → r ≡ e
   unfolding predicate_and
   head_ends h k sorts p xs e q =
       so_read {P = λ _ e. r ≡ e} (predicate_and bytes (argument bytes sorts) at) q

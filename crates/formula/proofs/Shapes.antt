@@ -3,7 +3,7 @@
 use Prim.Native.Nat.{ℕ, suc, ◌+◌}
 use mathlib.Core.Path.{◌≡◌, refl, sym, ap, ◌∙◌}
 use mathlib.Core.List.{List, ◌∷◌}
-use mathlib.Core.Option.{Option, some, none}
+use Rattle.std.specs.Prelude.{None, Option, Some}
 use native.Mathlib.Omega.{arith}
 use Rattle.procap.specs.declared.fact.Term.{Term}
 use Rattle.bl.specs.declared.FormulaTag.{FormulaTag}
@@ -34,9 +34,9 @@ kind (or A B) = OrTag
 kind falsity = FalsityTag
 
 -- Where there can be no value there is none.
-none_there : {X : Type 0} (o : Option X) → (X → ⊥) → o ≡ none
-none_there none n = refl
-none_there (some x) n = absurd (n x)
+none_there : {X : Type 0} (o : Option X) → (X → ⊥) → o ≡ None
+none_there None n = refl
+none_there (Some x) n = absurd (n x)
 
 module _ (bytes : List ℕ) (d : ℕ) (f : FormulaAt) {F : Formula} (m : Means bytes d f F) where
   -- The tag is that of the formula's kind.
@@ -61,19 +61,19 @@ module _ (bytes : List ℕ) (d : ℕ) (f : FormulaAt) {F : Formula} (m : Means b
   tag_is e = sym (kind_by _ refl) ∙ ap kind e
 
   -- Another tag is another kind.
-  pub not_top : (tag_of bytes f.at ≡ TopTag → ⊥) → as_top F ≡ none
+  pub not_top : (tag_of bytes f.at ≡ TopTag → ⊥) → as_top F ≡ None
   unfolding kind
   not_top n = none_there (as_top F) λ x. n (tag_is x)
 
-  pub not_and : (tag_of bytes f.at ≡ AndTag → ⊥) → as_and F ≡ none
+  pub not_and : (tag_of bytes f.at ≡ AndTag → ⊥) → as_and F ≡ None
   unfolding kind
   not_and n = none_there (as_and F) λ x. n (tag_is x.2)
 
-  pub not_implies : (tag_of bytes f.at ≡ ImpliesTag → ⊥) → as_implies F ≡ none
+  pub not_implies : (tag_of bytes f.at ≡ ImpliesTag → ⊥) → as_implies F ≡ None
   unfolding kind
   not_implies n = none_there (as_implies F) λ x. n (tag_is x.2)
 
-  pub not_all : (tag_of bytes f.at ≡ AllNamesTag → ⊥) → (tag_of bytes f.at ≡ AllTimesTag → ⊥) → as_all F ≡ none
+  pub not_all : (tag_of bytes f.at ≡ AllNamesTag → ⊥) → (tag_of bytes f.at ≡ AllTimesTag → ⊥) → as_all F ≡ None
   unfolding kind binder_tag
   not_all n k = none_there (as_all F) λ x. by x.0 (tag_is x.2)
     where
@@ -81,31 +81,31 @@ module _ (bytes : List ℕ) (d : ℕ) (f : FormulaAt) {F : Formula} (m : Means b
       by names e = n e
       by times e = k e
 
-  pub not_says : (tag_of bytes f.at ≡ SaysTag → ⊥) → as_says F ≡ none
+  pub not_says : (tag_of bytes f.at ≡ SaysTag → ⊥) → as_says F ≡ None
   unfolding kind
   not_says n = none_there (as_says F) λ x. n (tag_is x.2)
 
-  pub not_at : (tag_of bytes f.at ≡ AtTag → ⊥) → as_at F ≡ none
+  pub not_at : (tag_of bytes f.at ≡ AtTag → ⊥) → as_at F ≡ None
   unfolding kind
   not_at n = none_there (as_at F) λ x. n (tag_is x.3)
 
-  pub not_atom : (tag_of bytes f.at ≡ AtomTag → ⊥) → as_atom F ≡ none
+  pub not_atom : (tag_of bytes f.at ≡ AtomTag → ⊥) → as_atom F ≡ None
   unfolding kind
   not_atom n = none_there (as_atom F) λ x. n (tag_is x.2)
 
-  pub not_fact : (tag_of bytes f.at ≡ FactTag → ⊥) → as_fact F ≡ none
+  pub not_fact : (tag_of bytes f.at ≡ FactTag → ⊥) → as_fact F ≡ None
   unfolding kind
   not_fact n = none_there (as_fact F) λ x. n (tag_is x.2)
 
-  pub not_order : (tag_of bytes f.at ≡ OrderTag → ⊥) → as_order F ≡ none
+  pub not_order : (tag_of bytes f.at ≡ OrderTag → ⊥) → as_order F ≡ None
   unfolding kind
   not_order n = none_there (as_order F) λ x. n (tag_is x.2)
 
-  pub not_or : (tag_of bytes f.at ≡ OrTag → ⊥) → as_or F ≡ none
+  pub not_or : (tag_of bytes f.at ≡ OrTag → ⊥) → as_or F ≡ None
   unfolding kind
   not_or n = none_there (as_or F) λ x. n (tag_is x.2)
 
-  pub not_falsity : (tag_of bytes f.at ≡ FalsityTag → ⊥) → as_falsity F ≡ none
+  pub not_falsity : (tag_of bytes f.at ≡ FalsityTag → ⊥) → as_falsity F ≡ None
   unfolding kind
   not_falsity n = none_there (as_falsity F) λ x. n (tag_is x)
 

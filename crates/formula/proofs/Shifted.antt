@@ -3,7 +3,7 @@ use Prim.Native.Nat.{ℕ, zero, suc, ◌+◌, ◌≤◌}
 use mathlib.Core.Path.{◌≡◌, refl, ap, ◌∙◌}
 use mathlib.Core.Bool.{Bool, true, false}
 use mathlib.Core.List.{List, [], ◌∷◌}
-use mathlib.Core.Option.{Option, some, none}
+use Rattle.std.specs.Prelude.{None, Option, Some}
 use native.Mathlib.Omega.{arith}
 use borrow.Author.Tests.{le-leb, leb-true}
 use lib.ListN.{length, take, drop, length-drop}
@@ -23,18 +23,18 @@ use Rattle.bl.specs.Formulas.{most_formula_levels, fixed_by, place_by, argument,
 -- ── What is found here is found there, so much later ──
 
 data Shifted {A : Type 0} (start : ℕ) : Option (A × ℕ) → Option (A × ℕ) → Type 0 where
-  nothing : {there : Option (A × ℕ)} → Shifted start none there
-  later : {a : A} {e : ℕ} → Shifted start (some (a, e)) (some (a, start + e))
+  nothing : {there : Option (A × ℕ)} → Shifted start None there
+  later : {a : A} {e : ℕ} → Shifted start (Some (a, e)) (Some (a, start + e))
 
 -- What one reader finds at a place, another finds so much later, and it ends as much later.
 record Shifts {A : Type 0} (start : ℕ) (here there : Reader A) : Type 0 where
   at_each : (at : ℕ) → Shifted start (here at) (there (start + at))
 
-found_later : {A : Type 0} {start : ℕ} {here there : Reader A} → Shifts start here there → (at : ℕ) (a : A) (e : ℕ) → here at ≡ some (a, e)
-    → there (start + at) ≡ some (a, start + e)
+found_later : {A : Type 0} {start : ℕ} {here there : Reader A} → Shifts start here there → (at : ℕ) (a : A) (e : ℕ) → here at ≡ Some (a, e)
+    → there (start + at) ≡ Some (a, start + e)
 found_later {A} {start} {here} {there} h at a e q = by (there (start + at)) (rw q at (h.at_each at))
   where
-    by : (o : Option (A × ℕ)) → Shifted start (some (a, e)) o → o ≡ some (a, start + e)
+    by : (o : Option (A × ℕ)) → Shifted start (Some (a, e)) o → o ≡ Some (a, start + e)
     by o later = refl
 
 -- ── Readers one after another ──
@@ -92,7 +92,7 @@ module _ (buffer : List ℕ) (start size : ℕ) (fits : start + size ≤ length 
   next_shifts k = record { at_each = λ at. by at (leb (at + k) (length part)) refl }
     where
       by : (at : ℕ) (b : Bool) → leb (at + k) (length part) ≡ b
-          → Shifted start (pick b (some (take k (drop at part), at + k)) none) (next buffer k (start + at))
+          → Shifted start (pick b (Some (take k (drop at part), at + k)) None) (next buffer k (start + at))
       by at true e =
           let l = leb-true (at + k) (length part) e in
           let same : take k (drop at part) ≡ take k (drop (start + at) buffer) =
@@ -210,12 +210,12 @@ module _ (buffer : List ℕ) (start size : ℕ) (fits : start + size ≤ length 
       formula_by_shifts (formula part n) (formula buffer n) (formula_shifts n) sorts (formula_tag b)
 
   -- A formula read in the part is read at its place in the buffer.
-  formula_shifted : (n : ℕ) (sorts : List Sort) (at : ℕ) (A : Formula) (e : ℕ) → formula (take size (drop start buffer)) n sorts at ≡ some (A, e)
-      → formula buffer n sorts (start + at) ≡ some (A, start + e)
+  formula_shifted : (n : ℕ) (sorts : List Sort) (at : ℕ) (A : Formula) (e : ℕ) → formula (take size (drop start buffer)) n sorts at ≡ Some (A, e)
+      → formula buffer n sorts (start + at) ≡ Some (A, start + e)
   formula_shifted n sorts at A e q = found_later (formula_shifts n sorts) at A e q
 
   -- The formula that takes the whole part is read in the buffer where the part begins, and ends where it ends.
-  pub formula_in_shifted : (A : Formula) → formula_in (take size (drop start buffer)) ≡ some A → formula buffer most_formula_levels [] start ≡ some (A, start + size)
+  pub formula_in_shifted : (A : Formula) → formula_in (take size (drop start buffer)) ≡ Some A → formula buffer most_formula_levels [] start ≡ Some (A, start + size)
   unfolding formula_in whole
   formula_in_shifted A q =
       let found = formula_shifted most_formula_levels [] 0 A (length part) (at_the_end part (formula part most_formula_levels [] 0) A q) in

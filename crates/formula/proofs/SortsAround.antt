@@ -4,7 +4,7 @@ use Prim.Native.Nat.{ℕ, ◌+◌, ◌-◌, ◌<◌}
 use mathlib.Core.Path.{◌≡◌, ap, ◌∙◌}
 use mathlib.Core.Bool.{Bool, false}
 use mathlib.Core.List.{◌∷◌}
-use mathlib.Core.Option.{some}
+use Rattle.std.specs.Prelude.{Some}
 use native.Mathlib.Omega.{arith}
 use lib.ListN.{length, get_or, set}
 use lib.Seq.{get_or-set_same, get_or-set_other}
@@ -18,9 +18,9 @@ module _ (b : Binders) where
   unfolding sorts_of
   sorts_length = stack_length _ b.count
 
-  pub sort_at : (i : ℕ) → i < b.count → nth (sorts_of b) i ≡ some (sort_of (get_or b.times (b.count - 1 - i) false))
+  pub sort_at : (i : ℕ) → i < b.count → nth (sorts_of b) i ≡ Some (sort_of (get_or b.times (b.count - 1 - i) false))
   unfolding sorts_of
-  sort_at i l = nth_stack _ b.count i l ∙ ap (λ k. some (sort_of (get_or b.times k false))) (omega arith)
+  sort_at i l = nth_stack _ b.count i l ∙ ap (λ k. Some (sort_of (get_or b.times k false))) (omega arith)
 
   pub sorts_more : (s : Bool) → b.count < length b.times
       → sorts_of (record { count = b.count + 1; times = set b.times b.count s }) ≡ (sort_of s ∷ sorts_of b)

@@ -2,7 +2,7 @@
 use Prim.Native.Nat.{ℕ, zero, suc, ◌+◌, ◌-◌, ◌≤◌, ◌<◌}
 use mathlib.Core.Path.{◌≡◌, refl, ap, ap₂, ◌∙◌}
 use mathlib.Core.List.{◌∷◌}
-use mathlib.Core.Option.{some, none}
+use Rattle.std.specs.Prelude.{None, Some}
 use native.Mathlib.Numerals.{add-one}
 use native.Mathlib.Omega.{arith}
 use lib.ListN.{length}
@@ -17,13 +17,13 @@ module _ {A : Type 0} (f : ℕ → A) where
   stack_length (suc n) = ap suc (stack_length n)
 
   -- At an index stands the element so far back from the last, and none past the first.
-  pub nth_stack : (n i : ℕ) → i < n → nth (stack f n) i ≡ some (f (n - i - 1))
+  pub nth_stack : (n i : ℕ) → i < n → nth (stack f n) i ≡ Some (f (n - i - 1))
   unfolding stack nth
   nth_stack zero i l = absurd (omega arith)
-  nth_stack (suc n) zero l = ap (λ k. some (f k)) (omega arith)
-  nth_stack (suc n) (suc i) l = nth_stack n i (omega arith) ∙ ap (λ k. some (f k)) (omega arith)
+  nth_stack (suc n) zero l = ap (λ k. Some (f k)) (omega arith)
+  nth_stack (suc n) (suc i) l = nth_stack n i (omega arith) ∙ ap (λ k. Some (f k)) (omega arith)
 
-  pub nth_stack_none : (n i : ℕ) → n ≤ i → nth (stack f n) i ≡ none
+  pub nth_stack_none : (n i : ℕ) → n ≤ i → nth (stack f n) i ≡ None
   unfolding stack nth
   nth_stack_none zero i l = refl
   nth_stack_none (suc n) zero l = absurd (omega arith)

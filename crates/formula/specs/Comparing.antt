@@ -1,6 +1,5 @@
 -- What comparing promises of its parts: places one after another, a predicate with its places, and the formulas that follow.
-use Rattle.std.specs.Prelude.{ℕ, suc, ◌≤◌, ◌<◌, ◌≡◌, List, map, length}
-use Rattle.std.proofs.Math.Option.{some}
+use Rattle.std.specs.Prelude.{ℕ, suc, ◌≤◌, ◌<◌, ◌≡◌, List, map, length, Some}
 use Rattle.procap.specs.Bytes.{number, byte, many}
 use Rattle.bl.specs.declared.FormulaTag.{FormulaTag}
 use Rattle.bl.specs.Trees.{Place, Sort, Formula}
@@ -36,7 +35,7 @@ pub record PlacesStand (bytes : List ℕ) (d count : ℕ) (f : FormulaAt) (xs : 
   pub few : FewTerms f.terms
   pub sorts : List Sort
   pub written : List Place
-  pub reads : many (argument bytes sorts) count f.at ≡ some (written, e)
+  pub reads : many (argument bytes sorts) count f.at ≡ Some (written, e)
   pub filled : map (fill_place d (terms_of f.terms)) written ≡ xs
 
 -- A predicate, a count, and so many places.
@@ -44,8 +43,8 @@ pub record HeadStands (bytes : List ℕ) (d : ℕ) (f : FormulaAt) (p : ℕ) (xs
   pub after_predicate : ℕ
   pub count : ℕ
   pub after_count : ℕ
-  pub predicate_reads : number bytes 2 f.at ≡ some (p, after_predicate)
-  pub count_reads : byte bytes after_predicate ≡ some (count, after_count)
+  pub predicate_reads : number bytes 2 f.at ≡ Some (p, after_predicate)
+  pub count_reads : byte bytes after_predicate ≡ Some (count, after_count)
   pub places : PlacesStand bytes d count (begin f after_count) xs e
 
 module _ (left_bytes right_bytes : List ℕ) where

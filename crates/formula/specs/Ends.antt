@@ -1,6 +1,5 @@
 -- Where what a reader finds ends, as the code hands it back.
-use Rattle.std.specs.Prelude.{ℕ, ◌≤◌, ◌≡◌, Bool, true, false, List, get_or}
-use Rattle.std.proofs.Math.Option.{Option, some, none}
+use Rattle.std.specs.Prelude.{ℕ, ◌≤◌, ◌≡◌, Bool, true, false, List, get_or, None, Option, Some}
 use Rattle.procap.specs.Bytes.{Reader, ◌>>=◌, give}
 use Rattle.bl.specs.Trees.{Place, Sort, names, times, Formula}
 use Rattle.bl.specs.Formulas.{most_binders, variable_of, place_of, place}
@@ -13,8 +12,8 @@ use Rattle.formula.specs.PutIn.{stack}
 
 -- What a reader finds ends there, or it finds nothing.
 abbrev pub Ends : {A : Type 0} → Option (A × ℕ) → End → Type 0
-Ends {A} o (At e) = (a : A) × (o ≡ some (a, e))
-Ends o Nowhere = o ≡ none
+Ends {A} o (At e) = (a : A) × (o ≡ Some (a, e))
+Ends o Nowhere = o ≡ None
 
 -- The same of a reader that begins where something else ends, if it does.
 abbrev pub EndsAfter : {A : Type 0} → Reader A → End → End → Type 0
@@ -28,12 +27,12 @@ sort_of true = times
 
 -- A place is of this sort: it stands where one of this sort is wanted, and only there.
 abbrev pub OfSort : List Sort → Sort → Place → Type 0
-OfSort sorts s x = (wanted : Sort) → place_of wanted sorts x ≡ variable_of wanted (some s)
+OfSort sorts s x = (wanted : Sort) → place_of wanted sorts x ≡ variable_of wanted (Some s)
 
 -- What a reader of places finds is of this sort and ends there, or it finds nothing.
 abbrev pub PlaceEnds : List Sort → Option (Place × ℕ) → PlaceEnd → Type 0
-PlaceEnds sorts o (Found is_time e) = (x : Place) × (o ≡ some (x, e)) × OfSort sorts (sort_of is_time) x
-PlaceEnds sorts o NoPlace = o ≡ none
+PlaceEnds sorts o (Found is_time e) = (x : Place) × (o ≡ Some (x, e)) × OfSort sorts (sort_of is_time) x
+PlaceEnds sorts o NoPlace = o ≡ None
 
 -- Two times.
 unfoldable pub two_times : List ℕ → List Sort → Reader (Place × Place)

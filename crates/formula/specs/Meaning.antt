@@ -1,6 +1,5 @@
 -- What a formula in bytes means: the tree that the bytes read as, with the terms put in.
-use Rattle.std.specs.Prelude.{ℕ, ◌+◌, ◌≤◌, ◌≡◌, Bool, true, false, List, length, get_or}
-use Rattle.std.proofs.Math.Option.{some, none}
+use Rattle.std.specs.Prelude.{ℕ, ◌+◌, ◌≤◌, ◌≡◌, Bool, true, false, List, length, get_or, None, Some}
 use Rattle.procap.specs.Facts.{spelled, fact_of}
 use Rattle.procap.specs.Numbered.{time_of}
 use Rattle.procap.specs.declared.time.Time.{Time}
@@ -40,7 +39,7 @@ pub record Means (bytes : List ℕ) (d : ℕ) (f : FormulaAt) (F : Formula) : Ty
   pub few : FewTerms f.terms
   pub tree : Formula
   pub end : ℕ
-  pub reads : formula bytes level sorts f.at ≡ some (tree, end)
+  pub reads : formula bytes level sorts f.at ≡ Some (tree, end)
   pub filled : fill d (terms_of f.terms) tree ≡ F
 
 -- The two ends of a judgement's interval.
@@ -59,21 +58,21 @@ pub record On (bytes : List ℕ) (j : Judgement) (F : Formula) (a b : Time) : Ty
 -- Where the reader finds something at a place, a value with the terms put in is that, and a place after it is where it ends.
 abbrev pub PlaceReads : List ℕ → ℕ → Terms → ℕ → code.Place → Type 0
 PlaceReads bytes at terms under place =
-    (sorts : List Sort) (x : Place) (e : ℕ) → FewTerms terms → argument bytes sorts at ≡ some (x, e)
+    (sorts : List Sort) (x : Place) (e : ℕ) → FewTerms terms → argument bytes sorts at ≡ Some (x, e)
     → place_of place ≡ fill_place under (terms_of terms) x
 
 abbrev pub PlaceEnds : List ℕ → ℕ → ℕ → Type 0
-PlaceEnds bytes at next = (sorts : List Sort) (x : Place) (e : ℕ) → argument bytes sorts at ≡ some (x, e) → next ≡ e
+PlaceEnds bytes at next = (sorts : List Sort) (x : Place) (e : ℕ) → argument bytes sorts at ≡ Some (x, e) → next ≡ e
 
 -- A predicate and a count are what the readers find.
 abbrev pub HeadReads : List ℕ → ℕ → Head → Type 0
 HeadReads bytes at r =
-    (p n e₁ e₂ : ℕ) → number bytes 2 at ≡ some (p, e₁) → byte bytes e₁ ≡ some (n, e₂)
+    (p n e₁ e₂ : ℕ) → number bytes 2 at ≡ Some (p, e₁) → byte bytes e₁ ≡ Some (n, e₂)
     → (r.predicate ≡ p) × (r.count ≡ n) × (r.next ≡ e₂)
 
 -- A formula of at most so many levels ends there.
 abbrev pub FormulaEnds : List ℕ → ℕ → ℕ → ℕ → Type 0
-FormulaEnds bytes left at r = (n : ℕ) (sorts : List Sort) (A : Formula) (e : ℕ) → n ≤ left → formula bytes n sorts at ≡ some (A, e) → r ≡ e
+FormulaEnds bytes left at r = (n : ℕ) (sorts : List Sort) (A : Formula) (e : ℕ) → n ≤ left → formula bytes n sorts at ≡ Some (A, e) → r ≡ e
 
 -- Comparing two formulas in bytes is comparing what they mean, and where it goes on it comes to their ends.
 abbrev pub Compares : List ℕ → FormulaAt → List ℕ → FormulaAt → ℕ → ℕ → Ledger → ℕ → Ledger → ℕ → ℕ → Type 0
@@ -84,5 +83,5 @@ Compares left_bytes left right_bytes right d q l levels r left_next right_next =
 
 -- A fact read from the bytes spells these places, or a variable is left among them, by the flag.
 unfoldable pub SpellsPlaces : ℕ → List Place → Bool → Fact → Type 0
-SpellsPlaces p xs true f = (ts : List Term) × (e : _) × (as_terms xs ≡ some (ts, e)) × (spelled f ≡ (p, ts)) × (f ≡ fact_of (spelled f))
-SpellsPlaces p xs false f = as_terms xs ≡ none
+SpellsPlaces p xs true f = (ts : List Term) × (e : _) × (as_terms xs ≡ Some (ts, e)) × (spelled f ≡ (p, ts)) × (f ≡ fact_of (spelled f))
+SpellsPlaces p xs false f = as_terms xs ≡ None

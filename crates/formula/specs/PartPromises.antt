@@ -1,6 +1,5 @@
 -- What the readers of parts and the comparison promise, over the bytes that are lent to them.
-use Rattle.std.specs.Prelude.{ℕ, ◌+◌, ◌<◌, ◌≡◌, Bool, List, map, length}
-use Rattle.std.proofs.Math.Option.{some}
+use Rattle.std.specs.Prelude.{ℕ, ◌+◌, ◌<◌, ◌≡◌, Bool, List, map, length, Some}
 use Rattle.procap.specs.Lent.{Lent}
 use Rattle.procap.specs.Numbered.{time_numbers}
 use Rattle.procap.specs.Bytes.{byte, many, term_by, predicate_and}
@@ -31,12 +30,12 @@ front_on_ctime = record { formula = record { at = 0; terms = no_terms }; from = 
 
 -- The term that a tag announces, and the place after it, are what the reader finds.
 abbrev pub FixedReads : Lent → TermTag → ℕ → PlaceRead → Type 0
-FixedReads bytes tag at r = (t : Term) (e : ℕ) → term_by bytes.entry.now tag at ≡ some (t, e) → (place_of r.place ≡ fixed t) × (r.next ≡ e)
+FixedReads bytes tag at r = (t : Term) (e : ℕ) → term_by bytes.entry.now tag at ≡ Some (t, e) → (place_of r.place ≡ fixed t) × (r.next ≡ e)
 
 -- A variable is what is put in for it.
 abbrev pub VariableReads : Lent → ℕ → Terms → ℕ → PlaceRead → Type 0
 VariableReads bytes at terms under r =
-    (i e : ℕ) → FewTerms terms → byte bytes.entry.now at ≡ some (i, e) → place_of r.place ≡ fill_place under (terms_of terms) (bound i)
+    (i e : ℕ) → FewTerms terms → byte bytes.entry.now at ≡ Some (i, e) → place_of r.place ≡ fill_place under (terms_of terms) (bound i)
 
 -- The fact that a formula is, and the fact of a predicate with the places behind it.
 abbrev pub FactSpelled : Lent → FormulaAt → FactRead → Type 0
@@ -44,16 +43,16 @@ FactSpelled bytes f r = (p : ℕ) (xs : List Place) → Means bytes.entry.now 0 
 
 abbrev pub HeadSpelled : Lent → Head → Terms → FactRead → Type 0
 HeadSpelled bytes head terms r =
-    (sorts : List Sort) (xs : List Place) (e : ℕ) → FewTerms terms → many (argument bytes.entry.now sorts) head.count head.next ≡ some (xs, e)
+    (sorts : List Sort) (xs : List Place) (e : ℕ) → FewTerms terms → many (argument bytes.entry.now sorts) head.count head.next ≡ Some (xs, e)
     → SpellsPlaces head.predicate (map (fill_place 0 (terms_of terms)) xs) r.found r.fact
 
 -- So many places end there, and a predicate with its places does.
 abbrev pub PlacesEnd : Lent → ℕ → ℕ → ℕ → Type 0
-PlacesEnd bytes at count r = (sorts : List Sort) (xs : List Place) (e : ℕ) → many (argument bytes.entry.now sorts) count at ≡ some (xs, e) → r ≡ e
+PlacesEnd bytes at count r = (sorts : List Sort) (xs : List Place) (e : ℕ) → many (argument bytes.entry.now sorts) count at ≡ Some (xs, e) → r ≡ e
 
 abbrev pub HeadEnds : Lent → ℕ → ℕ → Type 0
 HeadEnds bytes at r =
-    (sorts : List Sort) (p : ℕ) (xs : List Place) (e : ℕ) → predicate_and bytes.entry.now (argument bytes.entry.now sorts) at ≡ some ((p, xs), e) → r ≡ e
+    (sorts : List Sort) (p : ℕ) (xs : List Place) (e : ℕ) → predicate_and bytes.entry.now (argument bytes.entry.now sorts) at ≡ Some ((p, xs), e) → r ≡ e
 
 -- Comparing two formulas.
 abbrev pub ComparesOver : Lent → FormulaAt → Lent → FormulaAt → ℕ → ℕ → Ledger → ℕ → Compared → Type 0

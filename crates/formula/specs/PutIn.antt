@@ -1,6 +1,5 @@
 -- The terms put in for the binders passed, and a formula with them put in.
-use Rattle.std.specs.Prelude.{ℕ, zero, suc, ◌+◌, ◌-◌, ◌≤◌, ◌≡◌, List, [], ◌∷◌, map, length, get_or, set, replicate, ltb}
-use Rattle.std.proofs.Math.Option.{Option, some, none}
+use Rattle.std.specs.Prelude.{ℕ, zero, suc, ◌+◌, ◌-◌, ◌≤◌, ◌≡◌, List, [], ◌∷◌, map, length, get_or, set, replicate, ltb, None, Option, Some}
 use Rattle.std.proofs.Math.Logic.{ite}
 use Rattle.std.proofs.Math.Decide.{dec_lt}
 use Rattle.procap.specs.Tells.{pick}
@@ -52,8 +51,8 @@ place_of (Bound i) = bound i
 
 -- The term put in for a variable, if there is one.
 unfoldable pub put_for : ℕ → Option Term → tree.Place
-put_for j none = bound j
-put_for j (some t) = fixed t
+put_for j None = bound j
+put_for j (Some t) = fixed t
 
 -- The terms ρ put in for the variables of a place, under d binders of its own.
 unfoldable pub fill_place : ℕ → List Term → tree.Place → tree.Place

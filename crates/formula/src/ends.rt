@@ -1,6 +1,5 @@
 // Whether a part holds one formula: where the formula at a place ends, by recursion on the level left.
 ghost use Rattle.std.specs.Prelude.{◌≡◌, List, ◌∷◌, [], ◌<◌};
-ghost use Rattle.std.proofs.Math.Option.{some};
 ghost use Rattle.procap.specs.Tells.{Tells};
 ghost use Rattle.procap.specs.Bytes.{many, predicate_and};
 ghost use Rattle.bl.specs.Trees.{Formula, Sort};
@@ -38,7 +37,7 @@ struct Binders {
 
 // Whether the part holds one formula that fills it.
 pub fn holds_formula(part: &[u8]) -> bool
-    ensures { Tells result ((A : Formula) × (formula_in part.now ≡ some A)) }
+    ensures { Tells result ((A : Formula) × (formula_in part.now ≡ Some A)) }
 {
     match formula_end(part, no_binders(), 0, MOST_FORMULA_LEVELS) {
         End::At(end) => end == part.len(),

@@ -1,6 +1,5 @@
 // Formulas as they stand in bytes, taken apart: their tags, what stands where a term may, and where a formula ends.
 ghost use Rattle.std.specs.Prelude.{◌≡◌, ℕ, ◌≤◌};
-ghost use Rattle.std.proofs.Math.Option.{some};
 ghost use Rattle.procap.specs.Tells.{Tells};
 ghost use Rattle.procap.specs.Facts.{most_terms};
 ghost use Rattle.procap.specs.Bytes.{byte};
@@ -167,7 +166,7 @@ fn fixed_by(bytes: &[u8], tag: TermTag, at: usize) -> PlaceRead
 // The variable at a place, or what was put in for it.
 fn variable_at(bytes: &[u8], at: usize, terms: Terms, under: usize) -> PlaceRead
     ensures place { VariableReads bytes at terms under result }
-    ensures next { (i e : ℕ) → byte bytes.now at ≡ some (i, e) → result.next ≡ e }
+    ensures next { (i e : ℕ) → byte bytes.now at ≡ Some (i, e) → result.next ≡ e }
 {
     if bytes.len() <= at {
         return no_place(at);

@@ -4,7 +4,8 @@ use mathlib.Core.Path.{◌≡◌, refl, sym, ap, ◌∙◌}
 use mathlib.Core.List.{List}
 use native.Mathlib.Omega.{arith}
 use Rattle.procap.specs.Answers.{number_of}
-use Rattle.procap.specs.Outcome.{Outcome, granted, refused, go_on, answer_of, procap_handed}
+use Rattle.std.specs.Prelude.{Err, Ok}
+use Rattle.procap.specs.Outcome.{Outcome, go_on, answer_of, procap_handed}
 use Rattle.procap.specs.declared.answer.Answer.{Answer}
 use Rattle.procap.specs.declared.procap.Procap.{Procap}
 use Rattle.procap.proofs.Refused.{IfRefused}
@@ -25,19 +26,19 @@ module _ (o : Outcome (List ℕ)) (before : List ℕ) (number : ℕ) where
   hands_back_so_written other after w packs wrote same = hands_back_written after w packs (rw (sym same) at wrote)
 
   -- A refusal is handed back with the length 0, and the buffer is as it was.
-  pub hands_back_refused : (answer : Answer) → number ≡ packed answer 0 → o ≡ refused answer → HandsBack o before number before
+  pub hands_back_refused : (answer : Answer) → number ≡ packed answer 0 → o ≡ Err answer → HandsBack o before number before
   unfolding answer_of length_given buffer_left
   hands_back_refused answer packs refuses = rw refuses (packs, refl)
 
 module _ (o : Outcome Procap) (answer : Answer) (given : answer ≡ answer_of o) (f : Procap → Outcome (List ℕ)) where
   -- With another number than 0 the outcome is a refusal, and nothing goes on from it.
-  pub stops_there : (number_of answer ≡ 0 → ⊥) → go_on o f ≡ refused answer
+  pub stops_there : (number_of answer ≡ 0 → ⊥) → go_on o f ≡ Err answer
   unfolding answer_of go_on
   stops_there other = by o given
     where
-      by : (x : Outcome Procap) → answer ≡ answer_of x → go_on x f ≡ refused answer
-      by (granted p) same = absurd (other (ap number_of same))
-      by (refused a) same = ap refused (sym same)
+      by : (x : Outcome Procap) → answer ≡ answer_of x → go_on x f ≡ Err answer
+      by (Ok p) same = absurd (other (ap number_of same))
+      by (Err a) same = ap Err (sym same)
 
   -- With the number 0 it goes on with the procap that is handed over.
   pub goes_on_with : IfRefused Refuses o → number_of answer ≡ 0 → (p : Procap) → p ≡ procap_handed o → go_on o f ≡ f p
@@ -45,5 +46,5 @@ module _ (o : Outcome Procap) (answer : Answer) (given : answer ≡ answer_of o)
   goes_on_with refuses zero p handed = by o given refuses handed
     where
       by : (x : Outcome Procap) → answer ≡ answer_of x → IfRefused Refuses x → p ≡ procap_handed x → go_on x f ≡ f p
-      by (granted q) same no_zero is = ap f (sym is)
-      by (refused a) same no_zero is = let numbers = ap number_of same in absurd (omega (arith, no_zero))
+      by (Ok q) same no_zero is = ap f (sym is)
+      by (Err a) same no_zero is = let numbers = ap number_of same in absurd (omega (arith, no_zero))

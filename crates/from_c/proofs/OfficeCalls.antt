@@ -4,7 +4,8 @@ use mathlib.Core.Path.{◌≡◌, sym, ap, ◌∙◌}
 use mathlib.Core.List.{List}
 use lib.ListN.{length, take}
 use Rattle.procap.specs.Answers.{number_of}
-use Rattle.procap.specs.Outcome.{refused, answer_of, procap_handed}
+use Rattle.std.specs.Prelude.{Err}
+use Rattle.procap.specs.Outcome.{answer_of, procap_handed}
 use Rattle.procap.specs.declared.answer.Answer.{Answer}
 use Rattle.procap.specs.declared.answer.Answer.TheVariants.{ProcapMalformed}
 use Rattle.procap.specs.declared.procap.Request.{Request}
@@ -45,7 +46,7 @@ module _ (r : Request) (bytes buffer pairs proof : List ℕ) (lent : List Certif
 module _ (r : Request) (bytes buffer pairs proof : List ℕ) (room : ℕ) (v : Verified)
     (hands : HandsOver (verified r (records_in bytes) buffer (pair_numbers pairs) proof) v) where
   -- Verify refuses, and no text is written.
-  pub verifying_stops : (number_of v.answer ≡ 0 → ⊥) → verifying r bytes buffer pairs proof room ≡ refused v.answer
+  pub verifying_stops : (number_of v.answer ≡ 0 → ⊥) → verifying r bytes buffer pairs proof room ≡ Err v.answer
   unfolding verifying
   verifying_stops other = stops_there _ v.answer hands.answer _ other
 
@@ -57,7 +58,7 @@ module _ (r : Request) (bytes buffer pairs proof : List ℕ) (room : ℕ) (v : V
 
 module _ (text : List ℕ) (room : ℕ) (answer : Answer) (given : answer ≡ answer_of (reading text)) where
   -- Bytes that are no text: nothing is written.
-  pub rewriting_stops : (number_of answer ≡ 0 → ⊥) → rewriting text room ≡ refused answer
+  pub rewriting_stops : (number_of answer ≡ 0 → ⊥) → rewriting text room ≡ Err answer
   unfolding rewriting
   rewriting_stops other = stops_there _ answer given _ other
 
@@ -68,7 +69,7 @@ module _ (text : List ℕ) (room : ℕ) (answer : Answer) (given : answer ≡ an
 
 module _ (bytes : List ℕ) (room : ℕ) where
   -- Bytes that are no value: nothing is written.
-  pub value_writing_stops : (length bytes ≡ value_bytes → ⊥) → value_writing bytes room ≡ refused ProcapMalformed
+  pub value_writing_stops : (length bytes ≡ value_bytes → ⊥) → value_writing bytes room ≡ Err ProcapMalformed
   unfolding value_writing
   value_writing_stops = value_refused bytes _
 

@@ -4,7 +4,8 @@ use mathlib.Core.Path.{◌≡◌, refl, sym, ap, ◌∙◌}
 use mathlib.Core.List.{List}
 use native.Mathlib.Omega.{arith}
 use Rattle.procap.specs.Answers.{number_of}
-use Rattle.procap.specs.Outcome.{Outcome, granted, refused, answer_of, procap_handed}
+use Rattle.std.specs.Prelude.{Err, Ok}
+use Rattle.procap.specs.Outcome.{Outcome, answer_of, procap_handed}
 use Rattle.procap.specs.declared.answer.Answer.{Answer}
 use Rattle.procap.specs.declared.procap.Request.{Request}
 use Rattle.procap.specs.declared.procap.Procap.{Procap}
@@ -18,23 +19,23 @@ use Rattle.from_c.specs.Calls.{opened_of}
 -- Of no presses none goes through, and of any number no more than there are.
 pub none_pressed : (o : Outcome (Unit {0})) → 0 ≡ opened_of o 0
 unfolding opened_of
-none_pressed (granted u) = refl
-none_pressed (refused answer) = refl
+none_pressed (Ok u) = refl
+none_pressed (Err answer) = refl
 
 pub at_most_all : (o : Outcome (Unit {0})) (opened n : ℕ) → opened ≡ opened_of o n → opened ≤ n
 unfolding opened_of
-at_most_all (granted u) opened n e = omega arith
-at_most_all (refused answer) opened n e = omega arith
+at_most_all (Ok u) opened n e = omega arith
+at_most_all (Err answer) opened n e = omega arith
 
 -- Where the door opens, one press more is one more that goes through; where it does not, as many go through of any number: none.
-one_more : (o : Outcome (Unit {0})) (n : ℕ) → o ≡ granted tt → opened_of o n + 1 ≡ opened_of o (n + 1)
+one_more : (o : Outcome (Unit {0})) (n : ℕ) → o ≡ Ok tt → opened_of o n + 1 ≡ opened_of o (n + 1)
 unfolding opened_of
 one_more o n e = rw e refl
 
 no_more : (o : Outcome (Unit {0})) (n m : ℕ) → (number_of (answer_of o) ≡ 0 → ⊥) → opened_of o n ≡ opened_of o m
 unfolding opened_of answer_of
-no_more (granted u) n m k = absurd (k refl)
-no_more (refused answer) n m k = refl
+no_more (Ok u) n m k = absurd (k refl)
+no_more (Err answer) n m k = refl
 
 -- What the reader answers to a text, and presses with that text.
 module _ (text : List ℕ) (answer : Answer) (given : answer ≡ answer_of (reading text)) (r : Request) (m : ℕ) (state : List ℕ) where

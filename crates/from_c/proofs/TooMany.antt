@@ -9,7 +9,8 @@ use native.Mathlib.Omega.{arith}
 use lib.ListN.{length, take}
 use lib.Seq.{length-take-le, take_all}
 use borrow.Author.Tests.{lt-leb}
-use Rattle.procap.specs.Outcome.{refused, go_on}
+use Rattle.std.specs.Prelude.{Err}
+use Rattle.procap.specs.Outcome.{go_on}
 use Rattle.procap.specs.declared.answer.Answer.TheVariants.{CertificateMalformed}
 use Rattle.procap.specs.declared.procap.Request.{Request}
 use Rattle.bl.specs.declared.Certificate.{Certificate}
@@ -34,7 +35,7 @@ lent_the_same f most many same xs = by (dec_le (length xs) (suc most))
 
 module _ (buffer pairs proof : List ℕ) where
   -- More records than are taken are refused, before any of them is looked at.
-  too_many : (records : List Certificate) → most_certificates < length records → read_case records buffer pairs proof ≡ refused (CertificateMalformed 0)
+  too_many : (records : List Certificate) → most_certificates < length records → read_case records buffer pairs proof ≡ Err (CertificateMalformed 0)
   unfolding read_case policy_in statements go_on
   too_many records many = rw (lt-leb (length records) most_certificates many) refl
 

@@ -4,18 +4,19 @@ use mathlib.Core.Path.{◌≡◌, refl}
 use mathlib.Core.List.{List}
 use borrow.Author.Tests.{eq-eqb, ne_eqb}
 use lib.ListN.{length}
-use Rattle.procap.specs.Outcome.{Outcome, granted, refused, go_on}
+use Rattle.std.specs.Prelude.{Err, Ok}
+use Rattle.procap.specs.Outcome.{Outcome, go_on}
 use Rattle.procap.specs.declared.answer.Answer.TheVariants.{ProcapMalformed}
 use Rattle.procap.specs.declared.procap.Procap.{Procap}
 use Rattle.procap.proofs.Granted.{goes_on}
 use Rattle.from_c.specs.Values.{value_bytes, value_of, value_in}
 
 module _ (bytes : List ℕ) where
-  a_value : length bytes ≡ value_bytes → value_in bytes ≡ granted (value_of bytes)
+  a_value : length bytes ≡ value_bytes → value_in bytes ≡ Ok (value_of bytes)
   unfolding value_in
   a_value e = rw (eq-eqb (length bytes) value_bytes e) refl
 
-  no_value : (length bytes ≡ value_bytes → ⊥) → value_in bytes ≡ refused ProcapMalformed
+  no_value : (length bytes ≡ value_bytes → ⊥) → value_in bytes ≡ Err ProcapMalformed
   unfolding value_in
   no_value n = rw (ne_eqb (length bytes) value_bytes n) refl
 
@@ -24,6 +25,6 @@ module _ (bytes : List ℕ) where
     pub value_goes_on : length bytes ≡ value_bytes → go_on (value_in bytes) f ≡ f (value_of bytes)
     value_goes_on e = goes_on (value_in bytes) f (value_of bytes) (a_value e)
 
-    pub value_refused : (length bytes ≡ value_bytes → ⊥) → go_on (value_in bytes) f ≡ refused ProcapMalformed
+    pub value_refused : (length bytes ≡ value_bytes → ⊥) → go_on (value_in bytes) f ≡ Err ProcapMalformed
     unfolding go_on
     value_refused n = rw (no_value n) refl

@@ -1,8 +1,8 @@
 -- What the calls for C come to, in the words of the calls that they pass on.
-use Rattle.std.specs.Prelude.{ℕ, List, length}
+use Rattle.std.specs.Prelude.{ℕ, List, length, Err, Ok}
 use Rattle.procap.specs.Lent.{Lent, LentToWrite}
 use Rattle.procap.specs.Procaps.{request_of}
-use Rattle.procap.specs.Outcome.{Outcome, granted, refused, go_on}
+use Rattle.procap.specs.Outcome.{Outcome, go_on}
 use Rattle.procap.specs.declared.procap.Request.{Request}
 use Rattle.bl.specs.Calls.{verified, directly}
 use Rattle.text.specs.Calls.{reading, writing}
@@ -46,5 +46,5 @@ value_opening_over value who what right moment state = value_opening value.entry
 
 -- How many of so many presses go through, if one such press comes to this.
 unfoldable pub opened_of : Outcome (Unit {0}) → ℕ → ℕ
-opened_of (granted _) presses = presses
-opened_of (refused answer) presses = 0
+opened_of (Ok _) presses = presses
+opened_of (Err answer) presses = 0

@@ -1,14 +1,13 @@
 -- Numbers and terms of a fixed width, at a place of some bytes. Where the bytes end before, they are zeros.
-use Rattle.std.specs.Prelude.{ℕ, ◌+◌, List}
-use Rattle.std.proofs.Math.Option.{Option, some, none}
+use Rattle.std.specs.Prelude.{ℕ, ◌+◌, List, None, Option, Some}
 use Rattle.procap.specs.Numbered.{of_numbers}
 use Rattle.procap.specs.Bytes.{number, byte}
 use Rattle.procap.specs.declared.fact.Term.{Term}
 
 -- The number that was read, or 0.
 unfoldable pub or_zero : Option (ℕ × ℕ) → ℕ
-or_zero none = 0
-or_zero (some r) = r.0
+or_zero None = 0
+or_zero (Some r) = r.0
 
 -- The number of one byte.
 abbrev pub one : List ℕ → ℕ → ℕ

@@ -1,9 +1,9 @@
 -- Procap values in bytes, as a caller in C hands them over: any value, also one that cannot be written.
-use Rattle.std.specs.Prelude.{ℕ, ◌+◌, List, length, eqb}
+use Rattle.std.specs.Prelude.{ℕ, ◌+◌, List, length, eqb, Err, Ok}
 use Rattle.procap.specs.Tells.{pick}
 use Rattle.procap.specs.Facts.{most_terms, argument_of}
 use Rattle.procap.specs.Procaps.{most_facts}
-use Rattle.procap.specs.Outcome.{Outcome, granted, refused}
+use Rattle.procap.specs.Outcome.{Outcome}
 use Rattle.procap.specs.declared.answer.Answer.TheVariants.{ProcapMalformed}
 use Rattle.procap.specs.declared.fact.Argument.{Argument}
 use Rattle.procap.specs.declared.fact.Fact.{Fact}
@@ -45,4 +45,4 @@ value_of bytes =
 
 -- The value that the bytes are: 12 for bytes of any other length.
 unfoldable pub value_in : List ℕ → Outcome Procap
-value_in bytes = pick (eqb (length bytes) value_bytes) (granted (value_of bytes)) (refused ProcapMalformed)
+value_in bytes = pick (eqb (length bytes) value_bytes) (Ok (value_of bytes)) (Err ProcapMalformed)

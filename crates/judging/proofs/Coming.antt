@@ -3,7 +3,8 @@ use Prim.Native.Nat.{ℕ}
 use mathlib.Core.Path.{◌≡◌, refl, sym, ap, ◌∙◌}
 use mathlib.Core.List.{List}
 use native.Mathlib.Omega.{arith}
-use Rattle.procap.specs.Outcome.{Outcome, granted, refused}
+use Rattle.std.specs.Prelude.{Err, Ok}
+use Rattle.procap.specs.Outcome.{Outcome}
 use Rattle.procap.specs.declared.time.Time.{Time}
 use Rattle.procap.specs.declared.answer.Answer.{Answer}
 use Rattle.procap.specs.declared.answer.Answer.TheVariants.{StepUnfit}
@@ -132,7 +133,7 @@ module _ {X : Type 0} (state : List ℕ) (b : Book) (w : Walk X) {So : X → Typ
       (λ x so. comes_checked state (book l list) (g x) e r list' (rest c.gives.sound x so)))
 
 -- After a misfit no walk goes on.
-never_granted : {A : Type 0} (s : Stop) (answer : Answer) (x : A) → ◌≡◌ {A = Outcome A} (granted x) (unless_stopped s (refused answer)) → ⊥
+never_granted : {A : Type 0} (s : Stop) (answer : Answer) (x : A) → ◌≡◌ {A = Outcome A} (Ok x) (unless_stopped s (Err answer)) → ⊥
 unfolding unless_stopped
 never_granted Going answer x e = let z : ◌≡◌ {A = ℕ} 0 1 = cc in omega arith
 never_granted (Stopped before) answer x e = let z : ◌≡◌ {A = ℕ} 0 1 = cc in omega arith
@@ -141,7 +142,7 @@ misfit_stops : {A : Type 0} (state : List ℕ) (b r : Book) (q : ℕ) (a : A) �
 unfolding resume run asks
 misfit_stops state b r q a s h e =
     let same = h.resumed (λ _. omega (arith, s.few)) in
-    never_granted (stop_of b.ledger) (StepUnfit q) (a, kept_of r) (sym (stop_going (stop_of r.ledger) (granted (a, kept_of r)) e) ∙ same)
+    never_granted (stop_of b.ledger) (StepUnfit q) (a, kept_of r) (sym (stop_going (stop_of r.ledger) (Ok (a, kept_of r)) e) ∙ same)
 
 -- 26, before its second step.
 pub comes_used : (state buffer : List ℕ) (q : ℕ) (list : List ℕ) (l : Ledger) (F : Formula) (a b t1 t2 : Time) (middle next : ℕ) (r : Application)

@@ -3,7 +3,7 @@ use Prim.Native.Nat.{ℕ, ◌+◌, ◌*◌, ◌/◌, ◌%◌}
 use native.Mathlib.Omega.{arith}
 use mathlib.Core.Path.{◌≡◌, refl, ◌∙◌}
 use mathlib.Core.List.{List, [], ◌∷◌}
-use mathlib.Core.Option.{some}
+use Rattle.std.specs.Prelude.{Some}
 use Rattle.procap.specs.Bytes.{then, ensure, big_endian, next, number, term_by, many, predicate_and}
 use Rattle.procap.specs.declared.procap.Request.{Request}
 use Rattle.bl.specs.Trees.{Formula, says, atom}
@@ -21,7 +21,7 @@ abbrev goal_read : ℕ → ℕ → ℕ → ℕ → ℕ → ℕ → Formula
 goal_read a b c d e f =
     says (name administrator) (atom may (name ((0 + a) * 256 + b) ∷ name ((0 + c) * 256 + d) ∷ name ((0 + e) * 256 + f) ∷ []))
 
-goal_reads : (a b c d e f : ℕ) → formula (goal_bytes a b c d e f) 2 [] 0 ≡ some (goal_read a b c d e f, 17)
+goal_reads : (a b c d e f : ℕ) → formula (goal_bytes a b c d e f) 2 [] 0 ≡ Some (goal_read a b c d e f, 17)
 unfolding then ensure big_endian next number term_by many predicate_and of-the-sort fixed_by place_by argument place formula_by formula
 goal_reads a b c d e f = refl
 

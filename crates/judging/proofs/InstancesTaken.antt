@@ -2,7 +2,7 @@
 use Prim.Native.Nat.{ℕ, ◌<◌}
 use mathlib.Core.Path.{◌≡◌, refl, ◌∙◌}
 use mathlib.Core.List.{List}
-use mathlib.Core.Option.{Option, some, none}
+use Rattle.std.specs.Prelude.{None, Option, Some}
 use mathlib.Core.Logic.{◌⊎◌, inl, inr}
 use native.Mathlib.Omega.{arith}
 use Rattle.procap.specs.Writable.{TermInForm}
@@ -51,9 +51,9 @@ its_sort q times (Name n) = inl refl
 its_sort q times (When t) = inr refl
 
 -- A for-all is one, and of one sort.
-is_an_all : {F A : Formula} {s : Sort} → F ≡ all s A → as_all F ≡ none → ⊥
+is_an_all : {F A : Formula} {s : Sort} → F ≡ all s A → as_all F ≡ None → ⊥
 unfolding as_all
-is_an_all {F} {A} {s} e n = let h : as_all (all s A) ≡ none = rw e at n in let z : ◌≡◌ {A = ℕ} 0 1 = cc in omega arith
+is_an_all {F} {A} {s} e n = let h : as_all (all s A) ≡ None = rw e at n in let z : ◌≡◌ {A = ℕ} 0 1 = cc in omega arith
 
 of_one_sort : {F A B : Formula} → F ≡ all names A → F ≡ all times B → ⊥
 of_one_sort e f = let z : ◌≡◌ {A = ℕ} 0 1 = cc in omega arith
@@ -74,8 +74,8 @@ module _ {bytes : List ℕ} {f : FormulaAt} {F : Formula} (m : Means bytes 0 f F
       kind {s} e (inr g) = absurd (all_tagged s e (λ k. n (k ∙ g)))
 
       by : (o : Option ((s : Sort) × (A : Formula) × (F ≡ all s A))) → as_all F ≡ o → put_in q t (F, a, b) ≡ misfit q
-      by none h = no_all q t a b h
-      by (some (s, A, e)) h = kind e (its_sort q s t)
+      by None h = no_all q t a b h
+      by (Some (s, A, e)) h = kind e (its_sort q s t)
 
 -- The tag of the term's binder: the body, with the term put in.
 pub instance_there : {bytes : List ℕ} (j : Judgement) {F : Formula} {a b : Time} {l : Ledger} {at : ℕ} {more : Terms} {body : Judgement}

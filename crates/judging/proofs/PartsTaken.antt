@@ -2,7 +2,7 @@
 use Prim.Native.Nat.{ℕ, ◌+◌, ◌≤◌, ◌<◌}
 use mathlib.Core.Path.{◌≡◌, refl}
 use mathlib.Core.List.{List}
-use mathlib.Core.Option.{some}
+use Rattle.std.specs.Prelude.{Some}
 use lib.ListN.{length}
 use Rattle.bl.specs.declared.FormulaTag.{FormulaTag}
 use Rattle.bl.specs.declared.FormulaTag.TheVariants.{TopTag, AndTag, ImpliesTag, AllNamesTag, AllTimesTag, SaysTag, AtTag, AtomTag, FactTag, OrderTag, OrTag, FalsityTag, NoFormulaTag}
@@ -25,7 +25,7 @@ After bytes place next = place < length bytes → next ≡ place + 1
 -- A formula of at most so many levels that begins at a place ends there.
 abbrev EndsAt : List ℕ → ℕ → ℕ → Type 0
 EndsAt bytes place end =
-    (n : ℕ) (sorts : List Sort) (A : Formula) (e : ℕ) → n ≤ most_formula_levels → formula bytes n sorts place ≡ some (A, e) → end ≡ e
+    (n : ℕ) (sorts : List Sort) (A : Formula) (e : ℕ) → n ≤ most_formula_levels → formula bytes n sorts place ≡ Some (A, e) → end ≡ e
 
 -- A part that begins at a place, on the same interval.
 pub part_on : {bytes : List ℕ} (j : Judgement) {A : Formula} {part : Judgement} {at place : ℕ}

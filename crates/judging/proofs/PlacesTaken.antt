@@ -3,7 +3,7 @@ use Prim.Native.Nat.{ℕ, ◌+◌}
 use mathlib.Core.Path.{◌≡◌, sym, ◌∙◌, ap}
 use mathlib.Core.Bool.{Bool, true, false}
 use mathlib.Core.List.{List}
-use mathlib.Core.Option.{some, none}
+use Rattle.std.specs.Prelude.{None, Some}
 use Rattle.procap.specs.Numbered.{time_numbers, time_of}
 use Rattle.procap.proofs.Numbered.{time_back}
 use Rattle.procap.specs.Facts.{spelled, fact_of}
@@ -49,28 +49,28 @@ unfolding place_of
 is_bound e f = sym e ∙ ap place_of f
 
 -- A variable is no time and no name, a name is no time, and a time is no name.
-pub bound_no_time : {x : tree.Place} {i : ℕ} → x ≡ bound i → as_time x ≡ none
+pub bound_no_time : {x : tree.Place} {i : ℕ} → x ≡ bound i → as_time x ≡ None
 unfolding as_time
 bound_no_time e = rw e
 
-pub name_no_time : {x : tree.Place} {n : ℕ} → x ≡ fixed (Name n) → as_time x ≡ none
+pub name_no_time : {x : tree.Place} {n : ℕ} → x ≡ fixed (Name n) → as_time x ≡ None
 unfolding as_time
 name_no_time e = rw e
 
-pub bound_no_name : {x : tree.Place} {i : ℕ} → x ≡ bound i → as_name x ≡ none
+pub bound_no_name : {x : tree.Place} {i : ℕ} → x ≡ bound i → as_name x ≡ None
 unfolding as_name
 bound_no_name e = rw e
 
-pub time_no_name : {x : tree.Place} {t : Time} → x ≡ fixed (When t) → as_name x ≡ none
+pub time_no_name : {x : tree.Place} {t : Time} → x ≡ fixed (When t) → as_name x ≡ None
 unfolding as_name
 time_no_name e = rw e
 
 -- What reading a place tells: the terms are put in, and the place after it.
 abbrev PlaceTold : List ℕ → Terms → ℕ → PlaceRead → Type 0
 PlaceTold bytes terms at r =
-    ((sorts : List Sort) (x : tree.Place) (e : ℕ) → FewTerms terms → argument bytes sorts at ≡ some (x, e)
+    ((sorts : List Sort) (x : tree.Place) (e : ℕ) → FewTerms terms → argument bytes sorts at ≡ Some (x, e)
     → place_of r.place ≡ fill_place 0 (terms_of terms) x)
-    × ((sorts : List Sort) (x : tree.Place) (e : ℕ) → argument bytes sorts at ≡ some (x, e) → r.next ≡ e)
+    × ((sorts : List Sort) (x : tree.Place) (e : ℕ) → argument bytes sorts at ≡ Some (x, e) → r.next ≡ e)
 
 -- ── Two places ──
 
@@ -83,21 +83,21 @@ pub record Placed (one other : PlaceRead) (x y : tree.Place) (end : ℕ) : Type 
 abbrev pub PlacesTold : List ℕ → Terms → ℕ → PlaceRead → PlaceRead → Type 0
 PlacesTold bytes terms at one other =
     (sorts : List Sort) (x y : tree.Place) (middle end : ℕ) → FewTerms terms
-    → argument bytes sorts at ≡ some (x, middle) → argument bytes sorts middle ≡ some (y, end)
+    → argument bytes sorts at ≡ Some (x, middle) → argument bytes sorts middle ≡ Some (y, end)
     → Placed one other (fill_place 0 (terms_of terms) x) (fill_place 0 (terms_of terms) y) end
 
 pub both_placed : (bytes : List ℕ) {terms : Terms} (at : ℕ) {one other : PlaceRead}
     → PlaceTold bytes terms at one → PlaceTold bytes terms one.next other → PlacesTold bytes terms at one other
 both_placed bytes {terms} at {one} {other} f g sorts x y middle end few e h =
     let n = f.1 sorts x middle e in
-    let k : argument bytes sorts one.next ≡ some (y, end) = rw n h in
+    let k : argument bytes sorts one.next ≡ Some (y, end) = rw n h in
     record { first = f.0 sorts x middle few e; second = g.0 sorts y end few k; ends = g.1 sorts y end k }
 
 -- What reading two times tells.
 abbrev SpanTold : List ℕ → Terms → ℕ → ℕ → Ledger → Span → Type 0
 SpanTold bytes terms at q l r =
     (sorts : List Sort) (x y : tree.Place) (middle end : ℕ) → FewTerms terms
-    → argument bytes sorts at ≡ some (x, middle) → argument bytes sorts middle ≡ some (y, end)
+    → argument bytes sorts at ≡ Some (x, middle) → argument bytes sorts middle ≡ Some (y, end)
     → Takes (two_times q (fill_place 0 (terms_of terms) x) (fill_place 0 (terms_of terms) y)) q l r.ledger
     (λ t. (r.from ≡ time_numbers t.0) × (r.to ≡ time_numbers t.1) × (r.next ≡ end))
 
@@ -117,7 +117,7 @@ module _ {bytes : List ℕ} {f : FormulaAt} {F : Formula} (m : Means bytes 0 f F
       → Stands bytes 0 f m.sorts middle y end → SpanTold bytes f.terms at q l span
       → Takes (two_times q x y) q l span.ledger (λ t. (span.from ≡ time_numbers t.0) × (span.to ≡ time_numbers t.1) × (span.next ≡ end))
   span_there q {middle = middle} {end} one other told =
-      let reads : argument bytes m.sorts at ≡ some (one.written, middle) = rw (next (inside bytes 0 f m)) one.reads in
+      let reads : argument bytes m.sorts at ≡ Some (one.written, middle) = rw (next (inside bytes 0 f m)) one.reads in
       rw (one.filled, other.filled) at (told m.sorts one.written other.written middle end m.few reads other.reads)
 
   -- An "at", on its own interval.
@@ -153,7 +153,7 @@ module _ {bytes : List ℕ} {f : FormulaAt} {F : Formula} (m : Means bytes 0 f F
   says_read tag told =
       let s = says_shape bytes 0 f m tag in
       let n = next (inside bytes 0 f m) in
-      let e : argument bytes m.sorts at ≡ some (s.named.written, s.after) = rw n s.named.reads in
+      let e : argument bytes m.sorts at ≡ Some (s.named.written, s.after) = rw n s.named.reads in
       record {
         who = s.who;
         said = s.said;

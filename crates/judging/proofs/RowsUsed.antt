@@ -2,7 +2,7 @@
 use Prim.Native.Nat.{ℕ, zero, suc, ◌+◌, ◌-◌, ◌≤◌, ◌<◌}
 use mathlib.Core.Path.{◌≡◌, refl, ◌∙◌}
 use mathlib.Core.List.{List, [], ◌∷◌}
-use mathlib.Core.Option.{some}
+use Rattle.std.specs.Prelude.{Some}
 use native.Mathlib.Omega.{arith}
 use lib.ListN.{length, get_or}
 use Rattle.procap.specs.Lists.{nth}
@@ -29,11 +29,11 @@ use Rattle.judging.proofs.PartsTaken.{After}
 -- ── The index ──
 
 -- The byte after the tag at q, if one is read there, is the index.
-pub index_is : (bytes : List ℕ) (q i e : ℕ) → byte bytes (q + 1) ≡ some (i, e) → get_or bytes (q + 1) 0 ≡ i
+pub index_is : (bytes : List ℕ) (q i e : ℕ) → byte bytes (q + 1) ≡ Some (i, e) → get_or bytes (q + 1) 0 ≡ i
 index_is bytes q i e read = (byte_at bytes (q + 1) i e read).1
 
 -- The place after it, as the code comes to it.
-module _ (bytes : List ℕ) {q at i e : ℕ} (after : After bytes q at) (read : byte bytes (q + 1) ≡ some (i, e)) where
+module _ (bytes : List ℕ) {q at i e : ℕ} (after : After bytes q at) (read : byte bytes (q + 1) ≡ Some (i, e)) where
   -- The byte stands where the code comes to, and the place after it is where the step ends.
   there : at ≡ q + 1
   there =
@@ -47,7 +47,7 @@ module _ (bytes : List ℕ) {q at i e : ℕ} (after : After bytes q at) (read : 
       g (omega arith) ∙ rw n end
 
 -- An index below the length of a list names an element of it.
-nth_there : {A : Type 0} (xs : List A) (i : ℕ) → i < length xs → (x : A) × (nth xs i ≡ some x)
+nth_there : {A : Type 0} (xs : List A) (i : ℕ) → i < length xs → (x : A) × (nth xs i ≡ Some x)
 unfolding nth
 nth_there [] i l = absurd (omega arith)
 nth_there (x ∷ xs) zero l = (x, refl)
@@ -56,7 +56,7 @@ nth_there (x ∷ xs) (suc i) l = nth_there xs i (omega arith)
 -- The assumption i places before the latest, and its row.
 record AssumedAt (buffer rows : List ℕ) (below n : ℕ) (Γ : List Assumption) (i : ℕ) : Type 0 where
   assumption : Assumption
-  named : nth Γ i ≡ some assumption
+  named : nth Γ i ≡ Some assumption
   row : RowIs buffer (row_in rows (n - i - 1)) (n - i - 1) below assumption
 
 assumed_at : (buffer rows : List ℕ) (below n : ℕ) (Γ : List Assumption) (i : ℕ) → Assumed buffer rows below n Γ → i < n
@@ -111,7 +111,7 @@ module _ {state buffer list : List ℕ} {b : Book} {r : Inferred} (ps : List Pai
   -- 20: the assumption that the index names is used as it stands.
   pub local_used : (count index back : ℕ) (Γ : List Assumption) {i : ℕ} → index ≡ count - back - 1 → back ≡ get_or proof (q + 1) 0
       → ((x : Assumption) → index < most_rows → RowIs buffer (row_in rows index) index below x → Yields state buffer b (assumed ps q v x) next r list)
-      → Assumed buffer rows below count Γ → count ≤ most_rows → byte proof (q + 1) ≡ some (i, e) → i < count
+      → Assumed buffer rows below count Γ → count ≤ most_rows → byte proof (q + 1) ≡ Some (i, e) → i < count
       → Yields state buffer b (use_local ps q v Γ i) e r list
   unfolding use_local need ◌>>=◌
   local_used count index back Γ {i} k told used assumptions few read l =
@@ -122,7 +122,7 @@ module _ {state buffer list : List ℕ} {b : Book} {r : Inferred} (ps : List Pai
   -- 21: the certificate that the index names is used as a claim of its principal.
   pub certificate_used : (index : ℕ) {cs : List Statement} {i : ℕ} → index ≡ get_or proof (q + 1) 0
       → ((x : Assumption) → index < most_rows → RowIs buffer (row_in rows index) index below x → Yields state buffer b (assumed ps q v x) next r list)
-      → Certified buffer rows cs → byte proof (q + 1) ≡ some (i, e) → i < length cs
+      → Certified buffer rows cs → byte proof (q + 1) ≡ Some (i, e) → i < length cs
       → Yields state buffer b (use_certificate ps q v cs i) e r list
   unfolding use_certificate assumed need ◌>>=◌
   certificate_used index {cs} {i} told used certified read l =

@@ -2,7 +2,7 @@
 use Prim.Native.Nat.{ℕ}
 use mathlib.Core.Path.{◌≡◌, refl}
 use mathlib.Core.List.{List, map}
-use mathlib.Core.Option.{Option, some, none}
+use Rattle.std.specs.Prelude.{None, Option, Some}
 use mathlib.Core.Logic.{if_pos, if_neg}
 use borrow.Author.Tests.{ne_eqb}
 use Rattle.procap.specs.declared.time.Time.{Time}
@@ -39,16 +39,16 @@ module _ (q : ℕ) where
   -- A line that comes to nothing makes the whole come to nothing.
   need_misfits : {A B : Type 0} (o : Option A) (f : A → Walk B) → ((a : A) → f a ≡ misfit q) → need q o >>= f ≡ misfit q
   unfolding need ◌>>=◌
-  need_misfits none f h = refl
-  need_misfits (some a) f h = h a
+  need_misfits None f h = refl
+  need_misfits (Some a) f h = h a
 
   -- Two lines and what comes after them are the two lines, and then what comes after them.
   both_first : {A B C D : Type 0} (o : Option A) (p : Option B) (f : A → B → C) (g : C → Walk D)
       → need q o >>= (λ a. need q p >>= λ b. g (f a b)) ≡ (need q o >>= λ a. need q p >>= λ b. done (f a b)) >>= g
   unfolding need ◌>>=◌
-  both_first none p f g = refl
-  both_first (some a) none f g = refl
-  both_first (some a) (some b) f g = refl
+  both_first None p f g = refl
+  both_first (Some a) None f g = refl
+  both_first (Some a) (Some b) f g = refl
 
   -- ── Two times ──
 
@@ -56,11 +56,11 @@ module _ (q : ℕ) where
   unfolding two_times need as_time ◌>>=◌
   times_there e f = rw (e, f)
 
-  pub no_first_time : {x : Place} (y : Place) → as_time x ≡ none → two_times q x y ≡ misfit q
+  pub no_first_time : {x : Place} (y : Place) → as_time x ≡ None → two_times q x y ≡ misfit q
   unfolding two_times need ◌>>=◌
   no_first_time y e = rw e
 
-  pub no_second_time : (x : Place) {y : Place} → as_time y ≡ none → two_times q x y ≡ misfit q
+  pub no_second_time : (x : Place) {y : Place} → as_time y ≡ None → two_times q x y ≡ misfit q
   unfolding two_times need ◌>>=◌
   no_second_time x e = need_misfits (as_time x) _ (λ a. rw e)
 
@@ -71,7 +71,7 @@ module _ (q : ℕ) where
     unfolding and_sides need as_and ◌>>=◌
     and_parts e = rw e
 
-    pub no_and : as_and F ≡ none → and_sides q F ≡ misfit q
+    pub no_and : as_and F ≡ None → and_sides q F ≡ misfit q
     unfolding and_sides need ◌>>=◌
     no_and e = rw e
 
@@ -79,7 +79,7 @@ module _ (q : ℕ) where
     unfolding implies_sides need as_implies ◌>>=◌
     implies_parts e = rw e
 
-    pub no_implies : as_implies F ≡ none → implies_sides q F ≡ misfit q
+    pub no_implies : as_implies F ≡ None → implies_sides q F ≡ misfit q
     unfolding implies_sides need ◌>>=◌
     no_implies e = rw e
 
@@ -87,7 +87,7 @@ module _ (q : ℕ) where
     unfolding or_sides need as_or ◌>>=◌
     or_parts e = rw e
 
-    pub no_or : as_or F ≡ none → or_sides q F ≡ misfit q
+    pub no_or : as_or F ≡ None → or_sides q F ≡ misfit q
     unfolding or_sides need ◌>>=◌
     no_or e = rw e
 
@@ -95,7 +95,7 @@ module _ (q : ℕ) where
     unfolding top_goal need as_top ◌>>=◌
     top_there e = rw e
 
-    pub no_top : as_top F ≡ none → top_goal q F ≡ misfit q
+    pub no_top : as_top F ≡ None → top_goal q F ≡ misfit q
     unfolding top_goal need ◌>>=◌
     no_top e = rw e
 
@@ -103,7 +103,7 @@ module _ (q : ℕ) where
     unfolding falsity_inferred need as_falsity ◌>>=◌
     falsity_there a b e = rw e
 
-    pub no_falsity : (a b : Time) → as_falsity F ≡ none → falsity_inferred q (F, a, b) ≡ misfit q
+    pub no_falsity : (a b : Time) → as_falsity F ≡ None → falsity_inferred q (F, a, b) ≡ misfit q
     unfolding falsity_inferred need ◌>>=◌
     no_falsity a b e = rw e
 
@@ -112,7 +112,7 @@ module _ (q : ℕ) where
     unfolding at_parts need as_at two_times ◌>>=◌
     at_there {x} {y} {A} e = rw e (both_first (as_time x) (as_time y) (λ a b. (a.0, b.0)) (λ t. done (A, t.0, t.1)))
 
-    pub no_at : as_at F ≡ none → at_parts q F ≡ misfit q
+    pub no_at : as_at F ≡ None → at_parts q F ≡ misfit q
     unfolding at_parts need ◌>>=◌
     no_at e = rw e
 
@@ -120,7 +120,7 @@ module _ (q : ℕ) where
     unfolding order_goal need as_order two_times ◌>>=◌
     order_there {x} {y} e = rw e (both_first (as_time x) (as_time y) (λ a b. (a.0, b.0)) (λ t. ask_order q t.0 t.1))
 
-    pub no_order : as_order F ≡ none → order_goal q F ≡ misfit q
+    pub no_order : as_order F ≡ None → order_goal q F ≡ misfit q
     unfolding order_goal need ◌>>=◌
     no_order e = rw e
 
@@ -128,24 +128,24 @@ module _ (q : ℕ) where
     unfolding says_parts need as_says as_name ◌>>=◌
     says_there e f = rw (e, f)
 
-    pub no_name : {x : Place} {A : Formula} → F ≡ says x A → as_name x ≡ none → says_parts q F ≡ misfit q
+    pub no_name : {x : Place} {A : Formula} → F ≡ says x A → as_name x ≡ None → says_parts q F ≡ misfit q
     unfolding says_parts need as_says ◌>>=◌
     no_name e f = rw (e, f)
 
-    pub no_says : as_says F ≡ none → says_parts q F ≡ misfit q
+    pub no_says : as_says F ≡ None → says_parts q F ≡ misfit q
     unfolding says_parts need ◌>>=◌
     no_says e = rw e
 
-    pub fact_there : {p : ℕ} {xs : List Place} {ts : List Term} (h : xs ≡ map fixed ts) → F ≡ fact p xs → as_terms xs ≡ some (ts, h)
+    pub fact_there : {p : ℕ} {xs : List Place} {ts : List Term} (h : xs ≡ map fixed ts) → F ≡ fact p xs → as_terms xs ≡ Some (ts, h)
         → fact_goal q F ≡ ask_fact q (p, ts)
     unfolding fact_goal need as_fact ◌>>=◌
     fact_there h e f = rw (e, f)
 
-    pub no_terms : {p : ℕ} {xs : List Place} → F ≡ fact p xs → as_terms xs ≡ none → fact_goal q F ≡ misfit q
+    pub no_terms : {p : ℕ} {xs : List Place} → F ≡ fact p xs → as_terms xs ≡ None → fact_goal q F ≡ misfit q
     unfolding fact_goal need as_fact ◌>>=◌
     no_terms e f = rw (e, f)
 
-    pub no_fact : as_fact F ≡ none → fact_goal q F ≡ misfit q
+    pub no_fact : as_fact F ≡ None → fact_goal q F ≡ misfit q
     unfolding fact_goal need ◌>>=◌
     no_fact e = rw e
 
@@ -159,6 +159,6 @@ module _ (q : ℕ) where
       unfolding put_in need as_all ◌>>=◌
       other_sort e f = rw (e, f)
 
-      pub no_all : as_all F ≡ none → put_in q t (F, a, b) ≡ misfit q
+      pub no_all : as_all F ≡ None → put_in q t (F, a, b) ≡ misfit q
       unfolding put_in need ◌>>=◌
       no_all e = rw e

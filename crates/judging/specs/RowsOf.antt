@@ -1,6 +1,5 @@
 -- Rows of numbers, and the assumptions and certificates that they stand for.
-use Rattle.std.specs.Prelude.{ℕ, zero, suc, ◌+◌, ◌*◌, ◌≤◌, ◌<◌, ◌≡◌, List, [], ◌∷◌, length, get_or, eqb}
-use Rattle.std.proofs.Math.Option.{some}
+use Rattle.std.specs.Prelude.{ℕ, zero, suc, ◌+◌, ◌*◌, ◌≤◌, ◌<◌, ◌≡◌, List, [], ◌∷◌, length, get_or, eqb, Some}
 use Rattle.procap.specs.Lists.{nth}
 use Rattle.procap.specs.Tells.{pick}
 use Rattle.procap.specs.declared.time.Time.{Time}
@@ -81,4 +80,4 @@ pub record Certifies (buffer : List ℕ) (row : Row) (s : Statement) : Type 0 wh
 -- The rows are the certificates, in order.
 pub record Certified (buffer rows : List ℕ) (cs : List Statement) : Type 0 where
   pub few : length cs ≤ most_certificates
-  pub each : (i : ℕ) (s : Statement) → nth cs i ≡ some s → Certifies buffer (row_in rows i) s
+  pub each : (i : ℕ) (s : Statement) → nth cs i ≡ Some s → Certifies buffer (row_in rows i) s

@@ -1,6 +1,5 @@
 -- What the function of each single step promises, where the formulas that it is handed mean something.
-use Rattle.std.specs.Prelude.{ℕ, ◌+◌, ◌≤◌, ◌<◌, ◌≡◌, List, length}
-use Rattle.std.proofs.Math.Option.{some}
+use Rattle.std.specs.Prelude.{ℕ, ◌+◌, ◌≤◌, ◌<◌, ◌≡◌, List, length, Some}
 use Rattle.procap.specs.Bytes.{byte}
 use Rattle.procap.specs.Numbered.{time_numbers}
 use Rattle.procap.specs.declared.time.Time.{Time}
@@ -50,14 +49,14 @@ UsesRow rows strengths index scope q l next r =
 abbrev pub UsesLocal : List ℕ → List ℕ → List ℕ → Scope → ℕ → Ledger → Inferred → Type 0
 UsesLocal proof rows strengths scope q l r =
     (state buffer list : List ℕ) (ps : List Pair) (Γ : List Assumption) (i e : ℕ) → Sound (book l list) → StrengthsOf strengths ps → Assumed buffer rows scope.shut scope.count Γ
-    → scope.count ≤ most_rows → byte proof (q + 1) ≡ some (i, e) → i < scope.count
+    → scope.count ≤ most_rows → byte proof (q + 1) ≡ Some (i, e) → i < scope.count
     → Yields state buffer (book l list) (use_local ps q (view_in scope.view) Γ i) e r list
 
 -- 21: where the rows are the certificates cs, and the byte after the tag names one of them, that one is used.
 abbrev pub UsesCertificate : List ℕ → List ℕ → List ℕ → Scope → ℕ → Ledger → Inferred → Type 0
 UsesCertificate proof rows strengths scope q l r =
     (state buffer list : List ℕ) (ps : List Pair) (cs : List Statement) (i e : ℕ) → Sound (book l list) → StrengthsOf strengths ps → Certified buffer rows cs
-    → byte proof (q + 1) ≡ some (i, e) → i < length cs
+    → byte proof (q + 1) ≡ Some (i, e) → i < length cs
     → Yields state buffer (book l list) (use_certificate ps q (view_in scope.view) cs i) e r list
 
 -- A formula with two sides, of the tag wanted, is taken apart; both sides keep the interval.
@@ -77,7 +76,7 @@ StaysStopped inferred l = (stop_of inferred.ledger ≡ Going → ⊥) → l ≡ 
 -- Two places that are read one after the other, and filled, must be times.
 abbrev pub TakesTimes : List ℕ → ℕ → Terms → ℕ → Ledger → Span → Type 0
 TakesTimes bytes at terms q l r =
-    (sorts : List Sort) (x y : Place) (middle end : ℕ) → FewTerms terms → argument bytes sorts at ≡ some (x, middle) → argument bytes sorts middle ≡ some (y, end)
+    (sorts : List Sort) (x y : Place) (middle end : ℕ) → FewTerms terms → argument bytes sorts at ≡ Some (x, middle) → argument bytes sorts middle ≡ Some (y, end)
     → Takes (two_times q (fill_place 0 (terms_of terms) x) (fill_place 0 (terms_of terms) y)) q l r.ledger
     (λ t. (r.from ≡ time_numbers t.0) × (r.to ≡ time_numbers t.1) × (r.next ≡ end))
 
@@ -113,7 +112,7 @@ abbrev pub PutsToUse : List ℕ → List ℕ → ℕ → Inferred → ℕ → Ap
 PutsToUse buffer proof q inferred second_end r =
     (state list : List ℕ) (F : Formula) (a b t1 t2 : Time) (c e₃ e₄ : ℕ)
     → stop_of inferred.ledger ≡ Going → Sound (book inferred.ledger list) → On buffer inferred.judgement F a b
-    → steps.time proof c second_end ≡ some (t1, e₃) → steps.time proof c e₃ ≡ some (t2, e₄)
+    → steps.time proof c second_end ≡ Some (t1, e₃) → steps.time proof c e₃ ≡ Some (t2, e₄)
     → Used state buffer q list inferred.ledger F a b t1 t2 inferred.next e₄ r
 
 -- 25, 2D: a goal is met, or is not of the kind.

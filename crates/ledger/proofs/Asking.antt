@@ -2,7 +2,7 @@
 use Prim.Native.Nat.{ℕ, ◌+◌, ◌*◌, ◌<◌}
 use mathlib.Core.Path.{◌≡◌, refl, sym, ap, ◌∙◌}
 use mathlib.Core.List.{List}
-use mathlib.Core.Option.{Option, some, none}
+use Rattle.std.specs.Prelude.{Err, None, Ok, Option, Some}
 use mathlib.Core.Logic.{ite, if_pos, if_neg, ⊎_elim}
 use native.Mathlib.Omega.{arith}
 use lib.ListN.{length}
@@ -11,7 +11,7 @@ use Rattle.procap.specs.Order.{AtMost, decided}
 use Rattle.procap.specs.Facts.{Spelled, spelled, fact_of, fact_at_moment, spelled_at_moment}
 use Rattle.procap.specs.Procaps.{most_facts, HoldsAt}
 use Rattle.procap.specs.States.{stated}
-use Rattle.procap.specs.Outcome.{granted, refused, go_on}
+use Rattle.procap.specs.Outcome.{go_on}
 use Rattle.procap.specs.Deciding.{in?, spelled?}
 use Rattle.procap.specs.declared.answer.Answer.{Answer}
 use Rattle.procap.specs.declared.answer.Answer.TheVariants.{OrderFalse, FactMissing}
@@ -41,7 +41,7 @@ asked x q = ask x q (done tt)
 module _ (state list : List ℕ) (l : Ledger) (x : Question) (q : ℕ) where
   -- Where a question is granted, the walk goes on with what is left.
   grants : (list' : List ℕ) (r : Ledger) → reading_in r ≡ reading_in l → stop_of r ≡ stop_of l → Sound (book r list')
-      → answered (reading_of state (reading_in l)) x q (kept_of (book l list)) ≡ granted (kept_of (book r list'))
+      → answered (reading_of state (reading_in l)) x q (kept_of (book l list)) ≡ Ok (kept_of (book r list'))
       → Gives state (book l list) (asked x q) (book r list') tt
   unfolding resume run go_on
   grants list' r e f s h = record {
@@ -49,12 +49,12 @@ module _ (state list : List ℕ) (l : Ledger) (x : Question) (q : ℕ) where
     sound = s;
     resumed = λ _.
         ap (λ t. unless_stopped t (run (reading_of state (reading_in r)) (done (tt {0})) (kept_of (book r list')))) f
-        ∙ ap (λ y. unless_stopped (stop_of l) (go_on y (λ k. granted (tt {0}, k)))) (sym h);
+        ∙ ap (λ y. unless_stopped (stop_of l) (go_on y (λ k. Ok (tt {0}, k)))) (sym h);
   }
 
   -- Where it is refused, the walk stops.
   denies : (answer : Answer) → Stops answer → Sound (book l list)
-      → answered (reading_of state (reading_in l)) x q (kept_of (book l list)) ≡ refused answer
+      → answered (reading_of state (reading_in l)) x q (kept_of (book l list)) ≡ Err answer
       → Gives state (book l list) (asked x q) (book (stopped_by answer l) list) tt
   unfolding run go_on
   denies answer k s h = refuses state list l answer (asked x q) tt k s (rw h)
@@ -69,7 +69,7 @@ learnt state o x q s e = rw e
 module _ (state list : List ℕ) (l : Ledger) (q : ℕ) (t u : Time) (d : Decision) (s : Sound (book l list)) (o : reading_in l ≡ Office) (h : d ≡ decided t u) where
   -- An order narrows the moments as it was decided.
   pub narrows : (r : Ledger) → reading_in r ≡ reading_in l → stop_of r ≡ stop_of l → r.count ≡ l.count
-      → narrow q (kept_of (book l list)) d ≡ granted (kept_of (book r list))
+      → narrow q (kept_of (book l list)) d ≡ Ok (kept_of (book r list))
       → Gives state (book l list) (ask_order q t u) (book r list) tt
   unfolding learn
   narrows r e f g k = grants state list l (at_most t u) q list r e f (same_sound list l r g s) (learnt state (reading_in l) _ q _ o ∙ rw (← h) k)
@@ -95,7 +95,7 @@ module _ (state list : List ℕ) (l : Ledger) (q : ℕ) (f : Fact) (s : Sound (b
   unfolding learn list_fact kept_of
   already_listed h =
       grants state list l (holds (spelled f)) q list l refl refl s
-      (learnt state (reading_in l) _ q _ o ∙ ap granted (if_pos (in? spelled? (spelled f) (facts_in list l.count)) h _ _))
+      (learnt state (reading_in l) _ q _ o ∙ ap Ok (if_pos (in? spelled? (spelled f) (facts_in list l.count)) h _ _))
 
   -- A new one, for which there is room, is listed last.
   pub listed_last : (In (spelled f) (facts_in list l.count) → ⊥) → (more : List ℕ) (r : Ledger) → l.count < most_facts → length more ≡ list_numbers
@@ -107,8 +107,8 @@ module _ (state list : List ℕ) (l : Ledger) (q : ℕ) (f : Fact) (s : Sound (b
       grants state list l (holds (spelled f)) q more r (ap reading_in e) (ap stop_of e)
       (more_sound list more l f put kept r s room h form (ap (λ x. x.count) e))
       (learnt state (reading_in l) _ q _ o
-      ∙ ap granted (if_neg (in? spelled? (spelled f) (facts_in list l.count)) new _ _)
-      ∙ rw e (ap (λ fs. granted record { from = l.from; to = l.to; facts = fs }) (sym (facts_more list more l f put kept))))
+      ∙ ap Ok (if_neg (in? spelled? (spelled f) (facts_in list l.count)) new _ _)
+      ∙ rw e (ap (λ fs. Ok record { from = l.from; to = l.to; facts = fs }) (sym (facts_more list more l f put kept))))
 
 -- ── At a press ──
 
@@ -118,7 +118,7 @@ module _ (state list : List ℕ) (l : Ledger) (m : ℕ) (x : Question) (q : ℕ)
   said = facts_said (stated state)
 
   -- A question is true there or not.
-  met : answered (reading_of state (reading_in l)) x q (kept_of (book l list)) ≡ ite (true? m said x) (granted (kept_of (book l list))) (refused (fault x q))
+  met : answered (reading_of state (reading_in l)) x q (kept_of (book l list)) ≡ ite (true? m said x) (Ok (kept_of (book l list))) (Err (fault x q))
   unfolding reading_of answered said
   met = ap (λ y. answered (reading_of state y) x q (kept_of (book l list))) o
 
@@ -152,8 +152,8 @@ unfolding facts_said In
 said_stands bytes f h = by (stated bytes) refl h
   where
     by : (o : Option (List Spelled)) → stated bytes ≡ o → In f (facts_said o) → Stands bytes f
-    by none e h = absurd h
-    by (some σ) e h = (σ, e, h)
+    by None e h = absurd h
+    by (Some σ) e h = (σ, e, h)
 
 -- A fact at a press is looked for with the moment put in.
 module _ (state : List ℕ) (m : ℕ) (f put : Fact) (e : put ≡ fact_at_moment m f) where

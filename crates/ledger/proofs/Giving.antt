@@ -4,7 +4,8 @@ use native.Mathlib.Omega.{arith}
 use mathlib.Core.Path.{◌≡◌, refl, sym, ap, ◌∙◌}
 use mathlib.Core.List.{List}
 use mathlib.Core.Logic.{◌⊎◌, inl, inr, ⊎_elim}
-use Rattle.procap.specs.Outcome.{Outcome, granted, refused, go_on}
+use Rattle.std.specs.Prelude.{Err, Ok}
+use Rattle.procap.specs.Outcome.{Outcome, go_on}
 use Rattle.procap.specs.declared.answer.Answer.{Answer}
 use Rattle.procap.specs.declared.answer.Answer.TheVariants.{StepUnfit}
 use Rattle.bl.specs.Questions.{Walk, done, misfit, ask, ◌>>=◌}
@@ -24,14 +25,14 @@ use Rattle.ledger.proofs.Stopping.{Stops, refusal_stops, stopped_now, stopped_be
 -- What is gone on with twice is gone on with once.
 go_on_twice : {A B C : Type 0} (o : Outcome A) (f : A → Outcome B) (g : B → Outcome C) → go_on (go_on o f) g ≡ go_on o (λ a. go_on (f a) g)
 unfolding go_on
-go_on_twice (granted a) f g = refl
-go_on_twice (refused answer) f g = refl
+go_on_twice (Ok a) f g = refl
+go_on_twice (Err answer) f g = refl
 
 -- What is gone on with alike comes to the same.
 go_on_alike : {A B : Type 0} (o : Outcome A) (f g : A → Outcome B) → ((a : A) → f a ≡ g a) → go_on o f ≡ go_on o g
 unfolding go_on
-go_on_alike (granted a) f g e = e a
-go_on_alike (refused answer) f g e = refl
+go_on_alike (Ok a) f g e = e a
+go_on_alike (Err answer) f g e = refl
 
 -- A walk and then another is read as the one, and the other from what the one came to.
 run_then : {A B : Type 0} (o : bl.Reading) (w : Walk A) (g : A → Walk B) (s : Kept)
@@ -67,7 +68,7 @@ resume_then state b m w a g h room =
     ∙ rw h.same_reading (stop_done (stop_of m.ledger) o a g (kept_of m))
 
 -- A stop that is a stop gives its answer.
-pub stop_refused : {A : Type 0} (t : Stop) (answer : Answer) (o : Outcome A) → t ≡ Stopped answer → unless_stopped t o ≡ refused answer
+pub stop_refused : {A : Type 0} (t : Stop) (answer : Answer) (o : Outcome A) → t ≡ Stopped answer → unless_stopped t o ≡ Err answer
 unfolding unless_stopped
 stop_refused t answer o e = rw e
 
@@ -77,8 +78,8 @@ unfolding unless_stopped
 stop_going t o e = rw e
 
 -- Where a book goes on with a grant, it went on before, and the walk was granted.
-from_going : {A : Type 0} (t t' : Stop) (x y : Outcome A) → t' ≡ Going → unless_stopped t' x ≡ unless_stopped t y → (r : A) → x ≡ granted r
-    → (t ≡ Going) × (y ≡ granted r)
+from_going : {A : Type 0} (t t' : Stop) (x y : Outcome A) → t' ≡ Going → unless_stopped t' x ≡ unless_stopped t y → (r : A) → x ≡ Ok r
+    → (t ≡ Going) × (y ≡ Ok r)
 unfolding unless_stopped
 from_going Going t' x y e same r h = (refl, sym same ∙ stop_going t' x e ∙ h)
 from_going (Stopped answer) t' x y e same r h = no_grant (sym same ∙ stop_going t' x e ∙ h)
@@ -126,7 +127,7 @@ goes_or_stopped (Stopped answer) = inr (answer, refl)
 
 -- A walk that comes to an answer stops the book with it, unless the book had stopped before.
 pub refuses : {A : Type 0} (state list : List ℕ) (l : Ledger) (answer : Answer) (w : Walk A) (a : A) → Stops answer → Sound (book l list)
-    → run (reading_of state (reading_in l)) w (kept_of (book l list)) ≡ refused answer
+    → run (reading_of state (reading_in l)) w (kept_of (book l list)) ≡ Err answer
     → Gives state (book l list) w (book (stopped_by answer l) list) a
 unfolding resume
 refuses state list l answer w a k s h = record {

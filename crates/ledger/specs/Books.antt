@@ -1,6 +1,5 @@
 -- A walk that goes on from a ledger and the list of facts beside it.
-use Rattle.std.specs.Prelude.{ℕ, zero, suc, ◌+◌, ◌-◌, ◌*◌, ◌%◌, ◌≤◌, ◌<◌, ◌≡◌, List, [], ◌∷◌, ◌++◌, length, get_or, leb, eqb}
-use Rattle.std.proofs.Math.Option.{Option, some, none}
+use Rattle.std.specs.Prelude.{ℕ, zero, suc, ◌+◌, ◌-◌, ◌*◌, ◌%◌, ◌≤◌, ◌<◌, ◌≡◌, List, [], ◌∷◌, ◌++◌, length, get_or, leb, eqb, Err, None, Option, Some}
 use Rattle.procap.specs.Tells.{pick}
 use Rattle.procap.specs.Times.{earliest, latest}
 use Rattle.procap.specs.Answers.{number_of, place_of, answer_with}
@@ -8,7 +7,7 @@ use Rattle.procap.specs.Facts.{Spelled, spelled, fact_of}
 use Rattle.procap.specs.Numbered.{of_numbers}
 use Rattle.procap.specs.Procaps.{most_facts}
 use Rattle.procap.specs.States.{stated}
-use Rattle.procap.specs.Outcome.{Outcome, refused}
+use Rattle.procap.specs.Outcome.{Outcome}
 use Rattle.procap.specs.declared.answer.Answer.{Answer}
 use Rattle.procap.specs.declared.answer.Answer.TheVariants.{MomentAboveLatest, StepUnfit}
 use Rattle.procap.specs.declared.fact.Argument.{Argument}
@@ -105,8 +104,8 @@ pub record Sound (b : Book) : Type 0 where
 
 -- The facts that a state says; bytes that are no state say none.
 unfoldable pub facts_said : Option (List Spelled) → List Spelled
-facts_said none = []
-facts_said (some σ) = σ
+facts_said None = []
+facts_said (Some σ) = σ
 
 -- How a walk is read, over the bytes of a state.
 unfoldable pub reading_of : List ℕ → Reading → bl.Reading
@@ -116,7 +115,7 @@ reading_of state (Press m) = press m (facts_said (stated state))
 -- Where a walk has stopped, its answer stays.
 unfoldable pub unless_stopped : {A : Type 0} → Stop → Outcome A → Outcome A
 unless_stopped Going o = o
-unless_stopped (Stopped answer) o = refused answer
+unless_stopped (Stopped answer) o = Err answer
 
 -- A walk read on from a book.
 unfoldable pub resume : {A : Type 0} → List ℕ → Book → Walk A → Outcome (A × Kept)

@@ -3,7 +3,7 @@
 use Prim.Native.Nat.{ℕ}
 use mathlib.Core.Bool.{Bool, true, false}
 use mathlib.Core.Path.{◌≡◌, refl, sym, ap, ◌∙◌}
-use mathlib.Core.Option.{Option, some, none}
+use Rattle.std.specs.Prelude.{None, Option, Some}
 use Rattle.procap.specs.Tells.{Tells}
 use Rattle.procap.specs.Facts.{Spelled, fact_of}
 use Rattle.procap.specs.Reading.{NumberReads, TermReads, nothing_read, FactFound, FactReads}
@@ -24,8 +24,8 @@ flag_fixed P false false h k = refl
 
 -- The number and the place that a reader finds, or none.
 abbrev pub as_number : Option (ℕ × ℕ) → NumberRead
-as_number none = NoNumber
-as_number (some x) = Number x.0 x.1
+as_number None = NoNumber
+as_number (Some x) = Number x.0 x.1
 
 pub number_fixed : (o : Option (ℕ × ℕ)) (r : NumberRead) → NumberReads o r → r ≡ as_number o
 number_fixed o (Number n at) h = sym (ap as_number h)
@@ -33,8 +33,8 @@ number_fixed o NoNumber h = sym (ap as_number h)
 
 -- The term and the place.
 abbrev pub as_term : Option (Term × ℕ) → TermRead
-as_term none = NoTerm
-as_term (some x) = Found x.0 x.1
+as_term None = NoTerm
+as_term (Some x) = Found x.0 x.1
 
 pub term_fixed : (o : Option (Term × ℕ)) (r : TermRead) → TermReads o r → r ≡ as_term o
 term_fixed o (Found t at) h = sym (ap as_term h)
@@ -42,8 +42,8 @@ term_fixed o NoTerm h = sym (ap as_term h)
 
 -- The fact, with zeros past its terms, and the place.
 abbrev pub as_fact : Option (Spelled × ℕ) → FactRead
-as_fact none = nothing_read
-as_fact (some x) = record { found = true; fact = fact_of x.0; next = x.1 }
+as_fact None = nothing_read
+as_fact (Some x) = record { found = true; fact = fact_of x.0; next = x.1 }
 
 pub fact_fixed : (o : Option (Spelled × ℕ)) (r : FactRead) → FactReads o r → r ≡ as_fact o
 fact_fixed o r h = by r.found r.fact r.next h

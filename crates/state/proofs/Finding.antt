@@ -2,7 +2,7 @@
 use Prim.Native.Nat.{ℕ}
 use mathlib.Core.Path.{◌≡◌, sym, ◌∙◌}
 use mathlib.Core.List.{List}
-use mathlib.Core.Option.{none-ne-some}
+use Rattle.std.proofs.lemmas.Option.{none-some}
 use Rattle.procap.specs.Facts.{Spelled}
 use Rattle.procap.specs.States.{stated}
 use Rattle.state.specs.Standing.{Finds, WellFormed, Stands}
@@ -18,7 +18,7 @@ module _ (bytes : List ℕ) (f : Spelled) (r : Found) (h : Finds (stated bytes) 
 
   -- Bytes that are malformed are no state, and no fact stands in them.
   pub not_well_formed : r ≡ Malformed → WellFormed bytes → ⊥
-  not_well_formed e w = none-ne-some w.0 (sym (malformed e) ∙ w.1)
+  not_well_formed e w = none-some w.0 (sym (malformed e) ∙ w.1)
 
   pub none_stands : r ≡ Malformed → Stands bytes f → ⊥
   none_stands e s = not_well_formed e (s.0, s.1)

@@ -3,7 +3,7 @@ use Prim.Native.Nat.{ℕ, suc, ◌+◌, ◌-◌, ◌≤◌, ◌<◌}
 use mathlib.Core.Bool.{Bool, true, false}
 use mathlib.Core.Path.{◌≡◌, refl, sym, ap, ◌∙◌}
 use mathlib.Core.List.{List, [], ◌∷◌, ◌++◌}
-use mathlib.Core.Option.{Option, some, none}
+use Rattle.std.specs.Prelude.{None, Option, Some}
 use native.Mathlib.Omega.{arith}
 use borrow.Author.Tests.{le-leb, lt-leb, eq-eqb, ne_eqb}
 use lib.ListN.{length}
@@ -44,11 +44,11 @@ module _ (bytes : List ℕ) where
       then_read (many_ends bytes (settled_term bytes) settled_term_ends n f j.1) λ ts h m.
       read (omega arith, m.1)
 
-  fact_goes_on : (at : ℕ) (f : Spelled) (next : ℕ) → fact bytes at ≡ some (f, next) → Between bytes (at + 3) next
+  fact_goes_on : (at : ℕ) (f : Spelled) (next : ℕ) → fact bytes at ≡ Some (f, next) → Between bytes (at + 3) next
   fact_goes_on at f next e = so_read (fact bytes at) e (fact_ends at)
 
   -- After a fact fewer bytes are left.
-  pub fact_leaves_less : (at : ℕ) (f : Spelled) (next : ℕ) → at < length bytes → fact bytes at ≡ some (f, next) → length bytes - next < length bytes - at
+  pub fact_leaves_less : (at : ℕ) (f : Spelled) (next : ℕ) → at < length bytes → fact bytes at ≡ Some (f, next) → length bytes - next < length bytes - at
   fact_leaves_less at f next l e = let on = fact_goes_on at f next e in omega arith
 
 -- ── Rounds ──
@@ -57,15 +57,15 @@ module _ (bytes : List ℕ) where
 
 module _ (bytes : List ℕ) (n at : ℕ) where
   module _ (l : at < length bytes) where
-    facts_more : (f : Spelled) (next : ℕ) → fact bytes at ≡ some (f, next) → facts bytes (suc n) at ≡ led_by (f ∷ []) (facts bytes n next)
+    facts_more : (f : Spelled) (next : ℕ) → fact bytes at ≡ Some (f, next) → facts bytes (suc n) at ≡ led_by (f ∷ []) (facts bytes n next)
     unfolding facts more then
     facts_more f next e = rw (ne_eqb at (length bytes) (omega arith), e) (led_by_one f (facts bytes n next))
 
-    facts_none : fact bytes at ≡ none → facts bytes (suc n) at ≡ none
+    facts_none : fact bytes at ≡ None → facts bytes (suc n) at ≡ None
     unfolding facts more then
     facts_none e = rw (ne_eqb at (length bytes) (omega arith), e) refl
 
-  facts_done : at ≡ length bytes → facts bytes (suc n) at ≡ some ([], length bytes)
+  facts_done : at ≡ length bytes → facts bytes (suc n) at ≡ Some ([], length bytes)
   unfolding facts more
   facts_done e = rw (eq-eqb at (length bytes) e, e) refl
 
@@ -100,7 +100,7 @@ module _ (bytes : List ℕ) (wanted : Spelled) where
     so_far : facts bytes (suc (length bytes)) 0 ≡ led_by h.passed (facts bytes (suc (h.rounds - 1)) at)
     so_far = h.left ∙ ap (λ k. led_by h.passed (facts bytes k at)) round
 
-    one_fact_read : (now : Bool) (f : Spelled) (next : ℕ) → at < length bytes → fact bytes at ≡ some (f, next)
+    one_fact_read : (now : Bool) (f : Spelled) (next : ℕ) → at < length bytes → fact bytes at ≡ Some (f, next)
         → Tells now (In wanted (h.passed ++ (f ∷ []))) → FactsRead bytes wanted now next
     one_fact_read now f next l e t =
         let on = fact_goes_on bytes at f next e in
@@ -114,33 +114,33 @@ module _ (bytes : List ℕ) (wanted : Spelled) where
         }
 
     -- The wanted fact, and another one.
-    pub wanted_read : (f : Spelled) (next : ℕ) → at < length bytes → fact bytes at ≡ some (f, next) → f ≡ wanted → FactsRead bytes wanted true next
+    pub wanted_read : (f : Spelled) (next : ℕ) → at < length bytes → fact bytes at ≡ Some (f, next) → f ≡ wanted → FactsRead bytes wanted true next
     wanted_read f next l e s = one_fact_read true f next l e (in_last wanted h.passed f (sym s))
 
-    pub other_read : (f : Spelled) (next : ℕ) → at < length bytes → fact bytes at ≡ some (f, next) → (f ≡ wanted → ⊥) → FactsRead bytes wanted found next
+    pub other_read : (f : Spelled) (next : ℕ) → at < length bytes → fact bytes at ≡ Some (f, next) → (f ≡ wanted → ⊥) → FactsRead bytes wanted found next
     other_read f next l e n =
         one_fact_read found f next l e
         (tells_by found (in_more wanted h.passed (f ∷ [])) (in_before wanted h.passed f (λ s. n (sym s))) h.told)
 
-    pub fact_missing_read : at < length bytes → fact bytes at ≡ none → facts bytes (suc (length bytes)) 0 ≡ none
+    pub fact_missing_read : at < length bytes → fact bytes at ≡ None → facts bytes (suc (length bytes)) 0 ≡ None
     fact_missing_read l e = led_none h.passed _ so_far (facts_none bytes (h.rounds - 1) at l e)
 
-    pub all_facts_read : length bytes ≤ at → facts bytes (suc (length bytes)) 0 ≡ some (h.passed, length bytes)
+    pub all_facts_read : length bytes ≤ at → facts bytes (suc (length bytes)) 0 ≡ Some (h.passed, length bytes)
     all_facts_read l = led_all h.passed _ so_far _ (facts_done bytes (h.rounds - 1) at (omega (arith, h.inside)))
 
 -- ── The whole state ──
 
 -- Bytes over the limit say nothing, and others what their facts say.
 module _ (bytes : List ℕ) where
-  pub too_long : most_state_bytes < length bytes → stated bytes ≡ none
+  pub too_long : most_state_bytes < length bytes → stated bytes ≡ None
   unfolding stated
   too_long l = rw (lt-leb (length bytes) most_state_bytes l) refl
 
   module _ (l : length bytes ≤ most_state_bytes) where
-    pub not_stated : facts bytes (suc (length bytes)) 0 ≡ none → stated bytes ≡ none
+    pub not_stated : facts bytes (suc (length bytes)) 0 ≡ None → stated bytes ≡ None
     unfolding stated whole to_the_end
     not_stated e = rw (le-leb (length bytes) most_state_bytes l, e) refl
 
-    pub is_stated : (fs : List Spelled) → facts bytes (suc (length bytes)) 0 ≡ some (fs, length bytes) → stated bytes ≡ some fs
+    pub is_stated : (fs : List Spelled) → facts bytes (suc (length bytes)) 0 ≡ Some (fs, length bytes) → stated bytes ≡ Some fs
     unfolding stated whole to_the_end
     is_stated fs e = rw (le-leb (length bytes) most_state_bytes l, e, eq-eqb (length bytes) (length bytes) refl) refl

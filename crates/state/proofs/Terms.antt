@@ -3,7 +3,7 @@ use Prim.Native.Nat.{ℕ, ◌+◌, ◌≤◌, ◌<◌}
 use mathlib.Core.Bool.{true, false}
 use mathlib.Core.Path.{◌≡◌, refl}
 use mathlib.Core.List.{List}
-use mathlib.Core.Option.{some, none}
+use Rattle.std.specs.Prelude.{None, Some}
 use borrow.Author.Tests.{le-leb, lt-leb}
 use lib.ListN.{length, get_or}
 use Rattle.procap.specs.Facts.{most_terms}
@@ -18,13 +18,13 @@ use Rattle.procap.proofs.WithPredicate.{predicate_given}
 
 module _ (bytes : List ℕ) (at : ℕ) where
   -- No byte is no term.
-  pub no_tag : length bytes ≤ at → settled_term bytes at ≡ none
+  pub no_tag : length bytes ≤ at → settled_term bytes at ≡ None
   unfolding settled_term then
   no_tag l = rw (byte_none bytes at l) refl
 
   module _ (tag : TermTag) (l : at < length bytes) (e : tag ≡ term_tag (get_or bytes at 0)) where
     -- A tag that is not settled is no term, and after one that is stands the term.
-    pub unsettled : settled tag ≡ false → settled_term bytes at ≡ none
+    pub unsettled : settled tag ≡ false → settled_term bytes at ≡ None
     unfolding settled_term ensure then
     unsettled s = rw (byte_read bytes at l, ← e, s) refl
 
@@ -36,17 +36,17 @@ module _ (bytes : List ℕ) (at : ℕ) where
 
 -- Without a predicate, or without a count of at most four, there is no fact; else its terms follow.
 module _ (bytes : List ℕ) (at : ℕ) where
-  pub no_predicate : number bytes 2 at ≡ none → fact bytes at ≡ none
+  pub no_predicate : number bytes 2 at ≡ None → fact bytes at ≡ None
   unfolding fact predicate_and then
   no_predicate e = rw e refl
 
-  module _ (p place : ℕ) (e : number bytes 2 at ≡ some (p, place)) where
-    pub no_count : byte bytes place ≡ none → fact bytes at ≡ none
+  module _ (p place : ℕ) (e : number bytes 2 at ≡ Some (p, place)) where
+    pub no_count : byte bytes place ≡ None → fact bytes at ≡ None
     unfolding fact predicate_and then
     no_count f = rw (e, f) refl
 
-    module _ (n from : ℕ) (f : byte bytes place ≡ some (n, from)) where
-      pub too_many : most_terms < n → fact bytes at ≡ none
+    module _ (n from : ℕ) (f : byte bytes place ≡ Some (n, from)) where
+      pub too_many : most_terms < n → fact bytes at ≡ None
       unfolding fact predicate_and ensure then
       too_many l = rw (e, f, lt-leb n most_terms l) refl
 

@@ -2,7 +2,8 @@
 use Prim.Native.Nat.{ℕ, suc, ◌+◌, ◌-◌, ◌≤◌, ◌<◌}
 use mathlib.Core.Path.{◌≡◌, refl, sym, ap, ◌∙◌, subst}
 use mathlib.Core.List.{List, [], ◌∷◌, ◌++◌}
-use mathlib.Core.Option.{Option, some, none, none-ne-some}
+use Rattle.std.proofs.lemmas.Option.{none-some}
+use Rattle.std.specs.Prelude.{None, Option, Some}
 use native.Mathlib.Nat.{add-zero, zero-add}
 use native.Mathlib.Omega.{arith}
 use borrow.Author.Tests.{eq-eqb, le-leb, lt-leb}
@@ -87,10 +88,10 @@ module _ (proof : List ℕ) (c : ℕ) (ends₀ : List ℕ) where
       pub fewer : turns proof (at_hand t stack n) e < turns proof (at_hand todo waiting count) place
 
     module _ (r : Opened) (is : left r ≡ parts proof c todo place) where
-      opened_leaves : (x : Parts) (e : ℕ) → left r ≡ some (x, e) → Leaves proof todo others place x e
+      opened_leaves : (x : Parts) (e : ℕ) → left r ≡ Some (x, e) → Leaves proof todo others place x e
       opened_leaves x e p = so_read _ (sym is ∙ p) (leaves proof c todo others place fits so.inside so.short)
 
-      turned : (x : Parts) (e : ℕ) (stack : List ℕ) (t : Todo) (n : ℕ) → left r ≡ some (x, e) → at_hand t stack n ≡ x.1 ++ others
+      turned : (x : Parts) (e : ℕ) (stack : List ℕ) (t : Todo) (n : ℕ) → left r ≡ Some (x, e) → at_hand t stack n ≡ x.1 ++ others
           → Turned stack t n e (states + x.0)
       unfolding then
       turned x e stack t n p same =
@@ -106,7 +107,7 @@ module _ (proof : List ℕ) (c : ℕ) (ends₀ : List ℕ) where
             fewer = rw (same, in_order) l.fewer;
           }
 
-      pub nothing_there : r ≡ Nothing → Whole none
+      pub nothing_there : r ≡ Nothing → Whole None
       unfolding left then
       nothing_there e = opens ∙ (rw (← is, e) refl)
 
@@ -132,50 +133,50 @@ module _ (proof : List ℕ) (c : ℕ) (ends₀ : List ℕ) where
   -- ── What is said of the proof in the end ──
 
   -- Nothing is left to be read.
-  pub ended : (ends waiting : List ℕ) (todo : Todo) (count place states : ℕ) → SoFar ends waiting todo count place states → count ≡ 0 → Whole (some ((states, ends), place))
+  pub ended : (ends waiting : List ℕ) (todo : Todo) (count place states : ℕ) → SoFar ends waiting todo count place states → count ≡ 0 → Whole (Some ((states, ends), place))
   unfolding at_hand all_read
   ended ends waiting todo count place states so z = subst (λ n. Whole (all_read proof c (at_hand todo waiting n) (states, ends) place)) z so.reads
 
   -- The step that was read, with its steps 2C and its marks.
   pub record IsRead (place found : ℕ) (ends : List ℕ) : Type 0 where
     pub step : Check
-    pub reads : check_step proof c most_proof_levels 0 0 ≡ some (step, place)
+    pub reads : check_step proof c most_proof_levels 0 0 ≡ Some (step, place)
     pub counted : states step ≡ found
     pub marks : marked ends₀ (marks_checking step) ≡ ends
 
-  is_read : (place found : ℕ) (ends : List ℕ) → Whole (some ((found, ends), place)) → IsRead place found ends
+  is_read : (place found : ℕ) (ends : List ℕ) → Whole (Some ((found, ends), place)) → IsRead place found ends
   unfolding then after_checking
   is_read place found ends w = by (check_step proof c most_proof_levels 0 0) refl (sym (alone_read proof c most_proof_levels 0 0 (0, ends₀)) ∙ w)
     where
-      by : (o : Option (Check × ℕ)) → check_step proof c most_proof_levels 0 0 ≡ o → then o (λ N. give (after_checking proof c N (0, ends₀))) ≡ some ((found, ends), place)
+      by : (o : Option (Check × ℕ)) → check_step proof c most_proof_levels 0 0 ≡ o → then o (λ N. give (after_checking proof c N (0, ends₀))) ≡ Some ((found, ends), place)
           → IsRead place found ends
-      by none e t = absurd (none-ne-some _ t)
-      by (some x) e t =
+      by None e t = absurd (none-some _ t)
+      by (Some x) e t =
           let same = same_read _ refl t in
           record {
             step = x.0;
-            reads = e ∙ ap (λ p. some (x.0, p)) same.1;
+            reads = e ∙ ap (λ p. Some (x.0, p)) same.1;
             counted = sym (zero-add (states x.0)) ∙ ap (λ s. s.0) same.0;
             marks = ap (λ s. s.1) same.0;
           }
 
   abbrev pub A_proof : Type 0
-  A_proof = (N : Check) × (proof_in c proof ≡ some N)
+  A_proof = (N : Check) × (proof_in c proof ≡ Some N)
 
   pub too_long : most_proof_bytes < length proof → A_proof → ⊥
   unfolding proof_in
   too_long l p = not_read _ (rw (lt-leb (length proof) most_proof_bytes l) refl) p.1
 
-  pub unread_proof : Whole none → A_proof → ⊥
+  pub unread_proof : Whole None → A_proof → ⊥
   unfolding then
-  unread_proof w p = none-ne-some _ (rw (proof_step c proof p.0 p.1) at (sym w ∙ alone_read proof c most_proof_levels 0 0 (0, ends₀)))
+  unread_proof w p = none-some _ (rw (proof_step c proof p.0 p.1) at (sym w ∙ alone_read proof c most_proof_levels 0 0 (0, ends₀)))
 
-  module _ (place found : ℕ) (ends : List ℕ) (w : Whole (some ((found, ends), place))) where
+  module _ (place found : ℕ) (ends : List ℕ) (w : Whole (Some ((found, ends), place))) where
     is : IsRead place found ends
     is = is_read place found ends w
 
     -- The step is the proof, if there is one.
-    the_proof : (N : Check) → proof_in c proof ≡ some N → (is.step ≡ N) × (place ≡ length proof)
+    the_proof : (N : Check) → proof_in c proof ≡ Some N → (is.step ≡ N) × (place ≡ length proof)
     the_proof N p = same_read _ is.reads (proof_step c proof N p)
 
     pub not_to_the_end : (place ≡ length proof → ⊥) → A_proof → ⊥
@@ -188,7 +189,7 @@ module _ (proof : List ℕ) (c : ℕ) (ends₀ : List ℕ) where
         rw (← counted, le-leb (length proof) most_proof_bytes short, is.reads, eq-eqb place (length proof) e) (tells_picked (leb (states is.step) most_states) is.step)
 
     -- Its marks are in the table.
-    pub table_told : length proof ≤ most_proof_bytes → (N : Check) → most_ends ≤ length ends₀ → proof_in c proof ≡ some N → ToldChecking ends N
+    pub table_told : length proof ≤ most_proof_bytes → (N : Check) → most_ends ≤ length ends₀ → proof_in c proof ≡ Some N → ToldChecking ends N
     table_told short N long p =
         let same = the_proof N p in
         let there = checks_there proof c most_proof_levels 0 0 is.step place is.reads in

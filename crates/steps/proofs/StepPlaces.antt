@@ -4,7 +4,7 @@ use Prim.Native.Nat.{ℕ, zero, suc, ◌+◌, ◌≤◌}
 use mathlib.Core.Bool.{Bool, true, false}
 use mathlib.Core.Path.{◌≡◌, refl, sym, ◌∙◌}
 use mathlib.Core.List.{List, [], ◌∷◌, ◌++◌}
-use mathlib.Core.Option.{Option, some, none}
+use Rattle.std.specs.Prelude.{None, Option, Some}
 use native.Mathlib.Omega.{arith}
 use borrow.Author.Tests.{leb-true}
 use lib.ListN.{length, get_or, take, drop}
@@ -122,7 +122,7 @@ module _ (proof : List ℕ) where
   unfolding number next
   number_takes k at = then_read (by (leb (at + k) (length proof)) refl) λ bs e h. read h
     where
-      by : (b : Bool) → leb (at + k) (length proof) ≡ b → Takes (λ _. k) at (pick b (some (take k (drop at proof), at + k)) none)
+      by : (b : Bool) → leb (at + k) (length proof) ≡ b → Takes (λ _. k) at (pick b (Some (take k (drop at proof), at + k)) None)
       by true e = read (refl, leb-true (at + k) (length proof) e)
       by false e = unread
 
@@ -261,16 +261,16 @@ module _ (proof : List ℕ) where
 -- ── As others use it ──
 
 -- A step that checks, read at a place, begins there and ends where its bytes do.
-pub checks_there : (proof : List ℕ) (c n h at : ℕ) (N : Check) (e : ℕ) → check_step proof c n h at ≡ some (N, e) → Checks proof c at N e
+pub checks_there : (proof : List ℕ) (c n h at : ℕ) (N : Check) (e : ℕ) → check_step proof c n h at ≡ Some (N, e) → Checks proof c at N e
 checks_there proof c n h at N e r = so_read _ r (check_placed proof c n h at)
 
-pub ends_there : (proof : List ℕ) (c n h at : ℕ) (N : Check) (e : ℕ) → check_step proof c n h at ≡ some (N, e) → (place N ≡ at) × (past N ≡ e)
+pub ends_there : (proof : List ℕ) (c n h at : ℕ) (N : Check) (e : ℕ) → check_step proof c n h at ≡ Some (N, e) → (place N ≡ at) × (past N ≡ e)
 ends_there proof c n h at N e r =
     let there = checks_there proof c n h at N e r in
     (there.begins, omega arith)
 
 -- So what the table has for a second part that is read at a place is where it ends.
-pub end_told : (ends : List ℕ) (proof : List ℕ) (c n h at : ℕ) (N : Check) (e : ℕ) → check_step proof c n h at ≡ some (N, e) → EndTold ends N
+pub end_told : (ends : List ℕ) (proof : List ℕ) (c n h at : ℕ) (N : Check) (e : ℕ) → check_step proof c n h at ≡ Some (N, e) → EndTold ends N
     → get_or ends (slot at) 0 ≡ e
 end_told ends proof c n h at N e r told =
     let there = ends_there proof c n h at N e r in

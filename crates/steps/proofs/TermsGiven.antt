@@ -2,7 +2,7 @@
 use Prim.Native.Nat.{ℕ}
 use mathlib.Core.Path.{◌≡◌, ap}
 use mathlib.Core.List.{List}
-use mathlib.Core.Option.{Option, some, none}
+use Rattle.std.specs.Prelude.{None, Option, Some}
 use Rattle.procap.specs.Bytes.{term}
 use Rattle.procap.specs.declared.fact.Term.{Term}
 use Rattle.procap.specs.declared.fact.Term.TheVariants.{Name}
@@ -15,17 +15,17 @@ use Rattle.steps.proofs.StepsRead.{time_read}
 
 module _ (o : Option (Term × ℕ)) (at : ℕ) where
   -- A term that is found, and none.
-  pub given_found : {t : Term} {e : ℕ} → o ≡ some (t, e) → record { term = t; next = e } ≡ term_given o at
+  pub given_found : {t : Term} {e : ℕ} → o ≡ Some (t, e) → record { term = t; next = e } ≡ term_given o at
   unfolding term_given
   given_found h = rw h
 
-  pub given_none : o ≡ none → record { term = Name 0; next = at } ≡ term_given o at
+  pub given_none : o ≡ None → record { term = Name 0; next = at } ≡ term_given o at
   unfolding term_given
   given_none h = rw h
 
 -- What is given for a term that is found is that term, and the place after it.
 pub term_found : (o : Option (Term × ℕ)) (at : ℕ) {r : TermAt} → r ≡ term_given o at
-    → (t : Term) (e : ℕ) → o ≡ some (t, e) → (r.term ≡ t) × (r.next ≡ e)
+    → (t : Term) (e : ℕ) → o ≡ Some (t, e) → (r.term ≡ t) × (r.next ≡ e)
 unfolding term_given
 term_found o at given t e h =
     let same = rw h at given in
@@ -33,7 +33,7 @@ term_found o at given t e h =
 
 -- What is given for a time that is read is that time, and the place after it.
 pub time_found : (proof : List ℕ) (at : ℕ) {r : TimeAt} → r ≡ time_given (term proof at) at
-    → (c : ℕ) (t : Time) (e : ℕ) → time proof c at ≡ some (t, e) → (r.time ≡ t) × (r.next ≡ e)
+    → (c : ℕ) (t : Time) (e : ℕ) → time proof c at ≡ Some (t, e) → (r.time ≡ t) × (r.next ≡ e)
 unfolding term_given time_or_ctime
 time_found proof at given c t e h =
     let same = rw (time_read proof c at t e h) at given in

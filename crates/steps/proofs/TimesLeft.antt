@@ -2,7 +2,7 @@
 use Prim.Native.Nat.{ℕ}
 use mathlib.Core.Path.{◌≡◌, refl}
 use mathlib.Core.List.{List, []}
-use mathlib.Core.Option.{some, none}
+use Rattle.std.specs.Prelude.{None, Some}
 use Rattle.procap.specs.Bytes.{then, term}
 use Rattle.procap.specs.declared.time.Time.{Time}
 use Rattle.procap.specs.declared.fact.Term.{Term}
@@ -12,24 +12,24 @@ use Rattle.steps.specs.Todo.{time_parts, times_parts}
 
 module _ (proof : List ℕ) (at : ℕ) (c : ℕ) where
   -- No term, a name, and a time: of one time, and of two.
-  pub no_term : term proof at ≡ none → none ≡ time_parts proof c at
+  pub no_term : term proof at ≡ None → None ≡ time_parts proof c at
   unfolding time_parts time then
   no_term r = rw r refl
 
-  pub no_terms : term proof at ≡ none → none ≡ times_parts proof c at
+  pub no_terms : term proof at ≡ None → None ≡ times_parts proof c at
   unfolding times_parts time then
   no_terms r = rw r refl
 
-  module _ (t : Term) (next : ℕ) (r : term proof at ≡ some (t, next)) where
-    pub a_name : (k : ℕ) → t ≡ Name k → none ≡ time_parts proof c at
+  module _ (t : Term) (next : ℕ) (r : term proof at ≡ Some (t, next)) where
+    pub a_name : (k : ℕ) → t ≡ Name k → None ≡ time_parts proof c at
     unfolding time_parts time only_time then
     a_name k e = rw (r, e) refl
 
-    pub a_time : (u : Time) → t ≡ When u → some ((0, []), next) ≡ time_parts proof c at
+    pub a_time : (u : Time) → t ≡ When u → Some ((0, []), next) ≡ time_parts proof c at
     unfolding time_parts time only_time then
     a_time u e = rw (r, e) refl
 
-    pub a_name_first : (k : ℕ) → t ≡ Name k → none ≡ times_parts proof c at
+    pub a_name_first : (k : ℕ) → t ≡ Name k → None ≡ times_parts proof c at
     unfolding times_parts time only_time then
     a_name_first k e = rw (r, e) refl
 

@@ -2,7 +2,7 @@
 use Prim.Native.Nat.{ℕ, zero, suc, ◌+◌}
 use mathlib.Core.Path.{◌≡◌, refl, ap}
 use mathlib.Core.List.{List, [], ◌∷◌, ◌++◌}
-use mathlib.Core.Option.{Option, some, none}
+use Rattle.std.specs.Prelude.{None, Option, Some}
 use native.Mathlib.Nat.{add-zero, add_assoc}
 use lib.ListN.{set}
 use Rattle.procap.specs.Bytes.{Reader, then, give, byte}
@@ -25,14 +25,14 @@ use Rattle.steps.proofs.StepPlaces.{marks_inferring, marks_checking, ends_there}
 
 in_turn : {A B C : Type 0} (o : Option (A × ℕ)) (f : A → Reader B) (g : B → Reader C) → then (then o f) g ≡ then o (λ a e. then (f a e) g)
 unfolding then
-in_turn none f g = refl
-in_turn (some r) f g = refl
+in_turn None f g = refl
+in_turn (Some r) f g = refl
 
 -- Two that go on alike from what is read.
-alike : {A B : Type 0} (o : Option (A × ℕ)) (f g : A → Reader B) → ((a : A) (e : ℕ) → o ≡ some (a, e) → f a e ≡ g a e) → then o f ≡ then o g
+alike : {A B : Type 0} (o : Option (A × ℕ)) (f g : A → Reader B) → ((a : A) (e : ℕ) → o ≡ Some (a, e) → f a e ≡ g a e) → then o f ≡ then o g
 unfolding then
-alike none f g h = refl
-alike (some r) f g h = h r.0 r.1 refl
+alike None f g h = refl
+alike (Some r) f g h = h r.0 r.1 refl
 
 -- ── What is found ──
 

@@ -2,7 +2,7 @@
 use Prim.Native.Nat.{ℕ, suc, ◌+◌, ◌-◌, ◌≤◌, ◌<◌}
 use mathlib.Core.Path.{◌≡◌, refl, sym, ◌∙◌}
 use mathlib.Core.List.{List}
-use mathlib.Core.Option.{none}
+use Rattle.std.specs.Prelude.{None}
 use native.Mathlib.Omega.{arith}
 use lib.ListN.{length, get_or}
 use Rattle.procap.proofs.ReadApart.{from_tag}
@@ -27,11 +27,11 @@ module _ (proof : List ℕ) (at begin : ℕ) (next : at < length proof → begin
 
 -- By what is to be read: no level left, and one at least.
 module _ (proof : List ℕ) (c at : ℕ) (todo : Todo) (n h : ℕ) where
-  pub no_inferring : todo ≡ Inferring n h → n ≡ 0 → none ≡ parts proof c todo at
+  pub no_inferring : todo ≡ Inferring n h → n ≡ 0 → None ≡ parts proof c todo at
   unfolding parts
   no_inferring is z = rw (is, z) refl
 
-  pub no_checking : todo ≡ Checking n h → n ≡ 0 → none ≡ parts proof c todo at
+  pub no_checking : todo ≡ Checking n h → n ≡ 0 → None ≡ parts proof c todo at
   unfolding parts
   no_checking is z = rw (is, z) refl
 

@@ -1,7 +1,6 @@
 -- Where the second part of each step 26 ends: a table with a place for every three bytes of a proof, since two second parts begin at least three bytes apart.
 -- The end is told by the tree alone: a step's bytes can be counted.
-use Rattle.std.specs.Prelude.{ℕ, ◌+◌, ◌/◌, ◌≤◌, ◌≡◌, List, length, get_or}
-use Rattle.std.proofs.Math.Option.{some}
+use Rattle.std.specs.Prelude.{ℕ, ◌+◌, ◌/◌, ◌≤◌, ◌≡◌, List, length, get_or, Some}
 use Rattle.procap.specs.declared.time.Time.{Time}
 use Rattle.procap.specs.declared.time.Time.TheVariants.{Moment, MinusInfinity, PlusInfinity, Ctime}
 use Rattle.procap.specs.declared.fact.Term.{Term}
@@ -113,9 +112,9 @@ module _ (ends : List ℕ) where
 
 -- The bytes are a proof over so many certificates.
 abbrev pub IsProof : Lent → ℕ → Type 0
-IsProof proof certificates = (N : Check) × (proof_in certificates proof.entry.now ≡ some N)
+IsProof proof certificates = (N : Check) × (proof_in certificates proof.entry.now ≡ Some N)
 
 -- Where the bytes are a proof, and the table is long enough, it has at the exit where each second part ends.
 abbrev pub EndsTold : Lent → ℕ → LentToWrite → Type 0
 EndsTold proof certificates ends =
-    (N : Check) → most_ends ≤ length ends.entry.now → proof_in certificates proof.entry.now ≡ some N → ToldChecking ends.exit.now N
+    (N : Check) → most_ends ≤ length ends.entry.now → proof_in certificates proof.entry.now ≡ Some N → ToldChecking ends.exit.now N

@@ -1,6 +1,5 @@
 -- What the code hands back for a term and for a time of a proof, from what is read at a place.
-use Rattle.std.specs.Prelude.{ℕ}
-use Rattle.std.proofs.Math.Option.{Option, some, none}
+use Rattle.std.specs.Prelude.{ℕ, None, Option, Some}
 use Rattle.procap.specs.declared.fact.Term.{Term}
 use Rattle.procap.specs.declared.fact.Term.TheVariants.{Name, When}
 use Rattle.procap.specs.declared.time.Time.{Time}
@@ -10,8 +9,8 @@ use Rattle.steps.specs.declared.TimeAt.{TimeAt}
 
 -- The term that is read and the place after it; where none is, name 0 and the same place.
 unfoldable pub term_given : Option (Term × ℕ) → ℕ → TermAt
-term_given none at = record { term = Name 0; next = at }
-term_given (some r) at = record { term = r.0; next = r.1 }
+term_given None at = record { term = Name 0; next = at }
+term_given (Some r) at = record { term = r.0; next = r.1 }
 
 -- The time that a term is; a name is none, and gives ctime.
 unfoldable pub time_or_ctime : Term → Time

@@ -1,6 +1,5 @@
 -- A proof's bytes tested without a call inside of a call: a list of what is still to be read. The first of the list is opened at its place, and its parts take its place in the list.
-use Rattle.std.specs.Prelude.{ℕ, zero, suc, ◌+◌, ◌/◌, ◌%◌, ◌≤◌, ◌≡◌, List, [], ◌∷◌, set, ltb, eqb}
-use Rattle.std.proofs.Math.Option.{Option, some, none}
+use Rattle.std.specs.Prelude.{ℕ, zero, suc, ◌+◌, ◌/◌, ◌%◌, ◌≤◌, ◌≡◌, List, [], ◌∷◌, set, ltb, eqb, None, Option, Some}
 use Rattle.procap.specs.Tells.{pick}
 use Rattle.procap.specs.Bytes.{Reader, ◌>>=◌, give, fail, ensure, byte, term}
 use Rattle.bl.specs.declared.InferTag.{InferTag}
@@ -81,7 +80,7 @@ module _ (proof : List ℕ) where
     parts (Checking (suc n) h) = do
       b ← byte proof
       checking_parts n h (infer_tag b) (check_tag b)
-    parts (Second n h) = λ at. some ((0, Checking n h ∷ Times at ∷ []), at)
+    parts (Second n h) = λ at. Some ((0, Checking n h ∷ Times at ∷ []), at)
     parts (Both n h) = give (0, Checking n h ∷ Checking n h ∷ [])
 
 -- The table after what is to be read at a place has been opened there.
@@ -96,10 +95,10 @@ noted (Both n h) at ends = ends
 
 -- What the code hands back of what it opened.
 unfoldable pub left : Opened → Option (Parts × ℕ)
-left Nothing = none
-left (Leaf next states) = some ((states, []), next)
-left (One next t) = some ((0, t ∷ []), next)
-left (Two next t u) = some ((0, t ∷ u ∷ []), next)
+left Nothing = None
+left (Leaf next states) = Some ((states, []), next)
+left (One next t) = Some ((0, t ∷ []), next)
+left (Two next t u) = Some ((0, t ∷ u ∷ []), next)
 
 -- What waits as a number: the kind in three bits, then a place, or levels and assumptions in six bits each.
 unfoldable pub todo_in : ℕ → Todo

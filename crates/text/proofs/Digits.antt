@@ -3,7 +3,7 @@ use Prim.Native.Nat.{ℕ, ◌+◌, ◌-◌, ◌*◌, ◌≤◌, ◌<◌}
 use mathlib.Core.Bool.{Bool, true, false}
 use mathlib.Core.Path.{◌≡◌, refl, sym, ap, ap₂, subst, ◌∙◌}
 use mathlib.Core.List.{List, [], ◌∷◌, ◌++◌, append_assoc, append-nil}
-use mathlib.Core.Option.{some, none}
+use Rattle.std.specs.Prelude.{None, Some}
 use mathlib.Core.Logic.{◌⊎◌, inl, inr}
 use native.Mathlib.Numerals.{add-one}
 use native.Mathlib.Omega.{arith}
@@ -84,19 +84,19 @@ not_zero_first d ds l = started_one ((digit_zero + d) ∷ ds) (rw (ne_eqb (digit
 
 module _ (text : List ℕ) (limit at : ℕ) (ds : List ℕ) (e : leading_digits (drop at text) ≡ ds) where
   -- It is what the digits say, in their one spelling and within the limit; else there is none.
-  number_here : one_spelling ds ≡ true → value 0 ds ≤ limit → number_to text limit at ≡ some (value 0 ds, at + length ds)
+  number_here : one_spelling ds ≡ true → value 0 ds ≤ limit → number_to text limit at ≡ Some (value 0 ds, at + length ds)
   unfolding number_to digits then ensure
   number_here o l = rw (e, o, le-leb (value 0 ds) limit l)
 
-  number_in_no_spelling : one_spelling ds ≡ false → number_to text limit at ≡ none
+  number_in_no_spelling : one_spelling ds ≡ false → number_to text limit at ≡ None
   unfolding number_to digits then ensure
   number_in_no_spelling o = rw (e, o)
 
-  number_above : limit < value 0 ds → number_to text limit at ≡ none
+  number_above : limit < value 0 ds → number_to text limit at ≡ None
   unfolding number_to digits then ensure
   number_above l = rw (e, lt-leb (value 0 ds) limit l) (by_spelling (one_spelling ds))
     where
-      by_spelling : (b : Bool) → then {A = Unit {0}} {B = ℕ} (ensure b (at + length ds)) (λ _ _. none) ≡ none
+      by_spelling : (b : Bool) → then {A = Unit {0}} {B = ℕ} (ensure b (at + length ds)) (λ _ _. None) ≡ None
       by_spelling true = refl
       by_spelling false = refl
 
@@ -118,11 +118,11 @@ digit_told text at e h = subst (DigitReads text at) e h
 
 module _ (text : List ℕ) (limit at : ℕ) where
   -- There is no number where no digit is, and where the first one passes the limit.
-  pub no_number : DigitReads text at NoDigit → number_to text limit at ≡ none
+  pub no_number : DigitReads text at NoDigit → number_to text limit at ≡ None
   unfolding one_spelling
   no_number h = number_in_no_spelling text limit at [] h refl
 
-  pub first_above : (d : ℕ) → DigitReads text at (Value d) → limit < d → number_to text limit at ≡ none
+  pub first_above : (d : ℕ) → DigitReads text at (Value d) → limit < d → number_to text limit at ≡ None
   first_above d h l =
       let rest : List ℕ = leading_digits (drop (at + 1) text) in
       number_above text limit at ((digit_zero + d) ∷ rest) h.2 (omega (arith, value_first d rest, value_grows d rest))
@@ -141,13 +141,13 @@ module _ (text : List ℕ) (limit at : ℕ) where
         [ inl e ↦ ap (λ (ds : List ℕ). one_spelling ((digit_zero + r.first) ∷ ds)) e | inr l ↦ not_zero_first r.first r.others l ]
 
     -- With no digit more, the number is what they say.
-    pub ended : DigitReads text next NoDigit → number_to text limit at ≡ some (n, next)
+    pub ended : DigitReads text next NoDigit → number_to text limit at ≡ Some (n, next)
     ended h =
         let ds : List ℕ = (digit_zero + r.first) ∷ r.others in
         let all : leading_digits (drop at text) ≡ ds = r.split ∙ rw (h, append-nil) in
         let says : value 0 ds ≡ n = value_first r.first r.others ∙ r.says in
         number_here text limit at ds all read_spelled (omega arith)
-        ∙ ap₂ (λ (m e : ℕ). some (m, e)) says (omega arith)
+        ∙ ap₂ (λ (m e : ℕ). Some (m, e)) says (omega arith)
 
     module _ (d : ℕ) (h : DigitReads text next (Value d)) where
       -- All digits: those read, this one, and the rest.
@@ -168,12 +168,12 @@ module _ (text : List ℕ) (limit at : ℕ) where
           ∙ value_more n d rest
 
       -- A digit after a lone 0 leaves no number, and so does one that passes the limit.
-      pub after_zero : n ≡ 0 → number_to text limit at ≡ none
+      pub after_zero : n ≡ 0 → number_to text limit at ≡ None
       after_zero z =
           let zero_first : r.first ≡ 0 = omega (arith, value_grows r.first r.others) in
           number_in_no_spelling text limit at all all_split (zero_and_more r.first (digit_zero + d) r.others rest zero_first)
 
-      pub passed : limit < n * 10 + d → number_to text limit at ≡ none
+      pub passed : limit < n * 10 + d → number_to text limit at ≡ None
       passed l = number_above text limit at all all_split (omega (arith, all_value, value_grows (n * 10 + d) rest))
 
       -- One digit more.

@@ -2,10 +2,10 @@
 -- back for what a reader finds is a function of that.
 use Prim.Native.Nat.{ℕ}
 use mathlib.Core.Path.{◌≡◌, sym, ap, ◌∙◌}
-use mathlib.Core.Option.{Option, some, none}
+use Rattle.std.specs.Prelude.{Err, None, Ok, Option, Some}
 use Rattle.procap.specs.Procaps.{no_request}
 use Rattle.procap.specs.Answers.{place_of}
-use Rattle.procap.specs.Outcome.{Outcome, granted, refused}
+use Rattle.procap.specs.Outcome.{Outcome}
 use Rattle.procap.specs.declared.procap.Request.{Request}
 use Rattle.text.specs.Places.{PlaceReads, RequestFound, RequestReads}
 use Rattle.text.specs.declared.line.Place.{Place}
@@ -16,8 +16,8 @@ use Rattle.text.specs.declared.request.RequestRead.{RequestRead}
 
 -- The place after what a reader finds, or none.
 abbrev pub as_place : Option (Unit {0} × ℕ) → Place
-as_place none = Nowhere
-as_place (some x) = At x.1
+as_place None = Nowhere
+as_place (Some x) = At x.1
 
 pub place_fixed : (o : Option (Unit {0} × ℕ)) (r : Place) → PlaceReads o r → r ≡ as_place o
 place_fixed o (At next) h = sym (ap as_place h)
@@ -25,8 +25,8 @@ place_fixed o Nowhere h = sym (ap as_place h)
 
 -- The request and the place after its lines; or the line that breaks their form, with zeros.
 abbrev pub as_request : Outcome (Request × ℕ × ℕ) → RequestRead
-as_request (granted x) = record { form = Kept; request = x.0; next = x.2 }
-as_request (refused answer) = record { form = BrokenAt (place_of answer); request = no_request; next = 0 }
+as_request (Ok x) = record { form = Kept; request = x.0; next = x.2 }
+as_request (Err answer) = record { form = BrokenAt (place_of answer); request = no_request; next = 0 }
 
 pub request_fixed : (o : Outcome (Request × ℕ × ℕ)) (r : RequestRead) → RequestReads o r → r ≡ as_request o
 request_fixed o r h = by r.form r.request r.next h

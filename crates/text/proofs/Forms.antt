@@ -1,7 +1,8 @@
 -- What the form that is handed back tells of a reader of lines: they were read, or this line breaks the form.
 use Prim.Native.Nat.{ℕ}
 use mathlib.Core.Path.{◌≡◌, sym, subst}
-use Rattle.procap.specs.Outcome.{Outcome, refused}
+use Rattle.std.specs.Prelude.{Err}
+use Rattle.procap.specs.Outcome.{Outcome}
 use Rattle.procap.specs.declared.answer.Answer.TheVariants.{InputMalformed}
 use Rattle.text.specs.Places.{Reads}
 use Rattle.text.specs.declared.line.Form.{Form}
@@ -13,9 +14,9 @@ module _ {A : Type 0} (o : Outcome (A × ℕ × ℕ)) (so : Type 0) {form : Form
   kept_told e h = subst (λ f. Reads o f so) e h
 
   -- Where a line breaks the form, the reader refuses with it.
-  pub broken_told : {line : ℕ} → form ≡ BrokenAt line → Reads o form so → o ≡ refused (InputMalformed line)
+  pub broken_told : {line : ℕ} → form ≡ BrokenAt line → Reads o form so → o ≡ Err (InputMalformed line)
   broken_told e h = subst (λ f. Reads o f so) e h
 
   -- Where the reader refuses with a line, that line is handed back.
-  pub broken_handed : {line : ℕ} → form ≡ BrokenAt line → o ≡ refused (InputMalformed line) → Reads o form so
+  pub broken_handed : {line : ℕ} → form ≡ BrokenAt line → o ≡ Err (InputMalformed line) → Reads o form so
   broken_handed e h = subst (λ f. Reads o f so) (sym e) h

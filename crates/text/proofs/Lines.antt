@@ -2,7 +2,7 @@
 use Prim.Native.Nat.{ℕ, ◌+◌, ◌≤◌, ◌<◌}
 use mathlib.Core.Path.{◌≡◌, subst}
 use mathlib.Core.List.{List, ◌∷◌}
-use mathlib.Core.Option.{Option, some, none}
+use Rattle.std.specs.Prelude.{None, Option, Some}
 use native.Mathlib.Numerals.{add-one}
 use lib.ListN.{length, drop, get_or, drop_of_length-le}
 use lib.Seq.{drop-cons}
@@ -21,11 +21,11 @@ module _ (text : List ℕ) (at : ℕ) where
     unfolding literal then ensure
     literal_same l e = rw (byte_read text at l, eq-eqb (get_or text at 0) b e)
 
-    pub literal_other : at < length text → (get_or text at 0 ≡ b → ⊥) → literal text (b ∷ bs) at ≡ none
+    pub literal_other : at < length text → (get_or text at 0 ≡ b → ⊥) → literal text (b ∷ bs) at ≡ None
     unfolding literal then ensure
     literal_other l n = rw (byte_read text at l, ne_eqb (get_or text at 0) b n)
 
-    pub literal_past : length text ≤ at → literal text (b ∷ bs) at ≡ none
+    pub literal_past : length text ≤ at → literal text (b ∷ bs) at ≡ None
     unfolding literal then
     literal_past l = rw (byte_none text at l)
 
@@ -35,13 +35,13 @@ module _ (text word : List ℕ) (at i : ℕ) where
       → literal text (drop i word) at ≡ literal text (drop (i + 1) word) (at + 1)
   word_same k l e = rw (drop-cons word i 0 k, add-one i) (literal_same text at (get_or word i 0) _ l e)
 
-  pub word_other : i < length word → at < length text → (get_or text at 0 ≡ get_or word i 0 → ⊥) → literal text (drop i word) at ≡ none
+  pub word_other : i < length word → at < length text → (get_or text at 0 ≡ get_or word i 0 → ⊥) → literal text (drop i word) at ≡ None
   word_other k l n = rw (drop-cons word i 0 k) (literal_other text at (get_or word i 0) _ l n)
 
-  pub word_past : i < length word → length text ≤ at → literal text (drop i word) at ≡ none
+  pub word_past : i < length word → length text ≤ at → literal text (drop i word) at ≡ None
   word_past k l = rw (drop-cons word i 0 k) (literal_past text at (get_or word i 0) _ l)
 
-  pub word_end : length word ≤ i → literal text (drop i word) at ≡ some (tt, at)
+  pub word_end : length word ≤ i → literal text (drop i word) at ≡ Some (tt, at)
   unfolding literal
   word_end k = rw (drop_of_length-le word k)
 
@@ -51,20 +51,20 @@ place_told o e h = subst (PlaceReads o) e h
 
 -- A line: its word, its number and its end, each from the place after the one before; without any of them there is none.
 module _ (text word : List ℕ) (limit at : ℕ) where
-  pub line_no_word : literal text word at ≡ none → line_to text word limit at ≡ none
+  pub line_no_word : literal text word at ≡ None → line_to text word limit at ≡ None
   unfolding line_to then
   line_no_word e = rw e
 
-  module _ (start : ℕ) (e : literal text word at ≡ some (tt, start)) where
-    pub line_no_number : number_to text limit start ≡ none → line_to text word limit at ≡ none
+  module _ (start : ℕ) (e : literal text word at ≡ Some (tt, start)) where
+    pub line_no_number : number_to text limit start ≡ None → line_to text word limit at ≡ None
     unfolding line_to then
     line_no_number f = rw (e, f)
 
-    module _ (n end : ℕ) (f : number_to text limit start ≡ some (n, end)) where
-      pub line_no_end : literal text (bytes_of "\n") end ≡ none → line_to text word limit at ≡ none
+    module _ (n end : ℕ) (f : number_to text limit start ≡ Some (n, end)) where
+      pub line_no_end : literal text (bytes_of "\n") end ≡ None → line_to text word limit at ≡ None
       unfolding line_to then
       line_no_end g = rw (e, f, g)
 
-      pub line_here : (next : ℕ) → literal text (bytes_of "\n") end ≡ some (tt, next) → line_to text word limit at ≡ some (n, next)
+      pub line_here : (next : ℕ) → literal text (bytes_of "\n") end ≡ Some (tt, next) → line_to text word limit at ≡ Some (n, next)
       unfolding line_to then
       line_here next g = rw (e, f, g)

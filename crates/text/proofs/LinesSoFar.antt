@@ -5,7 +5,8 @@ use mathlib.Core.Bool.{true, false}
 use mathlib.Core.Path.{◌≡◌, refl, sym, ap, ap₂, subst, ◌∙◌}
 use mathlib.Core.List.{List, [], ◌∷◌, ◌++◌}
 use mathlib.Core.Logic.{inl, inr}
-use mathlib.Core.Option.{Option, some, none, some-injective, none-ne-some}
+use Rattle.std.proofs.lemmas.Option.{none-some, same_Some}
+use Rattle.std.specs.Prelude.{None, Option, Some}
 use native.Mathlib.Numerals.{add-one}
 use native.Mathlib.Omega.{arith}
 use lib.ListN.{length, take, set, replicate, length-append, length-set}
@@ -35,10 +36,10 @@ there_twice x (y ∷ xs) ys (inl e) d = d.0 (in_more y (xs ++ (x ∷ [])) ys (in
 there_twice x (y ∷ xs) ys (inr h) d = there_twice x xs ys h d.1
 
 -- What is read with some values before it begins with these.
-led_some : {A : Type 0} (xs : List A) (o : Option (List A × ℕ)) (zs : List A) (e : ℕ) → led_by xs o ≡ some (zs, e) → (ys : List A) × (zs ≡ xs ++ ys)
+led_some : {A : Type 0} (xs : List A) (o : Option (List A × ℕ)) (zs : List A) (e : ℕ) → led_by xs o ≡ Some (zs, e) → (ys : List A) × (zs ≡ xs ++ ys)
 unfolding led_by
-led_some xs none zs e h = absurd (none-ne-some (zs, e) h)
-led_some xs (some r) zs e h = (r.0, sym (ap (λ p. p.0) (some-injective (xs ++ r.0, r.1) (zs, e) h)))
+led_some xs None zs e h = absurd (none-some (zs, e) h)
+led_some xs (Some r) zs e h = (r.0, sym (ap (λ p. p.0) (same_Some (xs ++ r.0, r.1) (zs, e) h)))
 
 -- ── Where lines begin ──
 
@@ -72,17 +73,17 @@ module _ (text : List ℕ) (at k : ℕ) where
     unfolding many then
     first_read f next r = rw (more, r) (led_by_one f (many (fact_line text) n next))
 
-    first_missing : fact_line text at ≡ none → many (fact_line text) k at ≡ none
+    first_missing : fact_line text at ≡ None → many (fact_line text) k at ≡ None
     unfolding many then
     first_missing e = rw (more, e)
 
-  none_read : k ≡ 0 → many (fact_line text) k at ≡ some ([], at)
+  none_read : k ≡ 0 → many (fact_line text) k at ≡ Some ([], at)
   unfolding many
   none_read e = rw e
 
 -- There are no such lines, no two alike.
 abbrev NoLines : Option (List Spelled × ℕ) → Type 0
-NoLines o = (fs : List Spelled) (e : ℕ) → o ≡ some (fs, e) → Distinct fs → ⊥
+NoLines o = (fs : List Spelled) (e : ℕ) → o ≡ Some (fs, e) → Distinct fs → ⊥
 
 -- So it is told.
 pub no_lines_told : (o : Option (List Spelled × ℕ)) (at count : ℕ) (r : LinesRead) → r.found ≡ false → NoLines o → LinesReads o at count r
@@ -121,8 +122,8 @@ module _ {text : List ℕ} {at count : ℕ} {places : List ℕ} {next i : ℕ} (
     one_left = omega arith
 
     -- The next line is no fact's.
-    pub no_line : fact_line text next ≡ none → NoLines (many (fact_line text) count at)
-    no_line e fs end k d = none-ne-some (fs, end) (sym (led_none h.facts _ h.reads (first_missing text next _ _ one_left e)) ∙ k)
+    pub no_line : fact_line text next ≡ None → NoLines (many (fact_line text) count at)
+    no_line e fs end k d = none-some (fs, end) (sym (led_none h.facts _ h.reads (first_missing text next _ _ one_left e)) ∙ k)
 
     -- It is the line of a fact.
     module _ (f : Spelled) (end : ℕ) (r : ReadsAt text next f end) where

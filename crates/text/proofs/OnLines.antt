@@ -4,7 +4,8 @@ use mathlib.Core.Path.{◌≡◌, refl, sym, ap, ap₂, ◌∙◌}
 use mathlib.Core.Bool.{Bool, true, false}
 use mathlib.Core.List.{List, [], ◌∷◌, ◌++◌, map, map-append}
 use mathlib.Core.Logic.{inl, inr}
-use mathlib.Core.Option.{Option, some, some-injective, none-ne-some}
+use Rattle.std.proofs.lemmas.Option.{none-some, same_Some}
+use Rattle.std.specs.Prelude.{Option, Some}
 use native.Mathlib.Numerals.{add-one}
 use native.Mathlib.Omega.{arith}
 use borrow.Author.Count.{below_none, below_more}
@@ -66,12 +67,12 @@ module _ (text : List ℕ) where
   not_on (p ∷ ps) (g ∷ fs) f n h (inr i) = not_on ps fs f (λ k l. n (suc k) (omega arith)) h.1 i
 
 -- What was read from the line of a fact is this fact.
-read_is : (o : Option (Spelled × ℕ)) (r : FactRead) (f : Spelled) (e : ℕ) → FactReads o r → o ≡ some (f, e) → r.fact ≡ fact_of f
+read_is : (o : Option (Spelled × ℕ)) (r : FactRead) (f : Spelled) (e : ℕ) → FactReads o r → o ≡ Some (f, e) → r.fact ≡ fact_of f
 read_is o r f e h k = by r.found h
   where
     by : (b : Bool) → FactFound o b r.fact r.next → r.fact ≡ fact_of f
-    by true h = h.1 ∙ ap (λ t. fact_of t.0) (some-injective (spelled r.fact, r.next) (f, e) (sym h.0 ∙ k))
-    by false h = absurd (none-ne-some (f, e) (sym h.0 ∙ k))
+    by true h = h.1 ∙ ap (λ t. fact_of t.0) (same_Some (spelled r.fact, r.next) (f, e) (sym h.0 ∙ k))
+    by false h = absurd (none-some (f, e) (sym h.0 ∙ k))
 
 -- The same of the first lines of an array of places.
 module _ (text places : List ℕ) (count : ℕ) (room : count ≤ length places) (fs : List Spelled) (h : OnLines text (take count places) fs) where

@@ -4,14 +4,14 @@ use Prim.Native.Nat.{ℕ, ◌-◌, ◌≤◌}
 use mathlib.Core.Bool.{true, false, not, false≢true}
 use mathlib.Core.Path.{◌≡◌, refl, sym, ap, subst, ◌∙◌}
 use mathlib.Core.List.{List, [], ◌∷◌, ◌++◌}
-use mathlib.Core.Option.{Option, some, none}
+use Rattle.std.specs.Prelude.{Err, None, Ok, Option, Some}
 use native.Mathlib.Omega.{arith}
 use lib.ListN.{length, take}
 use lib.Seq.{take_at}
 use Rattle.procap.specs.Lists.{All, pad}
 use Rattle.procap.specs.Facts.{Spelled}
 use Rattle.procap.specs.Procaps.{most_facts, listed, procap_of}
-use Rattle.procap.specs.Outcome.{granted, refused, or_else}
+use Rattle.procap.specs.Outcome.{or_else}
 use Rattle.procap.specs.declared.answer.Answer.TheVariants.{ProcapMalformed}
 use Rattle.procap.specs.declared.procap.Procap.{Procap}
 use Rattle.procap.proofs.Rebuilt.{SpelledInForm, rebuilt, listed_count, listed_in_form}
@@ -55,13 +55,13 @@ module _ (text : List ℕ) where
 -- What was seen of a text that reads, with the facts on its lines.
 pub record Seen (text : List ℕ) (r : Overview) : Type 0 where
   pub facts : List Spelled
-  pub says : reading text ≡ granted (procap_of r.request r.from r.to facts)
+  pub says : reading text ≡ Ok (procap_of r.request r.from r.to facts)
   pub counted : length facts ≡ r.count
   pub few : r.count ≤ most_facts
   pub on : OnLines text (take r.count r.places) facts
 
 -- A procap that is read is seen so.
-procap_seen : (text : List ℕ) (p : Procap) → text_in text ≡ some p → Seen text (overview_of text (granted p))
+procap_seen : (text : List ℕ) (p : Procap) → text_in text ≡ Some p → Seen text (overview_of text (Ok p))
 unfolding reading or_else overview_of places_in pad
 procap_seen text p e =
     let (h, same) = what_reads_is_written text p e in
@@ -77,18 +77,18 @@ procap_seen text p e =
 
 -- Where the flag is false the bytes are no text; where it is true, the text says what was seen.
 module _ (text : List ℕ) (r : Overview) (e : r ≡ overview_of text (reading text)) where
-  pub overview_missing : not r.found ≡ true → reading text ≡ refused ProcapMalformed
+  pub overview_missing : not r.found ≡ true → reading text ≡ Err ProcapMalformed
   unfolding reading or_else overview_of
   overview_missing f = by (text_in text) e
     where
-      by : (o : Option Procap) → r ≡ overview_of text (or_else ProcapMalformed o) → or_else ProcapMalformed o ≡ refused ProcapMalformed
-      by none e = refl
-      by (some p) e = absurd (false≢true (sym (ap (λ s. not s.found) e) ∙ f))
+      by : (o : Option Procap) → r ≡ overview_of text (or_else ProcapMalformed o) → or_else ProcapMalformed o ≡ Err ProcapMalformed
+      by None e = refl
+      by (Some p) e = absurd (false≢true (sym (ap (λ s. not s.found) e) ∙ f))
 
   pub overview_found : not r.found ≡ false → Seen text r
   unfolding reading or_else overview_of
   overview_found f = by (text_in text) refl e
     where
       by : (o : Option Procap) → text_in text ≡ o → r ≡ overview_of text (or_else ProcapMalformed o) → Seen text r
-      by none t e = absurd (false≢true (sym f ∙ ap (λ s. not s.found) e))
-      by (some p) t e = subst (Seen text) (sym e) (procap_seen text p t)
+      by None t e = absurd (false≢true (sym f ∙ ap (λ s. not s.found) e))
+      by (Some p) t e = subst (Seen text) (sym e) (procap_seen text p t)

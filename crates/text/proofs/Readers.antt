@@ -4,7 +4,8 @@ use Prim.Native.Nat.{ℕ, ◌+◌, ◌≤◌, ◌<◌, ◌^◌}
 use mathlib.Core.Path.{◌≡◌, refl, sym, ap, ◌∙◌}
 use mathlib.Core.Bool.{Bool, true, false}
 use mathlib.Core.List.{List, [], ◌∷◌, ◌++◌, append-nil, append_assoc}
-use mathlib.Core.Option.{Option, some, none, some-injective, none-ne-some}
+use Rattle.std.proofs.lemmas.Option.{none-some, same_Some}
+use Rattle.std.specs.Prelude.{None, Option, Some}
 use native.Mathlib.Nat.{add-zero}
 use native.Mathlib.Decide.{dec_lt}
 use native.Mathlib.Numerals.{add-one}
@@ -79,19 +80,19 @@ module _ {bytes : List ℕ} where
 
   -- What was found up to the end was found, and took all the bytes.
   pub whole_read : {A : Type 0} {t : A → List ℕ} {Q : A → Type 0} {o : Option (A × ℕ)} (a : A)
-      → TextRead bytes 0 t Q o → to_the_end bytes o ≡ some a → Q a × (t a ≡ bytes)
+      → TextRead bytes 0 t Q o → to_the_end bytes o ≡ Some a → Q a × (t a ≡ bytes)
   unfolding to_the_end
-  whole_read a unread e = absurd (none-ne-some a e)
+  whole_read a unread e = absurd (none-some a e)
   whole_read {A} {t} {Q} a (read {a = b} {e = after} h) e = by (eqb after (length bytes)) refl e
     where
-      by : (c : Bool) → eqb after (length bytes) ≡ c → pick c (some b) none ≡ some a → Q a × (t a ≡ bytes)
+      by : (c : Bool) → eqb after (length bytes) ≡ c → pick c (Some b) None ≡ Some a → Q a × (t a ≡ bytes)
       by true c d =
-          let same : b ≡ a = some-injective b a d in
+          let same : b ≡ a = same_Some b a d in
           (rw same at h.1, rw same at (all_taken bytes (t b) (rw (eqb-true after (length bytes) c) at h.0)))
-      by false c d = absurd (none-ne-some a d)
+      by false c d = absurd (none-some a d)
 
 -- A value whose text is all the bytes is found up to the end.
-pub whole_found : {A : Type 0} (bytes : List ℕ) (r : Reader A) (a : A) → r 0 ≡ some (a, length bytes) → whole bytes r ≡ some a
+pub whole_found : {A : Type 0} (bytes : List ℕ) (r : Reader A) (a : A) → r 0 ≡ Some (a, length bytes) → whole bytes r ≡ Some a
 unfolding whole to_the_end
 whole_found bytes r a e = rw (e, eq-eqb (length bytes) (length bytes) refl)
 
@@ -109,7 +110,7 @@ module _ {bytes : List ℕ} where
       ]
 
   -- A byte that stands there is found.
-  pub byte_found : {b at after : ℕ} → Takes bytes at (b ∷ []) after → byte bytes at ≡ some (b, after)
+  pub byte_found : {b at after : ℕ} → Takes bytes at (b ∷ []) after → byte bytes at ≡ Some (b, after)
   unfolding big_endian
   byte_found {b} {at} {after} h =
       let fits : at + 1 ≤ length bytes = omega (arith, length-drop at bytes, ap length h.says) in
@@ -127,7 +128,7 @@ module _ {bytes : List ℕ} where
       behind (rw (eqb-true x b e) at one) (literal_read word mid)
 
   -- A word that stands there is found.
-  pub literal_found : (word : List ℕ) {at after : ℕ} → Takes bytes at word after → literal bytes word at ≡ some (tt, after)
+  pub literal_found : (word : List ℕ) {at after : ℕ} → Takes bytes at word after → literal bytes word at ≡ Some (tt, after)
   unfolding literal then ensure
   literal_found [] {at} {after} h = rw (h.place, add-zero)
   literal_found (b ∷ word) h =
@@ -152,7 +153,7 @@ module _ {bytes : List ℕ} where
 
   -- A number that is spelled there is found, where no digit follows.
   pub number_found : (limit n : ℕ) {at after : ℕ} → limit < 10 ^ most_digits → n ≤ limit → Takes bytes at (decimal n) after
-      → leading_digits (drop after bytes) ≡ [] → number_to bytes limit at ≡ some (n, after)
+      → leading_digits (drop after bytes) ≡ [] → number_to bytes limit at ≡ Some (n, after)
   unfolding number_to digits then ensure
   number_found limit n {at} {after} l small h end =
       let ds = ap leading_digits h.says ∙ leading_of (decimal n) (drop after bytes) (decimal_is_digits n) end in

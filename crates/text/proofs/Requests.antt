@@ -3,9 +3,9 @@
 use Prim.Native.Nat.{ℕ, suc}
 use mathlib.Core.Path.{◌≡◌, refl, subst}
 use mathlib.Core.List.{List, ◌++◌}
-use mathlib.Core.Option.{Option, some, none}
+use Rattle.std.specs.Prelude.{Err, None, Ok, Option, Some}
 use native.Mathlib.Omega.{arith}
-use Rattle.procap.specs.Outcome.{Outcome, granted, refused, go_on}
+use Rattle.procap.specs.Outcome.{Outcome, go_on}
 use Rattle.procap.specs.Procaps.{no_request}
 use Rattle.procap.specs.Writable.{largest_name, RequestInForm}
 use Rattle.procap.specs.declared.answer.Answer.TheVariants.{InputMalformed}
@@ -26,14 +26,14 @@ use Rattle.text.proofs.Spellings.{line_read, line_found}
 
 module _ (o : Outcome (Request × ℕ × ℕ)) (r : RequestRead) where
   -- Where the form is kept, the request was read; where a line breaks it, the reader refuses with it.
-  pub request_kept : r.form ≡ Kept → RequestReads o r → o ≡ granted (r.request, 4, r.next)
+  pub request_kept : r.form ≡ Kept → RequestReads o r → o ≡ Ok (r.request, 4, r.next)
   request_kept e h = subst (λ f. RequestFound o f r.request r.next) e h
 
-  pub request_broken_at : {line : ℕ} → r.form ≡ BrokenAt line → RequestReads o r → o ≡ refused (InputMalformed line)
+  pub request_broken_at : {line : ℕ} → r.form ≡ BrokenAt line → RequestReads o r → o ≡ Err (InputMalformed line)
   request_broken_at e h = (subst (λ f. RequestFound o f r.request r.next) e h).0
 
   -- Where the reader refuses with a line, that line is handed back, and zeros.
-  pub request_refused : {line : ℕ} → r ≡ record { form = BrokenAt line; request = no_request; next = 0 } → o ≡ refused (InputMalformed line)
+  pub request_refused : {line : ℕ} → r ≡ record { form = BrokenAt line; request = no_request; next = 0 } → o ≡ Err (InputMalformed line)
       → RequestReads o r
   request_refused e h = rw e (h, refl, refl)
 
@@ -41,23 +41,23 @@ module _ (o : Outcome (Request × ℕ × ℕ)) (r : RequestRead) where
 
 module _ (bytes : List ℕ) (at : ℕ) where
   -- The first line that does not read breaks the form.
-  pub no_who : line_to bytes (bytes_of "who=") largest_name at ≡ none → request_lines bytes 1 at ≡ refused (InputMalformed 1)
+  pub no_who : line_to bytes (bytes_of "who=") largest_name at ≡ None → request_lines bytes 1 at ≡ Err (InputMalformed 1)
   unfolding request_lines at_line go_on
   no_who e = rw e
 
-  module _ (who after_who : ℕ) (e : line_to bytes (bytes_of "who=") largest_name at ≡ some (who, after_who)) where
-    pub no_what : line_to bytes (bytes_of "what=") largest_name after_who ≡ none → request_lines bytes 1 at ≡ refused (InputMalformed 2)
+  module _ (who after_who : ℕ) (e : line_to bytes (bytes_of "who=") largest_name at ≡ Some (who, after_who)) where
+    pub no_what : line_to bytes (bytes_of "what=") largest_name after_who ≡ None → request_lines bytes 1 at ≡ Err (InputMalformed 2)
     unfolding request_lines at_line go_on
     no_what f = rw (e, f)
 
-    module _ (what after_what : ℕ) (f : line_to bytes (bytes_of "what=") largest_name after_who ≡ some (what, after_what)) where
-      pub no_right : line_to bytes (bytes_of "right=") largest_name after_what ≡ none → request_lines bytes 1 at ≡ refused (InputMalformed 3)
+    module _ (what after_what : ℕ) (f : line_to bytes (bytes_of "what=") largest_name after_who ≡ Some (what, after_what)) where
+      pub no_right : line_to bytes (bytes_of "right=") largest_name after_what ≡ None → request_lines bytes 1 at ≡ Err (InputMalformed 3)
       unfolding request_lines at_line go_on
       no_right g = rw (e, f, g)
 
       -- With all three it is the request of their numbers.
-      pub request_here : (right next : ℕ) → line_to bytes (bytes_of "right=") largest_name after_what ≡ some (right, next)
-          → request_lines bytes 1 at ≡ granted (record { who = who; what = what; right = right }, 4, next)
+      pub request_here : (right next : ℕ) → line_to bytes (bytes_of "right=") largest_name after_what ≡ Some (right, next)
+          → request_lines bytes 1 at ≡ Ok (record { who = who; what = what; right = right }, 4, next)
       unfolding request_lines at_line go_on
       request_here right next g = rw (e, f, g)
 
@@ -88,7 +88,7 @@ module _ {bytes : List ℕ} where
 
   -- A request whose lines stand there is found.
   pub request_found : (r : Request) (n : ℕ) {at after : ℕ} → RequestInForm r → Takes bytes at (request_text r) after
-      → request_lines bytes n at ≡ granted (r, suc (suc (suc n)), after)
+      → request_lines bytes n at ≡ Ok (r, suc (suc (suc n)), after)
   unfolding request_lines at_line go_on
   request_found r n names h =
       parted (line (bytes_of "who=") r.who ++ line (bytes_of "what=") r.what) (line (bytes_of "right=") r.right) h λ m₂ t₁₂ t₃.
@@ -99,15 +99,15 @@ module _ {bytes : List ℕ} where
       rw (who, what, right)
 
 -- What lines that were read say.
-pub said_granted : {A : Type 0} (o : Outcome (A × ℕ × ℕ)) (a : A) (n next : ℕ) → o ≡ granted (a, n, next) → said o ≡ some (a, next)
+pub said_granted : {A : Type 0} (o : Outcome (A × ℕ × ℕ)) (a : A) (n next : ℕ) → o ≡ Ok (a, n, next) → said o ≡ Some (a, next)
 unfolding said
 said_granted o a n next e = rw e
 
 -- Lines of which one breaks say nothing.
-pub said_refused : {A : Type 0} (o : Outcome (A × ℕ × ℕ)) (n : ℕ) → o ≡ refused (InputMalformed n) → said o ≡ none
+pub said_refused : {A : Type 0} (o : Outcome (A × ℕ × ℕ)) (n : ℕ) → o ≡ Err (InputMalformed n) → said o ≡ None
 unfolding said
 said_refused o n e = rw e
 
 -- A request that was read is one of three names.
-pub request_in_form : (bytes : List ℕ) (n at : ℕ) (r : Request) (m next : ℕ) → request_lines bytes n at ≡ granted (r, m, next) → RequestInForm r
+pub request_in_form : (bytes : List ℕ) (n at : ℕ) (r : Request) (m next : ℕ) → request_lines bytes n at ≡ Ok (r, m, next) → RequestInForm r
 request_in_form bytes n at r m next e = (so_read _ (said_granted _ r m next e) (request_read n at)).1

@@ -3,7 +3,7 @@
 use Prim.Native.Nat.{ℕ, ◌+◌, ◌-◌, ◌≤◌, ◌<◌}
 use mathlib.Core.Path.{◌≡◌, sym, ap, ◌∙◌}
 use mathlib.Core.List.{List, ◌++◌}
-use mathlib.Core.Option.{some-injective}
+use Rattle.std.proofs.lemmas.Option.{same_Some}
 use native.Mathlib.Decide.{dec_lt}
 use native.Mathlib.Omega.{arith}
 use borrow.Author.Count.{below_more}
@@ -133,7 +133,7 @@ module _ (text : List ℕ) (at : ℕ) (f : Spelled) (end : ℕ) (h : ReadsAt tex
     same_fact : (n : ℕ) → Alike text at other n → length (fact_text f) ≤ n → f ≡ g
     same_fact n a l =
         let found = fact_found f line_said.1 (said_again text at other (fact_text f) end n line_said.0 a l) in
-        ap (λ r. r.0) (some-injective (f, other + length (fact_text f)) (g, e) (sym found ∙ k))
+        ap (λ r. r.0) (same_Some (f, other + length (fact_text f)) (g, e) (sym found ∙ k))
 
     -- Whatever the facts, the lines begin with the same word.
     pub same_word : Alike text at other word_bytes

@@ -3,7 +3,7 @@ use Prim.Native.Nat.{ℕ}
 use Prim.Native.String.{String}
 use mathlib.Core.Path.{◌≡◌, refl}
 use mathlib.Core.List.{List, [], ◌∷◌, ◌++◌}
-use mathlib.Core.Option.{Option, some, none}
+use Rattle.std.specs.Prelude.{None, Option, Some}
 use mathlib.Core.Logic.Dec
 use native.Mathlib.Decide.{ℕ_discrete}
 use Rattle.procap.specs.Lists.{All, pad}
@@ -43,26 +43,26 @@ abbrev pub with_lines : String → List ℕ
 with_lines facts = bytes_of "procap=1\nwho=2\nwhat=7\nright=9\nfrom=1000\nto=2000\n" ++ bytes_of facts
 
 abbrev pub no_text : List ℕ → Sample
-no_text text = record { text = text; says = none }
+no_text text = record { text = text; says = None }
 
 abbrev pub samples : List Sample
 samples =
     -- Case P's.
-    record { text = bytes_of "procap=1\nwho=2\nwhat=7\nright=9\nfrom=1000\nto=2000\nfacts=1\nfact=200 n7\n"; says = some (listing ((200, Name 7 ∷ []) ∷ [])) }
+    record { text = bytes_of "procap=1\nwho=2\nwhat=7\nright=9\nfrom=1000\nto=2000\nfacts=1\nfact=200 n7\n"; says = Some (listing ((200, Name 7 ∷ []) ∷ [])) }
     ∷
     -- No facts.
-    record { text = with_lines "facts=0\n"; says = some (listing []) }
+    record { text = with_lines "facts=0\n"; says = Some (listing []) }
     ∷
     -- The other terms.
     record {
       text = with_lines "facts=1\nfact=201 - + c t1500\n";
-      says = some (listing ((201, When MinusInfinity ∷ When PlusInfinity ∷ When Ctime ∷ When (Moment 1500) ∷ []) ∷ []));
+      says = Some (listing ((201, When MinusInfinity ∷ When PlusInfinity ∷ When Ctime ∷ When (Moment 1500) ∷ []) ∷ []));
     }
     ∷
     -- The same predicate with no terms, and with the largest.
     record {
       text = with_lines "facts=2\nfact=200\nfact=200 n65535 t1099511627775\n";
-      says = some (listing ((200, []) ∷ (200, Name 65_535 ∷ When (Moment 1_099_511_627_775) ∷ []) ∷ []));
+      says = Some (listing ((200, []) ∷ (200, Name 65_535 ∷ When (Moment 1_099_511_627_775) ∷ []) ∷ []));
     }
     ∷
     -- Nothing.

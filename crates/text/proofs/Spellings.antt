@@ -4,7 +4,7 @@ use Prim.Native.Nat.{ℕ, zero, suc, ◌≤◌, ◌<◌, ◌^◌}
 use mathlib.Core.Path.{◌≡◌, refl, ap}
 use mathlib.Core.Bool.{Bool, true, false}
 use mathlib.Core.List.{List, [], ◌∷◌, ◌++◌, append_assoc}
-use mathlib.Core.Option.{some}
+use Rattle.std.specs.Prelude.{Some}
 use native.Mathlib.Nat.{add-zero}
 use native.Mathlib.Omega.{arith}
 use lib.ListN.{length, drop}
@@ -159,7 +159,7 @@ module _ {bytes : List ℕ} where
 
   -- A line that stands there is found.
   pub line_found : (word : List ℕ) (limit n : ℕ) {at after : ℕ} → limit < 10 ^ most_digits → n ≤ limit → Takes bytes at (line word n) after
-      → line_to bytes word limit at ≡ some (n, after)
+      → line_to bytes word limit at ≡ Some (n, after)
   unfolding line_to line then
   line_found word limit n l small h =
       parted (word ++ decimal n) (bytes_of "\n") h λ m₂ t₁₂ t₃.
@@ -168,7 +168,7 @@ module _ {bytes : List ℕ} where
 
   -- A term that is spelled there is found, where no digit follows.
   term_found : (t : Term) {at after : ℕ} → TermInForm t → Takes bytes at (term_text t) after → leading_digits (drop after bytes) ≡ []
-      → term bytes at ≡ some (t, after)
+      → term bytes at ≡ Some (t, after)
   unfolding term term_with term_text TermInForm then
   term_found (Name n) f h e =
       parted (bytes_of "n") (decimal n) h λ mid t₁ t₂. rw (byte_found t₁, number_found largest_name n (omega arith) f t₂ e)
@@ -180,7 +180,7 @@ module _ {bytes : List ℕ} where
 
   -- Terms that are spelled there up to the line's end are found.
   terms_found : (n : ℕ) (ts : List Term) {at after : ℕ} → length ts ≤ n → All TermInForm ts → Takes bytes at (terms_line ts) after
-      → terms bytes n at ≡ some (ts, after)
+      → terms bytes n at ≡ Some (ts, after)
   unfolding terms more_terms terms_text All then
   terms_found zero [] l f h = rw (literal_found (bytes_of "\n") h)
   terms_found zero (t ∷ ts) l f h = absurd (omega arith)
@@ -191,7 +191,7 @@ module _ {bytes : List ℕ} where
       rw (byte_found t₁, term_found t f.0 t₂ (ended_by_terms ts t₃), terms_found n ts (omega arith) f.1 t₃)
 
   -- A fact whose line stands there is found.
-  pub fact_found : (f : Spelled) {at after : ℕ} → SpelledInForm f → Takes bytes at (fact_text f) after → fact_line bytes at ≡ some (f, after)
+  pub fact_found : (f : Spelled) {at after : ℕ} → SpelledInForm f → Takes bytes at (fact_text f) after → fact_line bytes at ≡ Some (f, after)
   unfolding fact_line fact_text then
   fact_found f i h =
       parted (bytes_of "fact=" ++ decimal f.0) (terms_line f.1) (rw append_assoc at h) λ m₂ t₁₂ t₃.
@@ -201,7 +201,7 @@ module _ {bytes : List ℕ} where
 
   -- Facts whose lines stand there are found.
   pub facts_found : (fs : List Spelled) {at after : ℕ} → All SpelledInForm fs → Takes bytes at (facts_text fs) after
-      → many (fact_line bytes) (length fs) at ≡ some (fs, after)
+      → many (fact_line bytes) (length fs) at ≡ Some (fs, after)
   unfolding many facts_text All then
   facts_found [] i h = rw (h.place, add-zero)
   facts_found (f ∷ fs) i h = parted (fact_text f) (facts_text fs) h λ mid t₁ t₂. rw (fact_found f i.0 t₁, facts_found fs i.1 t₂)

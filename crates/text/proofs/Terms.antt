@@ -2,7 +2,8 @@
 use Prim.Native.Nat.{ℕ, zero, suc, ◌+◌, ◌≤◌, ◌<◌}
 use mathlib.Core.Path.{◌≡◌, refl, sym, ap, ◌∙◌}
 use mathlib.Core.List.{List, [], ◌∷◌}
-use mathlib.Core.Option.{Option, some, none, some-injective, none-ne-some}
+use Rattle.std.proofs.lemmas.Option.{none-some, same_Some}
+use Rattle.std.specs.Prelude.{None, Option, Some}
 use native.Mathlib.Decide.{ℕ_discrete, dec_lt}
 use native.Mathlib.Omega.{arith}
 use lib.ListN.{length, get_or}
@@ -23,24 +24,24 @@ use Rattle.text.proofs.Lines.{literal_same, literal_other, literal_past}
 
 module _ (text : List ℕ) (at : ℕ) where
   -- A name and a moment are their numbers, or none.
-  pub name_here : (n next : ℕ) → number_to text largest_name at ≡ some (n, next) → term_with text NameTag at ≡ some (Name n, next)
+  pub name_here : (n next : ℕ) → number_to text largest_name at ≡ Some (n, next) → term_with text NameTag at ≡ Some (Name n, next)
   unfolding term_with then
   name_here n next e = rw e
 
-  pub no_name : number_to text largest_name at ≡ none → term_with text NameTag at ≡ none
+  pub no_name : number_to text largest_name at ≡ None → term_with text NameTag at ≡ None
   unfolding term_with then
   no_name e = rw e
 
-  pub moment_here : (k next : ℕ) → number_to text latest at ≡ some (k, next) → term_with text MomentTag at ≡ some (When (Moment k), next)
+  pub moment_here : (k next : ℕ) → number_to text latest at ≡ Some (k, next) → term_with text MomentTag at ≡ Some (When (Moment k), next)
   unfolding term_with then
   moment_here k next e = rw e
 
-  pub no_moment : number_to text latest at ≡ none → term_with text MomentTag at ≡ none
+  pub no_moment : number_to text latest at ≡ None → term_with text MomentTag at ≡ None
   unfolding term_with then
   no_moment e = rw e
 
   -- A term goes on after its letter.
-  pub no_term_past : length text ≤ at → term text at ≡ none
+  pub no_term_past : length text ≤ at → term text at ≡ None
   unfolding term then
   no_term_past l = rw (byte_none text at l)
 
@@ -51,7 +52,7 @@ module _ (text : List ℕ) (at : ℕ) where
 
     -- A byte that is none of the five letters announces no term.
     pub other_letter : (get_or text at 0 ≡ 0x6e → ⊥) → (get_or text at 0 ≡ 0x74 → ⊥) → (get_or text at 0 ≡ 0x2d → ⊥)
-        → (get_or text at 0 ≡ 0x2b → ⊥) → (get_or text at 0 ≡ 0x63 → ⊥) → term text at ≡ none
+        → (get_or text at 0 ≡ 0x2b → ⊥) → (get_or text at 0 ≡ 0x63 → ⊥) → term text at ≡ None
     unfolding term_with
     other_letter n t m p c =
         let b : ℕ = get_or text at 0 in
@@ -61,45 +62,45 @@ module _ (text : List ℕ) (at : ℕ) where
 -- ── Terms up to a line's end ──
 
 -- Nothing is both read and not read.
-never_both : {A : Type 0} {o : Option A} {a : A} → o ≡ none → o ≡ some a → ⊥
-never_both {a = a} e f = none-ne-some a (sym e ∙ f)
+never_both : {A : Type 0} {o : Option A} {a : A} → o ≡ None → o ≡ Some a → ⊥
+never_both {a = a} e f = none-some a (sym e ∙ f)
 
 -- A byte that was found stands at the place; one that was not does not.
 module _ (text : List ℕ) (b at : ℕ) where
-  found_byte : (w : ℕ) → literal text (b ∷ []) at ≡ some (tt, w) → (at < length text) × (get_or text at 0 ≡ b) × (at + 1 ≡ w)
+  found_byte : (w : ℕ) → literal text (b ∷ []) at ≡ Some (tt, w) → (at < length text) × (get_or text at 0 ≡ b) × (at + 1 ≡ w)
   unfolding literal
   found_byte w e =
       elim (dec_lt at (length text)) [
         | yes l ↦
             elim (ℕ_discrete (get_or text at 0) b)
-            [ yes q ↦ (l, q, ap (λ r. r.1) (some-injective (tt, at + 1) (tt, w) (sym (literal_same text at b [] l q) ∙ e))) | no n ↦ absurd (never_both (literal_other text at b [] l n) e) ]
+            [ yes q ↦ (l, q, ap (λ r. r.1) (same_Some (tt, at + 1) (tt, w) (sym (literal_same text at b [] l q) ∙ e))) | no n ↦ absurd (never_both (literal_other text at b [] l n) e) ]
         | no n ↦ absurd (never_both (literal_past text at b [] (omega arith)) e)
       ]
 
-  missed_byte : literal text (b ∷ []) at ≡ none → at < length text → get_or text at 0 ≡ b → ⊥
+  missed_byte : literal text (b ∷ []) at ≡ None → at < length text → get_or text at 0 ≡ b → ⊥
   unfolding literal
   missed_byte e l q = never_both e (literal_same text at b [] l q)
 
 -- Where more terms may stand, n after this one.
 module _ (text : List ℕ) (k n at : ℕ) (more : k ≡ suc n) where
   -- After a space a term is read.
-  after_space : (w : ℕ) → literal text (bytes_of " ") at ≡ some (tt, w) → terms text k at ≡ more_terms text (terms text n) space w
+  after_space : (w : ℕ) → literal text (bytes_of " ") at ≡ Some (tt, w) → terms text k at ≡ more_terms text (terms text n) space w
   unfolding terms then
   after_space w e =
       let (l, q, s) = found_byte text 0x20 at w e in
       rw (more, byte_read text at l, q, s)
 
-  pub no_term_after : (w : ℕ) → literal text (bytes_of " ") at ≡ some (tt, w) → term text w ≡ none → terms text k at ≡ none
+  pub no_term_after : (w : ℕ) → literal text (bytes_of " ") at ≡ Some (tt, w) → term text w ≡ None → terms text k at ≡ None
   unfolding more_terms then
   no_term_after w e f = after_space w e ∙ rw f
 
-  pub term_after : (w : ℕ) (t : Term) (next : ℕ) → literal text (bytes_of " ") at ≡ some (tt, w) → term text w ≡ some (t, next)
+  pub term_after : (w : ℕ) (t : Term) (next : ℕ) → literal text (bytes_of " ") at ≡ Some (tt, w) → term text w ≡ Some (t, next)
       → terms text k at ≡ led_by (t ∷ []) (terms text n next)
   unfolding more_terms then
   term_after w t next e f = after_space w e ∙ rw f (led_by_one t (terms text n next))
 
   -- Without one nothing but the line's end may stand there, however many terms there may be.
-  pub no_space : literal text (bytes_of " ") at ≡ none → terms text k at ≡ terms text zero at
+  pub no_space : literal text (bytes_of " ") at ≡ None → terms text k at ≡ terms text zero at
   unfolding terms then more_terms literal
   no_space e =
       elim (dec_lt at (length text)) [
@@ -117,10 +118,10 @@ module _ (text : List ℕ) (k n at : ℕ) (more : k ≡ suc n) where
 
 -- After the last term the line must end.
 module _ (text : List ℕ) (at : ℕ) where
-  pub no_line_end : literal text (bytes_of "\n") at ≡ none → terms text zero at ≡ none
+  pub no_line_end : literal text (bytes_of "\n") at ≡ None → terms text zero at ≡ None
   unfolding terms then
   no_line_end e = rw e
 
-  pub line_ends : (next : ℕ) → literal text (bytes_of "\n") at ≡ some (tt, next) → terms text zero at ≡ some ([], next)
+  pub line_ends : (next : ℕ) → literal text (bytes_of "\n") at ≡ Some (tt, next) → terms text zero at ≡ Some ([], next)
   unfolding terms then
   line_ends next e = rw e

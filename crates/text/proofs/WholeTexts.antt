@@ -3,7 +3,7 @@
 use Prim.Native.Nat.{ℕ, ◌≤◌}
 use mathlib.Core.Path.{◌≡◌, ap, ◌∙◌}
 use mathlib.Core.List.{List, ◌++◌, append_assoc}
-use mathlib.Core.Option.{some}
+use Rattle.std.specs.Prelude.{Some}
 use native.Mathlib.Omega.{arith}
 use lib.ListN.{length}
 use borrow.Author.Tests.{leb-true, le-leb, eqb-true}
@@ -83,7 +83,7 @@ module _ {bytes : List ℕ} where
 
   -- Two moments in order and in range whose lines stand there are found.
   moments_found : (from to : ℕ) {at after : ℕ} → from ≤ to → to ≤ latest → Takes bytes at (moments_text (from, to)) after
-      → moment_lines bytes at ≡ some ((from, to), after)
+      → moment_lines bytes at ≡ Some ((from, to), after)
   unfolding moment_lines then ensure
   moments_found from to order range h =
       parted (line (bytes_of "from=") from) (line (bytes_of "to=") to) h λ mid t₁ t₂.
@@ -93,7 +93,7 @@ module _ {bytes : List ℕ} where
 
   -- Few distinct facts whose lines stand there are found.
   procap_with_found : (r : Request) (from to : ℕ) (fs : List Spelled) {at after : ℕ} → length fs ≤ most_facts → All SpelledInForm fs → Distinct fs
-      → Takes bytes at (facts_lines fs) after → procap_with bytes r from to at ≡ some (procap_of r from to fs, after)
+      → Takes bytes at (facts_lines fs) after → procap_with bytes r from to at ≡ Some (procap_of r from to fs, after)
   unfolding procap_with then ensure
   procap_with_found r from to fs few form distinct h =
       parted (line (bytes_of "facts=") (length fs)) (facts_text fs) h λ mid t₁ t₂.
@@ -103,7 +103,7 @@ module _ {bytes : List ℕ} where
   -- A procap made of them is found where its text stands.
   made_found : (r : Request) (from to : ℕ) (fs : List Spelled) {at after : ℕ} → RequestInForm r → from ≤ to → to ≤ latest
       → length fs ≤ most_facts → All SpelledInForm fs → Distinct fs
-      → Takes bytes at (text_of (procap_of r from to fs)) after → procap_lines bytes at ≡ some (procap_of r from to fs, after)
+      → Takes bytes at (text_of (procap_of r from to fs)) after → procap_lines bytes at ≡ Some (procap_of r from to fs, after)
   unfolding procap_lines then ensure
   made_found r from to fs names order range few form distinct h =
       let one = line (bytes_of "procap=") version_one in
@@ -116,7 +116,7 @@ module _ {bytes : List ℕ} where
       rw (version, request, moments_found from to order range t₃, facts)
 
   -- So is every procap that can be written.
-  pub procap_found : (p : Procap) {at after : ℕ} → Writable p → Takes bytes at (text_of p) after → procap_lines bytes at ≡ some (p, after)
+  pub procap_found : (p : Procap) {at after : ℕ} → Writable p → Takes bytes at (text_of p) after → procap_lines bytes at ≡ Some (p, after)
   procap_found p {at} {after} h t =
       let few : length (listed p) ≤ most_facts = omega (arith, listed_count p h, h.few_facts) in
       let made : Takes bytes at (text_of (procap_of p.request p.from p.to (listed p))) after = rw (rebuilt p h) t in

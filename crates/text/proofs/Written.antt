@@ -5,7 +5,8 @@ use mathlib.Core.List.{List}
 use native.Mathlib.Decide.{dec_le}
 use native.Mathlib.Omega.{arith}
 use lib.ListN.{length}
-use Rattle.procap.specs.Outcome.{granted, refused, go_on, answer_of}
+use Rattle.std.specs.Prelude.{Err, Ok}
+use Rattle.procap.specs.Outcome.{go_on, answer_of}
 use Rattle.procap.specs.Writable.{Writable}
 use Rattle.procap.specs.Deciding.{writable?}
 use Rattle.procap.specs.declared.answer.Answer.{Answer}
@@ -18,23 +19,23 @@ use Rattle.text.specs.declared.writer.WrittenText.{WrittenText}
 
 module _ (text : List ℕ) (room : ℕ) where
   -- [Numbers 13] A text is refused where it is longer than the room.
-  pub too_long : room < length text → fitting text room ≡ refused BufferShort
+  pub too_long : room < length text → fitting text room ≡ Err BufferShort
   unfolding fitting go_on
   too_long l = rw (is_not_so BufferShort (dec_le (length text) room) (λ h. omega arith)) refl
 
   -- Where it is not, it is what is given.
-  pub fits : length text ≤ room → fitting text room ≡ granted text
+  pub fits : length text ≤ room → fitting text room ≡ Ok text
   unfolding fitting
   fits l = goes_on _ _ tt (is_so BufferShort (dec_le (length text) room) l)
 
   -- No other text is given.
-  pub fitted : (given : List ℕ) → fitting text room ≡ granted given → text ≡ given
+  pub fitted : (given : List ℕ) → fitting text room ≡ Ok given → text ≡ given
   unfolding fitting
   fitted given e = went_on _ _ _ e λ _ _ same. same_grant same
 
 module _ (p : Procap) (room : ℕ) where
   -- [Numbers 12] A value that cannot be written is refused, however long the buffer is.
-  pub cannot_be_written : (Writable p → ⊥) → writing p room ≡ refused ProcapMalformed
+  pub cannot_be_written : (Writable p → ⊥) → writing p room ≡ Err ProcapMalformed
   unfolding writing go_on
   cannot_be_written n = rw (is_not_so ProcapMalformed (writable? p) n) refl
 
@@ -44,11 +45,11 @@ module _ (p : Procap) (room : ℕ) where
   can_be_written w = goes_on _ _ tt (is_so ProcapMalformed (writable? p) w)
 
   -- Where it fits, the text is written.
-  pub is_written : Writable p → length (text_of p) ≤ room → writing p room ≡ granted (text_of p)
+  pub is_written : Writable p → length (text_of p) ≤ room → writing p room ≡ Ok (text_of p)
   is_written w l = can_be_written w ∙ fits (text_of p) room l
 
 -- A refusal writes nothing: its answer is handed back with the length 0, and the buffer is as it was.
 pub wrote_nothing : (answer : Answer) (before : List ℕ) (w : WrittenText) → w ≡ record { answer = answer; length = 0 }
-    → Wrote (refused answer) before w before
+    → Wrote (Err answer) before w before
 unfolding answer_of length_given buffer_left
 wrote_nothing answer before w e = record { answer = ap (λ r. r.answer) e; length_told = ap (λ r. r.length) e; buffer = refl }

@@ -1,8 +1,7 @@
 -- What the reader and the writer of the text answer, and what the writer leaves in the buffer.
-use Rattle.std.specs.Prelude.{ℕ, ◌≡◌, List, ◌++◌, length, drop}
-use Rattle.std.proofs.Math.Option.{Option}
+use Rattle.std.specs.Prelude.{ℕ, ◌≡◌, List, ◌++◌, length, drop, Err, Ok, Option}
 use Rattle.std.proofs.Math.Decide.{dec_le}
-use Rattle.procap.specs.Outcome.{Outcome, granted, refused, go_on, or_else, require, answer_of}
+use Rattle.procap.specs.Outcome.{Outcome, go_on, or_else, require, answer_of}
 use Rattle.procap.specs.Bytes.{to_the_end}
 use Rattle.procap.specs.Deciding.{writable?}
 use Rattle.procap.specs.declared.answer.Answer.TheVariants.{ProcapMalformed, BufferShort}
@@ -26,7 +25,7 @@ reading bytes = or_else ProcapMalformed (text_in bytes)
 
 -- [Numbers 13] A text that is to be written, into a buffer with so much room.
 unfoldable pub fitting : List ℕ → ℕ → Outcome (List ℕ)
-fitting text room = go_on (require BufferShort (dec_le (length text) room)) λ _. granted text
+fitting text room = go_on (require BufferShort (dec_le (length text) room)) λ _. Ok text
 
 -- [Numbers 12, 13] The procap's text, into a buffer with so much room: 12 comes before 13.
 unfoldable pub writing : Procap → ℕ → Outcome (List ℕ)
@@ -34,13 +33,13 @@ writing p room = go_on (require ProcapMalformed (writable? p)) λ _. fitting (te
 
 -- [Numbers, refusals] The length that the writer gives: the text's, and 0 when it refuses.
 unfoldable pub length_given : Outcome (List ℕ) → ℕ
-length_given (granted text) = length text
-length_given (refused answer) = 0
+length_given (Ok text) = length text
+length_given (Err answer) = 0
 
 -- [Numbers, refusals] What stands in the buffer afterwards: the text, and past it what was there; when it refuses, all as it was.
 unfoldable pub buffer_left : Outcome (List ℕ) → List ℕ → List ℕ
-buffer_left (granted text) buffer = text ++ drop (length text) buffer
-buffer_left (refused answer) buffer = buffer
+buffer_left (Ok text) buffer = text ++ drop (length text) buffer
+buffer_left (Err answer) buffer = buffer
 
 -- A call that writes gives the answer and the length of what it came to, and leaves the lent buffer `before` as `after`.
 pub record Wrote (o : Outcome (List ℕ)) (before : List ℕ) (w : WrittenText) (after : List ℕ) : Type 0 where

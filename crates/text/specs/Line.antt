@@ -1,6 +1,5 @@
 -- [Text] What stands in a line: given bytes, and a number in its one spelling.
-use Rattle.std.specs.Prelude.{ℕ, ◌+◌, List, [], ◌∷◌, length, drop, leb, eqb}
-use Rattle.std.proofs.Math.Option.{some}
+use Rattle.std.specs.Prelude.{ℕ, ◌+◌, List, [], ◌∷◌, length, drop, leb, eqb, Some}
 use Rattle.procap.specs.Bytes.{Reader, ◌>>=◌, give, ensure, byte}
 use Rattle.text.specs.Words.{bytes_of}
 use Rattle.text.specs.Numbers.{leading_digits, value, one_spelling}
@@ -16,7 +15,7 @@ module _ (bytes : List ℕ) where
 
   -- All digits that stand next.
   unfoldable pub digits : Reader (List ℕ)
-  digits at = let ds = leading_digits (drop at bytes) in some (ds, at + length ds)
+  digits at = let ds = leading_digits (drop at bytes) in Some (ds, at + length ds)
 
   -- [Text; D52] A number up to a limit, in its one spelling.
   unfoldable pub number_to : ℕ → Reader ℕ

@@ -1,9 +1,9 @@
 -- What is seen of a text that is looked over: what it says but for its facts, and where the lines of these begin.
-use Rattle.std.specs.Prelude.{ℕ, ◌+◌, ◌-◌, true, false, List, [], ◌∷◌, length, replicate}
+use Rattle.std.specs.Prelude.{ℕ, ◌+◌, ◌-◌, true, false, List, [], ◌∷◌, length, replicate, Err, Ok}
 use Rattle.procap.specs.Lists.{pad}
 use Rattle.procap.specs.Facts.{Spelled}
 use Rattle.procap.specs.Procaps.{most_facts, listed, no_request}
-use Rattle.procap.specs.Outcome.{Outcome, granted, refused}
+use Rattle.procap.specs.Outcome.{Outcome}
 use Rattle.procap.specs.declared.procap.Procap.{Procap}
 use Rattle.text.specs.Text.{fact_text, facts_text}
 use Rattle.text.specs.declared.reader.Overview.{Overview}
@@ -23,7 +23,7 @@ nothing_seen = record { found = false; request = no_request; from = 0; to = 0; c
 
 -- What is seen of a text that reads as a procap: its request, its moments, how many facts it lists and where their lines begin.
 unfoldable pub overview_of : List ℕ → Outcome Procap → Overview
-overview_of text (granted p) = record {
+overview_of text (Ok p) = record {
   found = true;
   request = p.request;
   from = p.from;
@@ -31,4 +31,4 @@ overview_of text (granted p) = record {
   count = p.count;
   places = places_in text (listed p);
 }
-overview_of text (refused answer) = nothing_seen
+overview_of text (Err answer) = nothing_seen

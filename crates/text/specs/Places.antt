@@ -1,11 +1,10 @@
 -- How what the code's readers of the text hand back stands to the readers of these pages. What is promised of reading a text does not rest on this.
-use Rattle.std.specs.Prelude.{ℕ, ◌+◌, ◌<◌, Bool, true, false, ◌≡◌, List, [], ◌∷◌, map, length, take, drop}
-use Rattle.std.proofs.Math.Option.{Option, some, none}
+use Rattle.std.specs.Prelude.{ℕ, ◌+◌, ◌<◌, Bool, true, false, ◌≡◌, List, [], ◌∷◌, map, length, take, drop, Err, None, Ok, Option, Some}
 use Rattle.procap.specs.Lists.{pad, In, Distinct}
 use Rattle.procap.specs.Tells.{Tells}
 use Rattle.procap.specs.Facts.{Spelled, fact_of, no_fact}
 use Rattle.procap.specs.Procaps.{most_facts, no_request}
-use Rattle.procap.specs.Outcome.{Outcome, granted, refused}
+use Rattle.procap.specs.Outcome.{Outcome}
 use Rattle.procap.specs.declared.answer.Answer.TheVariants.{InputMalformed}
 use Rattle.procap.specs.declared.fact.Fact.{Fact}
 use Rattle.procap.specs.declared.procap.Request.{Request}
@@ -24,8 +23,8 @@ use Rattle.text.specs.declared.reader.MomentsRead.{MomentsRead}
 
 -- The place after what a reader finds, or none.
 abbrev pub PlaceReads : Option (Unit {0} × ℕ) → Place → Type 0
-PlaceReads o (At next) = o ≡ some (tt, next)
-PlaceReads o Nowhere = o ≡ none
+PlaceReads o (At next) = o ≡ Some (tt, next)
+PlaceReads o Nowhere = o ≡ None
 
 -- The digits from a place on begin with this one, or there are none.
 abbrev pub DigitReads : List ℕ → ℕ → Digit → Type 0
@@ -36,27 +35,27 @@ DigitReads text at NoDigit = leading_digits (drop at text) ≡ []
 -- What a reader of counted lines comes to, by their form: so much was found, or this line breaks it.
 abbrev pub Reads : {A : Type 0} → Outcome (A × ℕ × ℕ) → Form → Type 0 → Type 0
 Reads o Kept so = so
-Reads o (BrokenAt line) so = o ≡ refused (InputMalformed line)
+Reads o (BrokenAt line) so = o ≡ Err (InputMalformed line)
 
 -- The request, where its lines are counted from 1, and the place after them; or the line that breaks their form, and then zeros beside it.
 abbrev pub RequestFound : Outcome (Request × ℕ × ℕ) → Form → Request → ℕ → Type 0
-RequestFound o Kept request next = o ≡ granted (request, 4, next)
-RequestFound o (BrokenAt line) request next = (o ≡ refused (InputMalformed line)) × (request ≡ no_request) × (next ≡ 0)
+RequestFound o Kept request next = o ≡ Ok (request, 4, next)
+RequestFound o (BrokenAt line) request next = (o ≡ Err (InputMalformed line)) × (request ≡ no_request) × (next ≡ 0)
 
 abbrev pub RequestReads : Outcome (Request × ℕ × ℕ) → RequestRead → Type 0
 RequestReads o r = RequestFound o r.form r.request r.next
 
 -- Two moments that a reader finds and the place after them; or none, by the flag.
 abbrev pub MomentsFound : Option ((ℕ × ℕ) × ℕ) → Bool → ℕ → ℕ → ℕ → Type 0
-MomentsFound o true from to next = o ≡ some ((from, to), next)
-MomentsFound o false from to next = o ≡ none
+MomentsFound o true from to next = o ≡ Some ((from, to), next)
+MomentsFound o false from to next = o ≡ None
 
 abbrev pub MomentsReads : Option ((ℕ × ℕ) × ℕ) → MomentsRead → Type 0
 MomentsReads o r = MomentsFound o r.found r.from r.to r.next
 
 -- The line of this fact stands at a place and ends at another.
 abbrev pub ReadsAt : List ℕ → ℕ → Spelled → ℕ → Type 0
-ReadsAt text at f e = fact_line text at ≡ some (f, e)
+ReadsAt text at f e = fact_line text at ≡ Some (f, e)
 
 -- At each of these places begins the line of one of these facts, in their order.
 unfoldable pub OnLines : List ℕ → List ℕ → List Spelled → Type 0
@@ -82,8 +81,8 @@ FactsOn text places count r = (fs : List Spelled) → OnLines text (take count p
 -- or, by the flag, there are no such lines.
 abbrev pub LinesFound : Option (List Spelled × ℕ) → ℕ → ℕ → Bool → List ℕ → ℕ → Type 0
 LinesFound o at count true places next =
-    (fs : List Spelled) × (o ≡ some (fs, next)) × Distinct fs × (length fs ≡ count) × (places ≡ pad most_facts 0 (line_starts at fs))
-LinesFound o at count false places next = (fs : List Spelled) (e : ℕ) → o ≡ some (fs, e) → Distinct fs → ⊥
+    (fs : List Spelled) × (o ≡ Some (fs, next)) × Distinct fs × (length fs ≡ count) × (places ≡ pad most_facts 0 (line_starts at fs))
+LinesFound o at count false places next = (fs : List Spelled) (e : ℕ) → o ≡ Some (fs, e) → Distinct fs → ⊥
 
 abbrev pub LinesReads : Option (List Spelled × ℕ) → ℕ → ℕ → LinesRead → Type 0
 LinesReads o at count r = LinesFound o at count r.found r.places r.next

@@ -1,7 +1,6 @@
 -- [Text] What reads as a procap. A reader goes from a place to a value and the place after it.
-use Rattle.std.specs.Prelude.{ℕ, zero, suc, List, [], ◌∷◌, leb, eqb}
+use Rattle.std.specs.Prelude.{ℕ, zero, suc, List, [], ◌∷◌, leb, eqb, Option}
 use Prim.Native.Char.{code}
-use Rattle.std.proofs.Math.Option.{Option}
 use Rattle.procap.specs.Tells.{pick}
 use Rattle.procap.specs.Times.{latest}
 use Rattle.procap.specs.Facts.{Spelled, most_terms}

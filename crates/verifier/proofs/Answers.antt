@@ -4,14 +4,14 @@ use native.Mathlib.Omega.{arith}
 use native.Mathlib.Decide.{dec_le}
 use mathlib.Core.Path.{◌≡◌, refl, sym, ap, ◌∙◌}
 use mathlib.Core.List.{List}
-use mathlib.Core.Option.{Option, some, none}
+use Rattle.std.specs.Prelude.{Err, None, Ok, Option, Some}
 use lib.ListN.{length}
 use Rattle.procap.specs.Times.{latest}
 use Rattle.procap.specs.Facts.{Spelled}
 use Rattle.procap.specs.Procaps.{empty_procap, procap_of}
 use Rattle.procap.specs.States.{stated}
 use Rattle.procap.specs.Desk.{read_press}
-use Rattle.procap.specs.Outcome.{Outcome, granted, refused, go_on, or_else, answer_of, procap_handed}
+use Rattle.procap.specs.Outcome.{Outcome, go_on, or_else, answer_of, procap_handed}
 use Rattle.procap.specs.declared.answer.Answer.{Answer}
 use Rattle.procap.specs.declared.answer.Answer.TheVariants.{Granted, ProofMalformed, NoMomentLeft, StateMalformed, MomentAboveLatest}
 use Rattle.procap.specs.declared.procap.Request.{Request}
@@ -45,25 +45,25 @@ use Rattle.verifier.proofs.WalkBegins.{office_begins, press_begins}
 -- ── Outcomes that are handed over ──
 
 -- A refusal.
-hands_refusal : (o : Outcome Procap) (answer : Answer) (r : Verified) → o ≡ refused answer → r ≡ record { answer = answer; procap = empty_procap } → HandsOver o r
+hands_refusal : (o : Outcome Procap) (answer : Answer) (r : Verified) → o ≡ Err answer → r ≡ record { answer = answer; procap = empty_procap } → HandsOver o r
 unfolding answer_of procap_handed
 hands_refusal o answer r e f = rw e (record { answer = ap (λ x. x.answer) f; procap = ap (λ x. x.procap) f })
 
 -- A grant.
-hands_grant : (o : Outcome Procap) (p : Procap) (r : Verified) → o ≡ granted p → r.answer ≡ Granted → r.procap ≡ p → HandsOver o r
+hands_grant : (o : Outcome Procap) (p : Procap) (r : Verified) → o ≡ Ok p → r.answer ≡ Granted → r.procap ≡ p → HandsOver o r
 unfolding answer_of procap_handed
 hands_grant o p r e f g = rw e (record { answer = f; procap = g })
 
 -- What goes on from a refusal is that refusal.
-refused_on : {A B : Type 0} (o : Outcome A) (f : A → Outcome B) (answer : Answer) → o ≡ refused answer → go_on o f ≡ refused answer
+refused_on : {A B : Type 0} (o : Outcome A) (f : A → Outcome B) (answer : Answer) → o ≡ Err answer → go_on o f ≡ Err answer
 unfolding go_on
 refused_on o f answer e = rw e refl
 
 -- What a stop says of its outcome.
-pub stopped_with : {A : Type 0} (o : Outcome A) (s : Stop) (answer : Answer) → s ≡ Stopped answer → Stops o s → o ≡ refused answer
+pub stopped_with : {A : Type 0} (o : Outcome A) (s : Stop) (answer : Answer) → s ≡ Stopped answer → Stops o s → o ≡ Err answer
 stopped_with o s answer e h = rw e at h
 
-pub went_with : {A : Type 0} (o : Outcome A) (s : Stop) → s ≡ Going → Stops o s → (a : A) × (o ≡ granted a)
+pub went_with : {A : Type 0} (o : Outcome A) (s : Stop) → s ≡ Going → Stops o s → (a : A) × (o ≡ Ok a)
 went_with o s e h = rw e at h
 
 pub stopped_not_going : {answer : Answer} → Stopped answer ≡ Going → ⊥
@@ -84,15 +84,15 @@ module _ (r : Request) (l : Ledger) (list : List ℕ) (v : Verified) where
 -- ── What is malformed ──
 
 -- A proof that does not read, and one that does.
-pub no_proof : (c : ℕ) (proof : List ℕ) → ((N : Check) × (proof_in c proof ≡ some N) → ⊥) → or_else ProofMalformed (proof_in c proof) ≡ refused ProofMalformed
+pub no_proof : (c : ℕ) (proof : List ℕ) → ((N : Check) × (proof_in c proof ≡ Some N) → ⊥) → or_else ProofMalformed (proof_in c proof) ≡ Err ProofMalformed
 unfolding or_else
 no_proof c proof n = by (proof_in c proof) refl
   where
-    by : (o : Option Check) → proof_in c proof ≡ o → or_else ProofMalformed o ≡ refused ProofMalformed
-    by none e = refl
-    by (some N) e = absurd (n (N, e))
+    by : (o : Option Check) → proof_in c proof ≡ o → or_else ProofMalformed o ≡ Err ProofMalformed
+    by None e = refl
+    by (Some N) e = absurd (n (N, e))
 
-pub a_proof : (c : ℕ) (proof : List ℕ) (N : Check) → proof_in c proof ≡ some N → or_else ProofMalformed (proof_in c proof) ≡ granted N
+pub a_proof : (c : ℕ) (proof : List ℕ) (N : Check) → proof_in c proof ≡ Some N → or_else ProofMalformed (proof_in c proof) ≡ Ok N
 unfolding or_else
 a_proof c proof N e = rw e refl
 
@@ -106,11 +106,11 @@ module _ (records : List Certificate) (buffer pairs : List ℕ) where
 
 module _ (records : List Certificate) (buffer pairs proof : List ℕ) where
   -- What stops the policy stops the case; where nothing does, the proof decides.
-  pub case_stops : (answer : Answer) → policy_in records buffer pairs ≡ refused answer → read_case records buffer pairs proof ≡ refused answer
+  pub case_stops : (answer : Answer) → policy_in records buffer pairs ≡ Err answer → read_case records buffer pairs proof ≡ Err answer
   unfolding read_case
   case_stops answer e = refused_on _ _ answer e
 
-  pub proof_decides : (π : Policy) (c : ℕ) (s : Stop) → policy_in records buffer pairs ≡ granted π → length records ≡ c
+  pub proof_decides : (π : Policy) (c : ℕ) (s : Stop) → policy_in records buffer pairs ≡ Ok π → length records ≡ c
       → Stops (or_else ProofMalformed (proof_in c proof)) s → Stops (read_case records buffer pairs proof) s
   unfolding read_case
   proof_decides π c Going e l (N, h) = ((π, N), goes_on _ _ π e ∙ goes_on _ _ N (rw (← l) at h))
@@ -121,13 +121,13 @@ module _ (records : List Certificate) (buffer pairs proof : List ℕ) where
 module _ (r : Request) (records : List Certificate) (buffer pairs proof : List ℕ) {stop : Stop} {rows : List ℕ} (taken : Taken records buffer stop rows) where
   -- What the table has, where the proof reads over the records.
   abbrev TellsEnds : List ℕ → Type 0
-  TellsEnds ends = (N : Check) → proof_in (length records) proof ≡ some N → ToldChecking ends N
+  TellsEnds ends = (N : Check) → proof_in (length records) proof ≡ Some N → ToldChecking ends N
 
   -- A case that reads, once its records are taken.
   abbrev ReadsSo : List ℕ → Policy → Check → Type 0
   ReadsSo ends = CaseReads (PolicyRead buffer rows pairs) ends proof
 
-  reads_so : (ends : List ℕ) → TellsEnds ends → (x : Policy × Check) → read_case records buffer pairs proof ≡ granted x → ReadsSo ends x.0 x.1
+  reads_so : (ends : List ℕ) → TellsEnds ends → (x : Policy × Check) → read_case records buffer pairs proof ≡ Ok x → ReadsSo ends x.0 x.1
   reads_so ends told (π, N) e =
       case_read r records buffer pairs proof π N e λ e₁ e₂.
       policy_from records buffer pairs π e₁ λ e₃ e₄.
@@ -141,21 +141,21 @@ module _ (r : Request) (records : List Certificate) (buffer pairs proof : List �
     abbrev Answered : Type 0
     Answered = HandsOver (verified r records buffer pairs proof) v
 
-    pub verify_stops : (answer : Answer) → read_case records buffer pairs proof ≡ refused answer → v ≡ record { answer = answer; procap = empty_procap } → Answered
+    pub verify_stops : (answer : Answer) → read_case records buffer pairs proof ≡ Err answer → v ≡ record { answer = answer; procap = empty_procap } → Answered
     unfolding verified
     verify_stops answer e f = hands_refusal _ answer v (refused_on _ _ answer e) f
 
-    pub verify_goes_on : {ends : List ℕ} → TellsEnds ends → (x : Policy × Check) → read_case records buffer pairs proof ≡ granted x
+    pub verify_goes_on : {ends : List ℕ} → TellsEnds ends → (x : Policy × Check) → read_case records buffer pairs proof ≡ Ok x
         → ((π : Policy) (N : Check) → ReadsSo ends π N → HandsOver (verified_case r π N) v) → Answered
     unfolding verified verified_case
     verify_goes_on {ends} told x e k = rw (goes_on (read_case records buffer pairs proof) (λ y. verified_case r y.0 y.1) x e) (k x.0 x.1 (reads_so ends told x e))
 
   module _ (m : ℕ) (state : List ℕ) (a : Answer) where
-    pub direct_stops : read_case records buffer pairs proof ≡ refused a → a ≡ answer_of (directly r records buffer pairs proof m state)
+    pub direct_stops : read_case records buffer pairs proof ≡ Err a → a ≡ answer_of (directly r records buffer pairs proof m state)
     unfolding directly checked_case answer_of
     direct_stops e = sym (ap answer_of (refused_on (read_case records buffer pairs proof) (λ y. checked_case r y.0 y.1 m state) a e))
 
-    pub direct_goes_on : {ends : List ℕ} → TellsEnds ends → (x : Policy × Check) → read_case records buffer pairs proof ≡ granted x
+    pub direct_goes_on : {ends : List ℕ} → TellsEnds ends → (x : Policy × Check) → read_case records buffer pairs proof ≡ Ok x
         → ((π : Policy) (N : Check) → ReadsSo ends π N → a ≡ answer_of (checked_case r π N m state))
         → a ≡ answer_of (directly r records buffer pairs proof m state)
     unfolding directly checked_case
@@ -164,11 +164,11 @@ module _ (r : Request) (records : List Certificate) (buffer pairs proof : List �
 -- ── The walk's end ──
 
 -- A book that has stopped is refused with its answer, one that goes on is granted what it keeps.
-resume_stopped : (state : List ℕ) (b : Book) (answer : Answer) → stop_of b.ledger ≡ Stopped answer → resume state b (done (tt {0})) ≡ refused answer
+resume_stopped : (state : List ℕ) (b : Book) (answer : Answer) → stop_of b.ledger ≡ Stopped answer → resume state b (done (tt {0})) ≡ Err answer
 unfolding resume
 resume_stopped state b answer e = stop_refused _ answer _ e
 
-resume_going : (state : List ℕ) (b : Book) → stop_of b.ledger ≡ Going → resume state b (done (tt {0})) ≡ granted (tt, kept_of b)
+resume_going : (state : List ℕ) (b : Book) → stop_of b.ledger ≡ Going → resume state b (done (tt {0})) ≡ Ok (tt, kept_of b)
 unfolding resume run
 resume_going state b e = stop_going _ _ e
 
@@ -182,10 +182,10 @@ module _ (r : Request) {IsPolicy : Policy → Type 0} (proof state ends : List �
   came : Sound (book l list') × (resume state (book l list') (done (tt {0})) ≡ begins)
   came = walked π N room reads
 
-  walk_stopped : (answer : Answer) → stop_of l ≡ Stopped answer → begins ≡ refused answer
+  walk_stopped : (answer : Answer) → stop_of l ≡ Stopped answer → begins ≡ Err answer
   walk_stopped answer e = sym came.1 ∙ resume_stopped state (book l list') answer e
 
-  walk_done : stop_of l ≡ Going → begins ≡ granted (tt, kept_of (book l list'))
+  walk_done : stop_of l ≡ Going → begins ≡ Ok (tt, kept_of (book l list'))
   walk_done e = sym came.1 ∙ resume_going state (book l list') e
 
   module _ (at_office : reading ≡ Office) (v : Verified) where
@@ -201,25 +201,25 @@ module _ (r : Request) {IsPolicy : Policy → Type 0} (proof state ends : List �
     verify_issued e k =
         rw (goes_on (run office (walk r π N) start) (λ w. issue r w.1) (tt, kept_of (book l list')) (sym office_run ∙ walk_done e)) (k came.0)
 
-  module _ (m : ℕ) (at_press : reading ≡ Press m) (in_range : m ≤ latest) (σ : List Spelled) (says : stated state ≡ some σ) where
+  module _ (m : ℕ) (at_press : reading ≡ Press m) (in_range : m ≤ latest) (σ : List Spelled) (says : stated state ≡ Some σ) where
     press_run : begins ≡ run (press m σ) (walk r π N) start
     unfolding facts_said
     press_run = rw at_press (press_begins state list (walk r π N) m in_range ∙ rw says)
 
-    press_reads : read_press m state ≡ granted σ
+    press_reads : read_press m state ≡ Ok σ
     press_reads = reads_press m state σ in_range says
 
     pub check_stopped : (a : Answer) → stop_of l ≡ Stopped a → a ≡ answer_of (checked_case r π N m state)
     unfolding checked_case answer_of
     check_stopped a e =
-        sym (ap answer_of (goes_on (read_press m state) (λ σ'. go_on (run (press m σ') (walk r π N) start) (λ w. granted w.0)) σ press_reads
-        ∙ refused_on (run (press m σ) (walk r π N) start) (λ w. granted w.0) a (sym press_run ∙ walk_stopped a e)))
+        sym (ap answer_of (goes_on (read_press m state) (λ σ'. go_on (run (press m σ') (walk r π N) start) (λ w. Ok w.0)) σ press_reads
+        ∙ refused_on (run (press m σ) (walk r π N) start) (λ w. Ok w.0) a (sym press_run ∙ walk_stopped a e)))
 
     pub check_accepted : stop_of l ≡ Going → Granted ≡ answer_of (checked_case r π N m state)
     unfolding checked_case answer_of
     check_accepted e =
-        sym (ap answer_of (goes_on (read_press m state) (λ σ'. go_on (run (press m σ') (walk r π N) start) (λ w. granted w.0)) σ press_reads
-        ∙ goes_on (run (press m σ) (walk r π N) start) (λ w. granted w.0) (tt, kept_of (book l list')) (sym press_run ∙ walk_done e)))
+        sym (ap answer_of (goes_on (read_press m state) (λ σ'. go_on (run (press m σ') (walk r π N) start) (λ w. Ok w.0)) σ press_reads
+        ∙ goes_on (run (press m σ) (walk r π N) start) (λ w. Ok w.0) (tt, kept_of (book l list')) (sym press_run ∙ walk_done e)))
 
 module _ (r : Request) (π : Policy) (N : Check) (m : ℕ) (state : List ℕ) where
   pub moment_above : latest < m → MomentAboveLatest ≡ answer_of (checked_case r π N m state)
@@ -231,6 +231,6 @@ module _ (r : Request) (π : Policy) (N : Check) (m : ℕ) (state : List ℕ) wh
   state_says_nothing h n = rw (is_so MomentAboveLatest (dec_le m latest) h) (by (stated state) refl)
     where
       by : (o : Option (List Spelled)) → stated state ≡ o
-          → StateMalformed ≡ answer_of (go_on (or_else StateMalformed o) (λ σ. go_on (run (press m σ) (walk r π N) start) (λ w. granted w.0)))
-      by none e = refl
-      by (some σ) e = absurd (n (σ, e))
+          → StateMalformed ≡ answer_of (go_on (or_else StateMalformed o) (λ σ. go_on (run (press m σ) (walk r π N) start) (λ w. Ok w.0)))
+      by None e = refl
+      by (Some σ) e = absurd (n (σ, e))

@@ -3,7 +3,8 @@ use Prim.Native.Nat.{ℕ, zero, suc, ◌+◌, ◌-◌, ◌≤◌, ◌<◌}
 use mathlib.Core.Bool.{Bool, true, false, not, ◌&&◌, false≢true}
 use mathlib.Core.Path.{◌≡◌, refl, sym, ap, ◌∙◌}
 use mathlib.Core.List.{List, [], ◌∷◌}
-use mathlib.Core.Option.{Option, some, none, none-ne-some}
+use Rattle.std.proofs.lemmas.Option.{none-some}
+use Rattle.std.specs.Prelude.{Err, None, Ok, Option, Some}
 use native.Mathlib.Nat.{add-zero, zero-add, add-suc, suc-add}
 use native.Mathlib.Omega.{arith}
 use native.Mathlib.Decide.{dec_le}
@@ -14,7 +15,7 @@ use lib.Dec.{leb}
 use Rattle.procap.proofs.Numbered.{time_back}
 use Rattle.procap.specs.Lists.{nth}
 use Rattle.procap.specs.Tells.{Tells}
-use Rattle.procap.specs.Outcome.{Outcome, granted, refused, go_on}
+use Rattle.procap.specs.Outcome.{Outcome, go_on}
 use Rattle.procap.specs.declared.answer.Answer.{Answer}
 use Rattle.procap.specs.declared.answer.Answer.TheVariants.{CertificateMalformed}
 use Rattle.procap.proofs.Telling.{tells_by, picked}
@@ -39,20 +40,20 @@ both_true true t e = (refl, e)
 both_true false t e = absurd (false≢true e)
 
 -- The formula of a part was found in it, and the statement of a record has its formula.
-formula_found : {C : Type 0} (o : Option (List ℕ)) (A : Formula) → formula_of o ≡ some A → ((part : List ℕ) → o ≡ some part → formula_in part ≡ some A → C) → C
+formula_found : {C : Type 0} (o : Option (List ℕ)) (A : Formula) → formula_of o ≡ Some A → ((part : List ℕ) → o ≡ Some part → formula_in part ≡ Some A → C) → C
 unfolding formula_of
-formula_found none A e k = absurd (none-ne-some A e)
-formula_found (some part) A e k = k part refl e
+formula_found None A e k = absurd (none-some A e)
+formula_found (Some part) A e k = k part refl e
 
 -- The statement of a record with this formula.
 abbrev stating : Certificate → Formula → Statement
 stating c A = record { by = c.principal; says = A; from = c.from; to = c.to }
 
-stating_found : {C : Type 0} (c : Certificate) (o : Option Formula) (s : Statement) → statement_by c o ≡ some s
-    → ((A : Formula) → o ≡ some A → stating c A ≡ s → C) → C
+stating_found : {C : Type 0} (c : Certificate) (o : Option Formula) (s : Statement) → statement_by c o ≡ Some s
+    → ((A : Formula) → o ≡ Some A → stating c A ≡ s → C) → C
 unfolding statement_by
-stating_found c none s e k = absurd (none-ne-some s e)
-stating_found c (some A) s e k = k A refl (cc)
+stating_found c None s e k = absurd (none-some s e)
+stating_found c (Some A) s e k = k A refl (cc)
 
 -- What makes a record well formed, with the formula that its part holds.
 pub record Stands (buffer : List ℕ) (c : Certificate) (A : Formula) : Type 0 where
@@ -60,18 +61,18 @@ pub record Stands (buffer : List ℕ) (c : Certificate) (A : Formula) : Type 0 w
   pub to : fixed_time c.to ≡ true
   pub inside : c.start + c.length ≤ length buffer
   pub short : c.length ≤ most_part_bytes
-  pub reads : formula_in (take c.length (drop c.start buffer)) ≡ some A
+  pub reads : formula_in (take c.length (drop c.start buffer)) ≡ Some A
 
 module _ (buffer : List ℕ) (c : Certificate) where
   -- A record that states something stands, and states its formula.
-  stands_where : {C : Type 0} (s : Statement) → statement_of buffer c ≡ some s → ((A : Formula) → Stands buffer c A → stating c A ≡ s → C) → C
+  stands_where : {C : Type 0} (s : Statement) → statement_of buffer c ≡ Some s → ((A : Formula) → Stands buffer c A → stating c A ≡ s → C) → C
   unfolding statement_of part_of
   stands_where s e k =
-      picked (fixed_time c.from && fixed_time c.to) (statement_by c (formula_of (part_of buffer c))) none (some s) (none-ne-some s) e λ times e₁.
+      picked (fixed_time c.from && fixed_time c.to) (statement_by c (formula_of (part_of buffer c))) None (Some s) (none-some s) e λ times e₁.
       stating_found c (formula_of (part_of buffer c)) s e₁ λ A e₂ says.
       formula_found (part_of buffer c) A e₂ λ part e₃ e₄.
-      picked (leb (c.start + c.length) (length buffer) && leb c.length most_part_bytes) (some (take c.length (drop c.start buffer))) none (some part)
-      (none-ne-some part) e₃ λ places e₅.
+      picked (leb (c.start + c.length) (length buffer) && leb c.length most_part_bytes) (Some (take c.length (drop c.start buffer))) None (Some part)
+      (none-some part) e₃ λ places e₅.
       let ends = both_true _ _ times in
       let bounds = both_true (leb (c.start + c.length) (length buffer)) _ places in
       k A
@@ -94,7 +95,7 @@ module _ (buffer : List ℕ) (c : Certificate) where
 
   -- Where all else is as it should be, it is well formed if its part holds a formula.
   pub well_formed_by : (b : Bool) → fixed_time c.from ≡ true → fixed_time c.to ≡ true → c.start + c.length ≤ length buffer → c.length ≤ most_part_bytes
-      → Tells b ((A : Formula) × (formula_in (take (c.start + c.length - c.start) (drop c.start buffer)) ≡ some A)) → Tells b (WellFormedRecord buffer c)
+      → Tells b ((A : Formula) × (formula_in (take (c.start + c.length - c.start) (drop c.start buffer)) ≡ Some A)) → Tells b (WellFormedRecord buffer c)
   well_formed_by b from to inside short found =
       let size : c.start + c.length - c.start ≡ c.length = omega arith in
       tells_by b
@@ -113,16 +114,16 @@ module _ {b t : Bool} (e : b ≡ t) where
 -- ── Records in a row ──
 
 -- One statement more: it and the others were granted, or the record or one of the others is malformed.
-one_more : {C : Type 0} (i : ℕ) (o : Option Statement) (rest : Outcome (List Statement)) (ss : List Statement) → and_then i o rest ≡ granted ss
-    → ((s : Statement) (others : List Statement) → o ≡ some s → rest ≡ granted others → ss ≡ s ∷ others → C) → C
+one_more : {C : Type 0} (i : ℕ) (o : Option Statement) (rest : Outcome (List Statement)) (ss : List Statement) → and_then i o rest ≡ Ok ss
+    → ((s : Statement) (others : List Statement) → o ≡ Some s → rest ≡ Ok others → ss ≡ s ∷ others → C) → C
 unfolding and_then
-one_more i none rest ss e k = no_grant e
-one_more i (some s) rest ss e k = went_on rest (λ others. granted (s ∷ others)) ss e λ others e₁ e₂. k s others refl e₁ (sym (same_grant e₂))
+one_more i None rest ss e k = no_grant e
+one_more i (Some s) rest ss e k = went_on rest (λ others. Ok (s ∷ others)) ss e λ others e₁ e₂. k s others refl e₁ (sym (same_grant e₂))
 
 module _ (buffer : List ℕ) where
   -- Where all are well formed, all is granted.
   all_granted : (i : ℕ) (cs : List Certificate) → ((k : ℕ) → k < length cs → WellFormedRecord buffer (get_or cs k no_record))
-      → (ss : List Statement) × (statements_from buffer i cs ≡ granted ss)
+      → (ss : List Statement) × (statements_from buffer i cs ≡ Ok ss)
   unfolding statements_from and_then go_on
   all_granted i [] h = ([], refl)
   all_granted i (c ∷ cs) h =
@@ -132,15 +133,15 @@ module _ (buffer : List ℕ) where
 
   -- The first malformed one refuses.
   first_refuses : (i n : ℕ) (cs : List Certificate) → n < length cs → ((k : ℕ) → k < n → WellFormedRecord buffer (get_or cs k no_record))
-      → (WellFormedRecord buffer (get_or cs n no_record) → ⊥) → statements_from buffer i cs ≡ refused (CertificateMalformed (i + n))
+      → (WellFormedRecord buffer (get_or cs n no_record) → ⊥) → statements_from buffer i cs ≡ Err (CertificateMalformed (i + n))
   unfolding statements_from and_then go_on
   first_refuses i n [] l h bad = absurd (omega arith)
   first_refuses i zero (c ∷ cs) l h bad = rw add-zero (malformed (statement_of buffer c) bad)
     where
-      malformed : (o : Option Statement) → ((s : Statement) × (o ≡ some s) → ⊥)
-          → and_then i o (statements_from buffer (suc i) cs) ≡ refused (CertificateMalformed i)
-      malformed none n = refl
-      malformed (some s) n = absurd (n (s, refl))
+      malformed : (o : Option Statement) → ((s : Statement) × (o ≡ Some s) → ⊥)
+          → and_then i o (statements_from buffer (suc i) cs) ≡ Err (CertificateMalformed i)
+      malformed None n = refl
+      malformed (Some s) n = absurd (n (s, refl))
   first_refuses i (suc n) (c ∷ cs) l h bad =
       let (s, e) = h 0 (omega arith) in
       rw (e, first_refuses (suc i) n cs (omega arith) (λ k l. h (suc k) (omega arith)) bad, add-suc, suc-add) refl
@@ -148,18 +149,18 @@ module _ (buffer : List ℕ) where
   -- Where all is granted, there is a statement for each record.
   record Each (cs : List Certificate) (ss : List Statement) : Type 0 where
     as_many : length ss ≡ length cs
-    stated : (k : ℕ) (s : Statement) → nth ss k ≡ some s → (k < length cs) × (statement_of buffer (get_or cs k no_record) ≡ some s)
+    stated : (k : ℕ) (s : Statement) → nth ss k ≡ Some s → (k < length cs) × (statement_of buffer (get_or cs k no_record) ≡ Some s)
 
   -- With one more in front the first statement is its own, and the others are those of the others.
-  stated_more : (c : Certificate) (cs : List Certificate) (s : Statement) (others : List Statement) → statement_of buffer c ≡ some s → Each cs others
-      → (k : ℕ) (t : Statement) → nth (s ∷ others) k ≡ some t → (k < length (c ∷ cs)) × (statement_of buffer (get_or (c ∷ cs) k no_record) ≡ some t)
+  stated_more : (c : Certificate) (cs : List Certificate) (s : Statement) (others : List Statement) → statement_of buffer c ≡ Some s → Each cs others
+      → (k : ℕ) (t : Statement) → nth (s ∷ others) k ≡ Some t → (k < length (c ∷ cs)) × (statement_of buffer (get_or (c ∷ cs) k no_record) ≡ Some t)
   unfolding nth
   stated_more c cs s others e rest zero t h = (omega arith, e ∙ h)
   stated_more c cs s others e rest (suc k) t h = let r = rest.stated k t h in (omega arith, r.1)
 
-  each_granted : (i : ℕ) (cs : List Certificate) (ss : List Statement) → statements_from buffer i cs ≡ granted ss → Each cs ss
+  each_granted : (i : ℕ) (cs : List Certificate) (ss : List Statement) → statements_from buffer i cs ≡ Ok ss → Each cs ss
   unfolding statements_from nth
-  each_granted i [] ss e = rw (← same_grant e) (record { as_many = refl; stated = λ k s h. absurd (none-ne-some s h) })
+  each_granted i [] ss e = rw (← same_grant e) (record { as_many = refl; stated = λ k s h. absurd (none-some s h) })
   each_granted i (c ∷ cs) ss e =
       one_more i (statement_of buffer c) (statements_from buffer (suc i) cs) ss e λ s others e₁ e₂ f.
       let rest = each_granted (suc i) cs others e₂ in
@@ -173,7 +174,7 @@ module _ (buffer : List ℕ) where
 
 module _ (buffer : List ℕ) (records : List Certificate) where
   -- Too many are refused.
-  many_refused : most_certificates < length records → statements buffer records ≡ refused (CertificateMalformed 0)
+  many_refused : most_certificates < length records → statements buffer records ≡ Err (CertificateMalformed 0)
   unfolding statements
   many_refused many = rw (lt-leb (length records) most_certificates many)
 
@@ -185,18 +186,18 @@ module _ (buffer : List ℕ) (records : List Certificate) where
 
     -- All of them are granted where none is malformed.
     none_malformed : ((k : ℕ) → k < length records → WellFormedRecord buffer (get_or records k no_record))
-        → (ss : List Statement) × (statements buffer records ≡ granted ss)
+        → (ss : List Statement) × (statements buffer records ≡ Ok ss)
     none_malformed h = let (ss, e) = all_granted buffer 0 records h in (ss, few_read ∙ e)
 
     -- The first malformed one is refused.
     malformed_at : (n : ℕ) → n < length records → ((k : ℕ) → k < n → WellFormedRecord buffer (get_or records k no_record))
-        → (WellFormedRecord buffer (get_or records n no_record) → ⊥) → statements buffer records ≡ refused (CertificateMalformed n)
-    malformed_at n l h bad = few_read ∙ first_refuses buffer 0 n records l h bad ∙ ap (λ k. refused (CertificateMalformed k)) (zero-add n)
+        → (WellFormedRecord buffer (get_or records n no_record) → ⊥) → statements buffer records ≡ Err (CertificateMalformed n)
+    malformed_at n l h bad = few_read ∙ first_refuses buffer 0 n records l h bad ∙ ap (λ k. Err (CertificateMalformed k)) (zero-add n)
 
 -- ── The rows of the records ──
 
 -- The row of a record that stands certifies what it states.
-row_certifies : (buffer : List ℕ) (c : Certificate) (s : Statement) → statement_of buffer c ≡ some s → Certifies buffer (row_of c) s
+row_certifies : (buffer : List ℕ) (c : Certificate) (s : Statement) → statement_of buffer c ≡ Some s → Certifies buffer (row_of c) s
 unfolding terms_of stack
 row_certifies buffer c s e =
     stands_where buffer c s e λ A h says.
@@ -221,15 +222,15 @@ row_certifies buffer c s e =
     })
 
 -- What is granted has few records, and is read in a row.
-granted_few : {C : Type 0} (buffer : List ℕ) (cs : List Certificate) (ss : List Statement) → statements buffer cs ≡ granted ss
-    → (length cs ≤ most_certificates → statements_from buffer 0 cs ≡ granted ss → C) → C
+granted_few : {C : Type 0} (buffer : List ℕ) (cs : List Certificate) (ss : List Statement) → statements buffer cs ≡ Ok ss
+    → (length cs ≤ most_certificates → statements_from buffer 0 cs ≡ Ok ss → C) → C
 unfolding statements
 granted_few buffer cs ss e k =
-    picked (leb (length cs) most_certificates) (statements_from buffer 0 cs) (refused (CertificateMalformed 0)) (granted ss) no_grant e λ l f.
+    picked (leb (length cs) most_certificates) (statements_from buffer 0 cs) (Err (CertificateMalformed 0)) (Ok ss) no_grant e λ l f.
     k (leb-true _ _ l) f
 
 -- There are as many statements as records.
-pub statements_count : (buffer : List ℕ) (cs : List Certificate) (ss : List Statement) → statements buffer cs ≡ granted ss → length ss ≡ length cs
+pub statements_count : (buffer : List ℕ) (cs : List Certificate) (ss : List Statement) → statements buffer cs ≡ Ok ss → length ss ≡ length cs
 statements_count buffer cs ss e = granted_few buffer cs ss e λ few e₁. (each_granted buffer 0 cs ss e₁).as_many
 
 -- ── Taking them ──
@@ -246,7 +247,7 @@ module _ (records : List Certificate) (buffer : List ℕ) (rows : List ℕ) wher
 
   module _ (i : ℕ) (l : i < length records) where
     -- What was refused stays so.
-    pub stays_refused : (answer : Answer) (stop : Stop) → stop ≡ Stopped answer → SoFar records buffer i stop rows → statements buffer records ≡ refused answer
+    pub stays_refused : (answer : Answer) (stop : Stop) → stop ≡ Stopped answer → SoFar records buffer i stop rows → statements buffer records ≡ Err answer
     stays_refused answer stop e h = rw e at h
 
     -- Where nothing has stopped it, those before are taken.
@@ -255,7 +256,7 @@ module _ (records : List Certificate) (buffer : List ℕ) (rows : List ℕ) wher
 
     module _ (h : TakenTo records buffer i rows) where
       -- A malformed record refuses them.
-      pub taken_malformed : (WellFormedRecord buffer (get_or records i no_record) → ⊥) → statements buffer records ≡ refused (CertificateMalformed i)
+      pub taken_malformed : (WellFormedRecord buffer (get_or records i no_record) → ⊥) → statements buffer records ≡ Err (CertificateMalformed i)
       taken_malformed bad = malformed_at buffer records h.few i l h.well_formed bad
 
       -- A well formed one is taken, once its row is put.
@@ -270,7 +271,7 @@ module _ (records : List Certificate) (buffer : List ℕ) (rows : List ℕ) wher
 
 -- The rows of records that are granted are what they state.
 rows_certified : (records : List Certificate) (buffer rows : List ℕ) → TakenTo records buffer (length records) rows
-    → (ss : List Statement) → statements buffer records ≡ granted ss → Certified buffer rows ss
+    → (ss : List Statement) → statements buffer records ≡ Ok ss → Certified buffer rows ss
 rows_certified records buffer rows h ss e =
     granted_few buffer records ss e λ few e₁.
     let all = each_granted buffer 0 records ss e₁ in

@@ -4,7 +4,7 @@ use native.Mathlib.Omega.{arith}
 use mathlib.Core.Bool.{Bool, true, false}
 use mathlib.Core.Path.{◌≡◌, refl}
 use mathlib.Core.List.{List, []}
-use mathlib.Core.Option.{some}
+use Rattle.std.specs.Prelude.{Some}
 use borrow.Author.Tests.{le-leb}
 use lib.ListN.{length}
 use lib.Dec.{leb}
@@ -55,7 +55,7 @@ begun_sound reading list room =
     record { room = room; few = omega arith; in_form = λ i h. absurd (omega arith) }
 
 -- and has room for what the walk of a proof that reads asks for, at most 16.
-begun_room : (reading : Reading) (list proof : List ℕ) (r : Request) (π : Policy) (N : Check) → proof_in (length π.statements) proof ≡ some N
+begun_room : (reading : Reading) (list proof : List ℕ) (r : Request) (π : Policy) (N : Check) → proof_in (length π.statements) proof ≡ Some N
     → HasRoom (book (begun reading) list) (walk r π N)
 begun_room reading list proof r π N reads _ = omega (arith, begun_count reading, at_most_16_asked r π (length π.statements) proof N reads)
 

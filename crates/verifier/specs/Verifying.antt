@@ -1,12 +1,11 @@
 -- What the parts of verify and of the direct check promise.
-use Rattle.std.specs.Prelude.{ℕ, ◌+◌, ◌≤◌, ◌<◌, ◌≡◌, List, length, get_or}
-use Rattle.std.proofs.Math.Option.{some}
+use Rattle.std.specs.Prelude.{ℕ, ◌+◌, ◌≤◌, ◌<◌, ◌≡◌, List, length, get_or, Err, Ok, Some}
 use Rattle.std.specs.Borrow.{Bor}
 use denote.Triple.Both.{Both}
 use Rattle.procap.specs.Lent.{Lent, LentToWrite}
 use Rattle.procap.specs.Desk.{read_press}
 use Rattle.procap.specs.Numbered.{time_numbers}
-use Rattle.procap.specs.Outcome.{Outcome, granted, refused, go_on, answer_of, procap_handed}
+use Rattle.procap.specs.Outcome.{Outcome, go_on, answer_of, procap_handed}
 use Rattle.procap.specs.declared.time.Time.TheVariants.{Moment}
 use Rattle.procap.specs.declared.procap.Request.{Request}
 use Rattle.procap.specs.declared.procap.Procap.{Procap}
@@ -50,17 +49,17 @@ row_of c = record {
 
 -- A record is well formed.
 abbrev pub WellFormedRecord : List ℕ → Certificate → Type 0
-WellFormedRecord buffer c = (s : Statement) × (statement_of buffer c ≡ some s)
+WellFormedRecord buffer c = (s : Statement) × (statement_of buffer c ≡ Some s)
 
 -- The policy is what was read: rows that are its certificates, and numbers that are its pairs.
 pub record PolicyRead (buffer rows pairs : List ℕ) (π : Policy) : Type 0 where
   pub certified : Certified buffer rows π.statements
-  pub paired : pairs_in pairs ≡ granted π.pairs
+  pub paired : pairs_in pairs ≡ Ok π.pairs
 
 -- The policy is such a one, the proof reads over it, and the table has where the second part of each 26 ends.
 pub record CaseReads (IsPolicy : Policy → Type 0) (ends proof : List ℕ) (π : Policy) (N : Check) : Type 0 where
   pub policy : IsPolicy π
-  pub proof_reads : proof_in (length π.statements) proof ≡ some N
+  pub proof_reads : proof_in (length π.statements) proof ≡ Some N
   pub told : ToldChecking ends N
 
 -- The ledger and the list at the end are what the walk of the proof comes to, from the ledger at its start.
@@ -80,8 +79,8 @@ WalkedBy asked buffer proof state rows strengths ends facts r =
 
 -- An outcome goes on with a value, or is stopped by its answer.
 abbrev pub Stops : {A : Type 0} → Outcome A → Stop → Type 0
-Stops {A} o Going = (a : A) × (o ≡ granted a)
-Stops o (Stopped answer) = o ≡ refused answer
+Stops {A} o Going = (a : A) × (o ≡ Ok a)
+Stops o (Stopped answer) = o ≡ Err answer
 
 -- The first of two stops.
 abbrev pub first_of : Stop → Stop → Stop
@@ -112,7 +111,7 @@ pub record TakenTo (records : List Certificate) (buffer : List ℕ) (i : ℕ) (r
 -- They are taken, or the records are refused.
 abbrev pub SoFar : List Certificate → List ℕ → ℕ → Stop → List ℕ → Type 0
 SoFar records buffer i Going rows = TakenTo records buffer i rows
-SoFar records buffer i (Stopped answer) rows = statements buffer records ≡ refused answer
+SoFar records buffer i (Stopped answer) rows = statements buffer records ≡ Err answer
 
 -- The i-th record c is taken too.
 abbrev pub Takes : List ℕ → Certificate → ℕ → Stop → List ℕ → Stop → List ℕ → Type 0
@@ -123,7 +122,7 @@ Takes buffer c i stop rows stop' rows' =
 -- All are taken: the stop is what the records come to, and where they are granted, the rows are what they state.
 pub record Taken (records : List Certificate) (buffer : List ℕ) (stop : Stop) (rows : List ℕ) : Type 0 where
   pub stops : Stops (statements buffer records) stop
-  pub rows_are : (cs : List Statement) → statements buffer records ≡ granted cs → Certified buffer rows cs
+  pub rows_are : (cs : List Statement) → statements buffer records ≡ Ok cs → Certified buffer rows cs
 
 -- The same of what is lent.
 abbrev pub TakenFrom : Records → Lent → Stop → List ℕ → Type 0
@@ -147,7 +146,7 @@ verified_case r π N = go_on (run office (walk r π N) start) λ w. issue r w.1
 
 -- What the direct check comes to from there on.
 unfoldable pub checked_case : Request → Policy → Check → ℕ → List ℕ → Outcome (Unit {0})
-checked_case r π N m state = go_on (read_press m state) λ σ. go_on (run (press m σ) (walk r π N) start) λ w. granted w.0
+checked_case r π N m state = go_on (read_press m state) λ σ. go_on (run (press m σ) (walk r π N) start) λ w. Ok w.0
 
 -- What is handed over is the outcome's answer and procap.
 pub record HandsOver (o : Outcome Procap) (r : Verified) : Type 0 where

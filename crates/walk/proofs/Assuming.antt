@@ -2,7 +2,7 @@
 use Prim.Native.Nat.{ℕ, suc}
 use mathlib.Core.Path.{◌≡◌}
 use mathlib.Core.List.{List, ◌∷◌}
-use mathlib.Core.Option.{some}
+use Rattle.std.specs.Prelude.{Some}
 use native.Mathlib.Omega.{arith}
 use native.Mathlib.Numerals.{add-one}
 use lib.ListN.{length}
@@ -30,7 +30,7 @@ module _ (S : Sources) (rows : List ℕ) (scope : Scope) (left : ℕ) (goal_byte
     (ledger : Ledger) (list : List ℕ) (at : ℕ) {r : Checked} {list' : List ℕ}
     (checks : ChecksAt S more (scope_with scope) ledger list left goal_bytes goal at r list') where
   pub part_assuming : (π : Policy) (Γ : List Assumption) (N : Check) (e : ℕ) → Sound (book ledger list) → Around S rows scope (suc left) π Γ
-      → check_step S.proof (length π.statements) left (suc scope.count) at ≡ some (N, e) → ToldChecking S.ends N
+      → check_step S.proof (length π.statements) left (suc scope.count) at ≡ Some (N, e) → ToldChecking S.ends N
       → (x : Assumption) → RowIs S.buffer row 0 0 x → (G : Formula) → Means goal_bytes 0 goal.formula G
       → Passes S.state (book ledger list) (check π (x ∷ Γ) (view_in scope.view) N G (from_of goal) (to_of goal)) e r list'
   part_assuming π Γ N e sound around reads told x is G means =

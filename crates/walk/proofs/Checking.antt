@@ -2,7 +2,7 @@
 use Prim.Native.Nat.{ℕ, zero, suc, ◌+◌, ◌<◌}
 use mathlib.Core.Path.{◌≡◌, refl, ap, ◌∙◌}
 use mathlib.Core.List.{List, ◌∷◌, map}
-use mathlib.Core.Option.{some}
+use Rattle.std.specs.Prelude.{Some}
 use native.Mathlib.Omega.{arith}
 use lib.ListN.{length, get_or}
 use Rattle.procap.specs.Bytes.{Reader}
@@ -47,13 +47,13 @@ use Rattle.walk.proofs.Inferring.{first_part}
 use Rattle.walk.proofs.Assuming.{part_assuming}
 
 -- With no level left nothing is read.
-no_check_step : (proof : List ℕ) (c n h q : ℕ) (N : Check) (e : ℕ) → n ≡ 0 → check_step proof c n h q ≡ some (N, e) → ⊥
+no_check_step : (proof : List ℕ) (c n h q : ℕ) (N : Check) (e : ℕ) → n ≡ 0 → check_step proof c n h q ≡ Some (N, e) → ⊥
 unfolding check_step
 no_check_step proof c zero h q N e z r = let z : ◌≡◌ {A = ℕ} 0 1 = cc in omega arith
 no_check_step proof c (suc n) h q N e z r = omega arith
 
 -- A step that is read begins inside of the proof.
-check_begins : (proof : List ℕ) (c n h q : ℕ) (N : Check) (e : ℕ) → check_step proof c n h q ≡ some (N, e) → q < length proof
+check_begins : (proof : List ℕ) (c n h q : ℕ) (N : Check) (e : ℕ) → check_step proof c n h q ≡ Some (N, e) → q < length proof
 check_begins proof c zero h q N e r = absurd (no_check_step proof c zero h q N e refl r)
 check_begins proof c (suc n) h q N e r = (check_read proof c n h q N e r).0
 
@@ -102,7 +102,7 @@ told_is ends e told = rw e at told
 -- A step that puts a formula into a shell, as it is read: its part, and its walk.
 record PutRead (proof ends : List ℕ) (c n h q : ℕ) (shell : Shell) (N : Check) (e : ℕ) : Type 0 where
   part : Check
-  reads : check_step proof c n h (q + 1) ≡ some (part, e)
+  reads : check_step proof c n h (q + 1) ≡ Some (part, e)
   told : ToldChecking ends part
   walks : (π : Policy) (Γ : List Assumption) (v : View) (j : walk.Judgement)
       → check π Γ v N j.0 j.1 j.2 ≡ and_then (inside shell q j) (check_inside π Γ v part)
@@ -122,7 +122,7 @@ put_found proof ends c n h q shell found tells walks told =
     }
 
 put_read : (proof ends : List ℕ) (c n h q : ℕ) (tag : CheckTag) (shell : Shell) (N : Check) (e : ℕ) → Puts tag shell
-    → check_by proof c (infer_step proof c n) (check_step proof c n) h q NoInferTag tag (q + 1) ≡ some (N, e) → ToldChecking ends N
+    → check_by proof c (infer_step proof c n) (check_step proof c n) h q NoInferTag tag (q + 1) ≡ Some (N, e) → ToldChecking ends N
     → PutRead proof ends c n h q shell N e
 unfolding ToldChecking
 put_read proof ends c n h q tag shell N e puts_at reads =
@@ -139,15 +139,15 @@ record TakeRead (proof ends : List ℕ) (c n h q : ℕ) (shell : Shell) (N : Che
   part : Infer
   other : Check
   middle : ℕ
-  part_reads : infer_step proof c n h (q + 1) ≡ some (part, middle)
-  other_reads : check_step proof c n (suc h) middle ≡ some (other, e)
+  part_reads : infer_step proof c n h (q + 1) ≡ Some (part, middle)
+  other_reads : check_step proof c n (suc h) middle ≡ Some (other, e)
   part_told : Told ends part
   other_told : ToldChecking ends other
   walks : (π : Policy) (Γ : List Assumption) (v : View) (j : walk.Judgement)
       → check π Γ v N j.0 j.1 j.2 ≡ and_then (and_then (infer π Γ v part) (inside shell q)) (λ x. check π (x ∷ Γ) v other j.0 j.1 j.2)
 
 take_read : (proof ends : List ℕ) (c n h q : ℕ) (tag : CheckTag) (shell : Shell) (N : Check) (e : ℕ) → TakesOut tag shell
-    → check_by proof c (infer_step proof c n) (check_step proof c n) h q NoInferTag tag (q + 1) ≡ some (N, e) → ToldChecking ends N
+    → check_by proof c (infer_step proof c n) (check_step proof c n) h q NoInferTag tag (q + 1) ≡ Some (N, e) → ToldChecking ends N
     → TakeRead proof ends c n h q shell N e
 unfolding ToldChecking
 take_read proof ends c n h q tag shell N e takes_at reads told =
@@ -257,7 +257,7 @@ module _ (S : Sources) (rows : List ℕ) (scope : Scope) (ledger : Ledger) (list
       module _ (going : stop_of parts.ledger ≡ Going) {begin : ℕ} (begins : at < length S.proof → begin ≡ at + 1) {one : Checked} {list₁ : List ℕ}
           (checks : ChecksAt S rows scope parts.ledger list left goal_bytes (part_of goal parts.first) begin one list₁) where
         one_comes : (π : Policy) (Γ : List Assumption) (N : Check) (e : ℕ) → Sound (book parts.ledger list) → Around S rows scope (suc left) π Γ
-            → check_step S.proof (length π.statements) left scope.count (at + 1) ≡ some (N, e) → ToldChecking S.ends N
+            → check_step S.proof (length π.statements) left scope.count (at + 1) ≡ Some (N, e) → ToldChecking S.ends N
             → (A : Formula) → On goal_bytes (part_of goal parts.first) A (from_of goal) (to_of goal)
             → Comes S.state (book parts.ledger list) (check π Γ view N A (from_of goal) (to_of goal)) (book one.ledger list₁) (λ _. one.next ≡ e)
         one_comes π Γ N e sound around reads told A on =
@@ -305,7 +305,7 @@ module _ (S : Sources) (rows : List ℕ) (scope : Scope) (ledger : Ledger) (list
 
         -- The part, for what it is that stands inside.
         part_passes : (π : Policy) (Γ : List Assumption) (N : Check) (e : ℕ) → Sound (book held.ledger list) → Around S rows scope (suc left) π Γ
-            → (begin : ℕ) → check_step S.proof (length π.statements) left scope.count begin ≡ some (N, e) → ToldChecking S.ends N
+            → (begin : ℕ) → check_step S.proof (length π.statements) left scope.count begin ≡ Some (N, e) → ToldChecking S.ends N
             → {r : Checked} {list' : List ℕ}
             → ChecksAt S rows (scope_inside scope held.row) held.ledger list left goal_bytes held.row.judgement begin r list'
             → (x : Assumption) → RowIs goal_bytes held.row 0 0 x

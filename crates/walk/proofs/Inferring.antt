@@ -2,7 +2,7 @@
 use Prim.Native.Nat.{ℕ, zero, suc, ◌+◌, ◌<◌}
 use mathlib.Core.Path.{◌≡◌, refl, ap, ◌∙◌}
 use mathlib.Core.List.{List}
-use mathlib.Core.Option.{some}
+use Rattle.std.specs.Prelude.{Some}
 use native.Mathlib.Omega.{arith}
 use lib.ListN.{length, get_or}
 use Rattle.procap.specs.Bytes.{term}
@@ -36,18 +36,18 @@ use Rattle.judging.proofs.Coming.{Comes, comes_halted, comes_then, comes_or_stay
 use Rattle.walk.proofs.Surroundings.{around_part}
 
 -- With no level left nothing is read.
-no_infer_step : (proof : List ℕ) (c n h q : ℕ) (M : Infer) (e : ℕ) → n ≡ 0 → infer_step proof c n h q ≡ some (M, e) → ⊥
+no_infer_step : (proof : List ℕ) (c n h q : ℕ) (M : Infer) (e : ℕ) → n ≡ 0 → infer_step proof c n h q ≡ Some (M, e) → ⊥
 unfolding infer_step
 no_infer_step proof c zero h q M e z r = let z : ◌≡◌ {A = ℕ} 0 1 = cc in omega arith
 no_infer_step proof c (suc n) h q M e z r = omega arith
 
 -- A step that is read begins inside of the proof.
-infer_inside : (proof : List ℕ) (c n h q : ℕ) (M : Infer) (e : ℕ) → infer_step proof c n h q ≡ some (M, e) → q < length proof
+infer_inside : (proof : List ℕ) (c n h q : ℕ) (M : Infer) (e : ℕ) → infer_step proof c n h q ≡ Some (M, e) → q < length proof
 infer_inside proof c zero h q M e r = absurd (no_infer_step proof c zero h q M e refl r)
 infer_inside proof c (suc n) h q M e r = (infer_read proof c n h q M e r).0
 
 -- So does a term.
-term_inside : (proof : List ℕ) (q : ℕ) (t : Term) (e : ℕ) → term proof q ≡ some (t, e) → q < length proof
+term_inside : (proof : List ℕ) (q : ℕ) (t : Term) (e : ℕ) → term proof q ≡ Some (t, e) → q < length proof
 unfolding term
 term_inside proof q t e r = (after_byte proof q _ (t, e) r).0
 
@@ -97,7 +97,7 @@ module _ (S : Sources) (rows : List ℕ) (scope : Scope) (ledger : Ledger) (list
     -- The other steps have a part that infers after their tag.
     module _ {begin : ℕ} (begins : at < length S.proof → begin ≡ at + 1) where
       -- 27, whose part stands after the term put in.
-      pub infer_instance : {put : Term} {middle : ℕ} → ((t : Term) (e : ℕ) → term S.proof begin ≡ some (t, e) → (put ≡ t) × (middle ≡ e))
+      pub infer_instance : {put : Term} {middle : ℕ} → ((t : Term) (e : ℕ) → term S.proof begin ≡ Some (t, e) → (put ≡ t) × (middle ≡ e))
           → {inferred : Inferred} {list₁ : List ℕ} → InfersAt S rows scope ledger list left middle inferred list₁
           → {r : Inferred} → Continues S.buffer inferred (put_in at put) r → By InstanceTag r list₁
       unfolding Told
@@ -111,7 +111,7 @@ module _ (S : Sources) (rows : List ℕ) (scope : Scope) (ledger : Ledger) (list
 
       module _ {inferred : Inferred} {list₁ : List ℕ} (infers : InfersAt S rows scope ledger list left begin inferred list₁) where
         pub first_part : (π : Policy) (Γ : List Assumption) (M : Infer) (e : ℕ) → Sound (book ledger list) → Around S rows scope (suc left) π Γ
-            → infer_step S.proof (length π.statements) left scope.count (at + 1) ≡ some (M, e) → Told S.ends M
+            → infer_step S.proof (length π.statements) left scope.count (at + 1) ≡ Some (M, e) → Told S.ends M
             → Yields S.state S.buffer (book ledger list) (infer π Γ view M) e inferred list₁
         first_part π Γ M e sound around reads told =
             let inside = infer_inside S.proof (length π.statements) left scope.count (at + 1) M e reads in

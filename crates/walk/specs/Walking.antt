@@ -1,6 +1,5 @@
 -- What the walk over the bytes promises: the walk of the tree that the bytes read as.
-use Rattle.std.specs.Prelude.{ℕ, suc, ◌+◌, ◌≤◌, ◌<◌, ◌≡◌, List, length}
-use Rattle.std.proofs.Math.Option.{some}
+use Rattle.std.specs.Prelude.{ℕ, suc, ◌+◌, ◌≤◌, ◌<◌, ◌≡◌, List, length, Some}
 use Rattle.bl.specs.declared.InferTag.{InferTag}
 use Rattle.bl.specs.declared.InferTag.TheVariants.{NoInferTag}
 use Rattle.bl.specs.declared.CheckTag.{CheckTag}
@@ -68,7 +67,7 @@ module _ (S : Sources) (rows : List ℕ) (scope : Scope) (ledger : Ledger) (list
   InfersAt at r list' =
       (π : Policy) (Γ : List Assumption) (M : Infer) (e : ℕ)
       → Sound (book ledger list) → Around S rows scope left π Γ
-      → infer_step S.proof (length π.statements) left scope.count at ≡ some (M, e) → Told S.ends M
+      → infer_step S.proof (length π.statements) left scope.count at ≡ Some (M, e) → Told S.ends M
       → InfersStep π Γ M e r list'
 
   -- A step that infers, by its tag at a place, over parts of at most `left` levels.
@@ -76,7 +75,7 @@ module _ (S : Sources) (rows : List ℕ) (scope : Scope) (ledger : Ledger) (list
   InfersBy tag at r list' =
       (π : Policy) (Γ : List Assumption) (M : Infer) (e : ℕ)
       → Sound (book ledger list) → Around S rows scope (suc left) π Γ
-      → infer_by S.proof (length π.statements) (infer_step S.proof (length π.statements) left) (check_step S.proof (length π.statements) left) scope.count at tag (at + 1) ≡ some (M, e)
+      → infer_by S.proof (length π.statements) (infer_step S.proof (length π.statements) left) (check_step S.proof (length π.statements) left) scope.count at tag (at + 1) ≡ Some (M, e)
       → Told S.ends M
       → InfersStep π Γ M e r list'
 
@@ -85,7 +84,7 @@ module _ (S : Sources) (rows : List ℕ) (scope : Scope) (ledger : Ledger) (list
   ChecksAt goal_bytes goal at r list' =
       (π : Policy) (Γ : List Assumption) (N : Check) (e : ℕ)
       → Sound (book ledger list) → Around S rows scope left π Γ
-      → check_step S.proof (length π.statements) left scope.count at ≡ some (N, e) → ToldChecking S.ends N
+      → check_step S.proof (length π.statements) left scope.count at ≡ Some (N, e) → ToldChecking S.ends N
       → ChecksStep π Γ goal_bytes goal N e r list'
 
   -- A step that checks, by its tag at a place, over parts of at most `left` levels.
@@ -93,6 +92,6 @@ module _ (S : Sources) (rows : List ℕ) (scope : Scope) (ledger : Ledger) (list
   ChecksBy tag goal_bytes goal at r list' =
       (π : Policy) (Γ : List Assumption) (N : Check) (e : ℕ)
       → Sound (book ledger list) → Around S rows scope (suc left) π Γ
-      → check_by S.proof (length π.statements) (infer_step S.proof (length π.statements) left) (check_step S.proof (length π.statements) left) scope.count at NoInferTag tag (at + 1) ≡ some (N, e)
+      → check_by S.proof (length π.statements) (infer_step S.proof (length π.statements) left) (check_step S.proof (length π.statements) left) scope.count at NoInferTag tag (at + 1) ≡ Some (N, e)
       → ToldChecking S.ends N
       → ChecksStep π Γ goal_bytes goal N e r list'

@@ -2,7 +2,7 @@
 use Prim.Native.Nat.{ℕ, ◌+◌, ◌≤◌, ◌<◌}
 use mathlib.Core.Path.{◌≡◌, refl, sym}
 use mathlib.Core.List.{List, []}
-use mathlib.Core.Option.{some, none}
+use Rattle.std.specs.Prelude.{None, Some}
 use borrow.Author.Tests.{lt-ltb, le-ltb}
 use lib.ListN.{length, get_or}
 use Rattle.procap.specs.Bytes.{then, ensure}
@@ -12,15 +12,15 @@ use Rattle.steps.proofs.todo.open_index.Goals as goal
 
 -- Past the end, below the limit, and above it.
 module _ (proof : List ℕ) (limit at : ℕ) where
-  index-past : length proof ≤ at → none ≡ index_parts proof limit at
+  index-past : length proof ≤ at → None ≡ index_parts proof limit at
   unfolding index_parts
   index-past l = sym (past_bytes proof at _ l)
 
-  index_below : (r : ℕ) → at < length proof → r ≡ get_or proof at 0 → r < limit → some ((0, []), at + 1) ≡ index_parts proof limit at
+  index_below : (r : ℕ) → at < length proof → r ≡ get_or proof at 0 → r < limit → Some ((0, []), at + 1) ≡ index_parts proof limit at
   unfolding index_parts then ensure
   index_below r l e b = rw (from_byte proof at _ l, ← e, lt-ltb r limit b) refl
 
-  index-above : (r : ℕ) → at < length proof → r ≡ get_or proof at 0 → limit ≤ r → none ≡ index_parts proof limit at
+  index-above : (r : ℕ) → at < length proof → r ≡ get_or proof at 0 → limit ≤ r → None ≡ index_parts proof limit at
   unfolding index_parts then ensure
   index-above r l e b = rw (from_byte proof at _ l, ← e, le-ltb r limit b) refl
 

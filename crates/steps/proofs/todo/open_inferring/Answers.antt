@@ -2,7 +2,7 @@
 use Prim.Native.Nat.{ℕ}
 use mathlib.Core.Path.{◌≡◌, refl}
 use mathlib.Core.List.{List, [], ◌∷◌}
-use mathlib.Core.Option.{some, none}
+use Rattle.std.specs.Prelude.{None, Some}
 use Rattle.procap.specs.Bytes.{then, term}
 use Rattle.procap.specs.declared.fact.Term.{Term}
 use Rattle.procap.proofs.Handed.{term_told}
@@ -13,11 +13,11 @@ use Rattle.steps.proofs.todo.open_inferring.Goals as goal
 
 -- The step of a 27, after its term; and where there is no term.
 module _ (proof : List ℕ) (c n h at : ℕ) where
-  instance-parts : (t : Term) (next : ℕ) → term proof at ≡ some (t, next) → some ((0, Inferring n h ∷ []), next) ≡ inferring_parts proof c n h InstanceTag at
+  instance-parts : (t : Term) (next : ℕ) → term proof at ≡ Some (t, next) → Some ((0, Inferring n h ∷ []), next) ≡ inferring_parts proof c n h InstanceTag at
   unfolding inferring_parts then
   instance-parts t next r = rw r refl
 
-  no-term-parts : term proof at ≡ none → none ≡ inferring_parts proof c n h InstanceTag at
+  no-term-parts : term proof at ≡ None → None ≡ inferring_parts proof c n h InstanceTag at
   unfolding inferring_parts then
   no-term-parts r = rw r refl
 

@@ -3,7 +3,7 @@
 use Prim.Native.Nat.{ℕ, ◌-◌}
 use mathlib.Core.Path.{◌≡◌, ap, ◌∙◌}
 use mathlib.Core.List.{List}
-use mathlib.Core.Option.{some}
+use Rattle.std.specs.Prelude.{Some}
 use native.Mathlib.Omega.{arith}
 use lib.ListN.{length}
 use Rattle.procap.specs.Lists.{pad}
@@ -20,7 +20,7 @@ use Rattle.text.proofs.Readings.{lines_missing, lines_found, no_count, no_such_l
 use Rattle.text.proofs.reader.look_over_facts.Goals as goal
 
 -- Where the lines of facts from a place on are the last of the text, it is as far before its end as they are long.
-to_the_last : (text : List ℕ) (start count : ℕ) (fs : List Spelled) (end : ℕ) → many (fact_line text) count start ≡ some (fs, end) → end ≡ length text
+to_the_last : (text : List ℕ) (start count : ℕ) (fs : List Spelled) (end : ℕ) → many (fact_line text) count start ≡ Some (fs, end) → end ≡ length text
     → (places : List ℕ) → places ≡ pad most_facts 0 (line_starts start fs) → places ≡ places_in text fs
 unfolding places_in
 to_the_last text start count fs end reads last places kept =
