@@ -10,7 +10,7 @@ use lib.ListN.{length}
 use Rattle.procap.specs.Tells.{Tells}
 use Rattle.procap.specs.Lists.{In}
 use Rattle.procap.specs.Facts.{Spelled}
-use Rattle.procap.specs.Bytes.{then, term_tag, predicate_and, to_the_end, whole}
+use Rattle.procap.specs.Bytes.{then, predicate_and, to_the_end, whole}
 use Rattle.procap.specs.States.{most_state_bytes, settled_term, fact, more, facts, stated}
 use Rattle.procap.proofs.Telling.{tells_by}
 use Rattle.procap.proofs.InMore.{in_more, in_last, in_before}

@@ -16,7 +16,8 @@ use procap::tag::TermTag;
 // How many bytes a state has at the most.
 pub const MOST_STATE_BYTES: usize = 4_096;
 
-// Whether the bytes are a state.
+// Whether the bytes are a state. A pass that looks for any fact tells so, here for the one of zeros. (One that took a closure would be no
+// plainer: its contract would have to say what the closure answers of each fact.)
 pub fn well_formed(state: &[u8]) -> bool
     ensures { Tells result (WellFormed state.now) }
 {
@@ -72,10 +73,8 @@ fn fact_with(state: &[u8], predicate: u16, terms: usize, at: usize) -> Option<(F
     };
     let mut arguments = [zero; MOST_TERMS];
     let mut next = at;
-    for i in 0..terms {
-        let (term, after) = settled_term_at(state, next)?;
-        arguments[i] = Argument { term: term };
-        next = after;
+    for argument in &mut arguments[..terms] {
+        (argument.term, next) = settled_term_at(state, next)?;
     }
     let fact = Fact {
         predicate: predicate,
