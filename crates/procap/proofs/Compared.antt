@@ -1,4 +1,4 @@
--- The derived `==` of arguments and of facts decides whether they are the same.
+-- The derived `==` of terms, of arguments and of facts decides whether they are the same.
 use Rattle.std.proofs.Common.{rules}
 use mathlib.Core.Bool.{Bool, false≢true}
 use mathlib.Core.Path.{◌≡◌, sym, ap, ◌∙◌}
@@ -7,10 +7,15 @@ use Rattle.std.specs.Cmp.Lexicographic.{pointwise_decides}
 use Rattle.std.proofs.lemmas.Bool.Decides.{Decides-and, Decides-eqb}
 use Rattle.procap.specs.Tells.{Tells}
 use Rattle.procap.proofs.Telling.{tells_if}
+use Rattle.procap.specs.declared.fact.Term.{Term}
 use Rattle.procap.specs.declared.fact.Argument.{Argument}
 use Rattle.procap.specs.declared.fact.Fact.{Fact}
+use Rattle.procap.specs.contracts.fact.TermPartialEq.TheImpl.{eq-value as term-eq}
 use Rattle.procap.specs.contracts.fact.ArgumentPartialEq.TheImpl.{eq-value as argument-eq}
 use Rattle.procap.specs.contracts.fact.FactPartialEq.TheImpl.{eq-value as fact-eq}
+
+pub terms_compared : (t u : Term) → Decides (term-eq.it t u) (t ≡ u)
+terms_compared t u = search rules
 
 pub arguments_compared : (a b : Argument) → Decides (argument-eq.it a b) (a ≡ b)
 arguments_compared a b = search rules
