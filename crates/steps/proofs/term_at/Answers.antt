@@ -1,16 +1,22 @@
--- What was handed back is what the reader finds, in form; so is name 0.
-use mathlib.Core.Path.{subst}
-use native.Mathlib.Omega.{arith}
-use Rattle.procap.specs.Reading.{InFormRead}
+use Rattle.std.proofs.Common.{rules, ◌≡◌, ℕ, get_or, IfSome, ◌+◌, ◌-◌, ◌*◌, ◌<◌, ◌≤◌, length, ◌/◌, ◌%◌, Bool, true, false, nat_eq, nat_lt, List, [], ◌∷◌, ◌++◌, slice_set, bit_and, bit_or, Fits, w8, w32, w64, Bor, MutBor}
+use Rattle.procap.specs.Bytes.{term}
 use Rattle.procap.specs.Writable.{TermInForm}
-use Rattle.procap.proofs.Handed.{term_told}
-use Rattle.steps.proofs.TermsGiven.{given_found, given_none}
+use Rattle.bl.specs.Tags.{infer_tag, check_tag}
+use Rattle.bl.specs.Steps.{time}
 use Rattle.steps.proofs.term_at.Goals as goal
 
-pub returns-in-Found : goal.returns-in-Found
-returns-in-Found c =
-    let read = c.term_read.ensures in record { reads = given_found _ _ (term_told _ c.in-Found.is read.reads); in_form = subst InFormRead c.in-Found.is read.in_form }
+-- src/lib.rt:46:16
+pub returns-in_err-byte-clause-reads : goal.returns-in_err-byte-clause-reads
+returns-in_err-byte-clause-reads c = ?
 
-pub returns-in-NoTerm : goal.returns-in-NoTerm
-unfolding TermInForm
-returns-in-NoTerm c = record { reads = given_none _ _ (term_told _ c.in-NoTerm.is c.term_read.ensures.reads); in_form = omega arith }
+-- src/lib.rt:47:45
+pub overflow_add-at : goal.overflow_add-at
+overflow_add-at c = ?
+
+-- src/lib.rt:42:1
+pub returns-in-Found-clause-reads : goal.returns-in-Found-clause-reads
+returns-in-Found-clause-reads c = ?
+
+-- src/lib.rt:42:1
+pub returns-in-NoTerm-clause-reads : goal.returns-in-NoTerm-clause-reads
+returns-in-NoTerm-clause-reads c = ?
