@@ -1,7 +1,8 @@
 -- What stands at a place of the bytes, as the library hands it out, and as a reader of bytes finds it.
-use Prim.Native.Nat.{ℕ, ◌+◌, ◌<◌}
+use Prim.Native.Nat.{ℕ, ◌+◌, ◌≤◌, ◌<◌}
 use mathlib.Core.Path.{◌≡◌, refl, sym, ◌∙◌}
 use mathlib.Core.List.{List}
+use mathlib.Core.Logic.{inl, inr}
 use Rattle.std.specs.Prelude.{◌⊎◌, None, Option, Some, Result, Ok, Err, ok_or, slice_get}
 use Rattle.std.specs.Result.{result_ok}
 use Rattle.std.specs.Option.{unwrap_or}
@@ -32,7 +33,7 @@ module _ (bytes : List ℕ) (at : ℕ) where
   no_byte e = by (slice_get_cases bytes at).1
     where
       by : (((x : ℕ) × (at < length bytes) × (slice_get bytes at ≡ Some x) × (get_or bytes at x ≡ x)) ⊎ ((length bytes ≤ at) × (slice_get bytes at ≡ None))) → byte bytes at ≡ None
-      by (inl h) = absurd (none-some h.0 (e ∙ h.1.1))
+      by (inl h) = absurd (none-some h.0 (e ∙ h.2))
       by (inr h) = byte_none bytes at h.0
 
   pub the_byte : {b : ℕ} → Some b ≡ slice_get bytes at → byte bytes at ≡ Some (b, at + 1)

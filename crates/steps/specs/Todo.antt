@@ -1,6 +1,6 @@
 -- A proof's bytes tested without a call inside of a call: a list of what is still to be read. The first of the list is opened at its place, and its parts take its place in the list.
 use Rattle.std.specs.Prelude.{ℕ, ◌≡◌, List, [], ◌∷◌, set, ltb, Option, Some, option_map}
-use Rattle.procap.specs.Bytes.{Reader, ◌>>=◌, give, given, ensure, byte, term}
+use Rattle.procap.specs.Bytes.{Reader, ◌>>=◌, give, present, ensure, byte, term}
 use Rattle.bl.specs.declared.InferTag.{InferTag}
 use Rattle.bl.specs.declared.InferTag.TheVariants.{LocalTag, CertificateTag, FirstTag, SecondTag, ApplyTag, InstanceTag}
 use Rattle.bl.specs.declared.CheckTag.{CheckTag}
@@ -72,14 +72,14 @@ module _ (proof : List ℕ) where
     unfoldable pub parts : Todo → Reader Parts
     parts (Times begin) = times_parts
     parts (Inferring room) = do
-      less ← given (inner room)
+      less ← present (inner room)
       b ← byte proof
-      tag ← given (infer_tag b)
+      tag ← present (infer_tag b)
       inferring_parts less tag
     parts (Checking room) = do
-      less ← given (inner room)
+      less ← present (inner room)
       b ← byte proof
-      tag ← given (check_tag b)
+      tag ← present (check_tag b)
       checking_parts less tag
     parts (Second room) = λ at. Some ((0, Checking room ∷ Times at ∷ []), at)
     parts (Both room) = give (0, Checking room ∷ Checking room ∷ [])

@@ -28,20 +28,22 @@ pub fn well_formed(proof: &[u8], certificates: usize, ends: &mut [u16]) -> bool
     let mut states: usize = 0;
     while let Some(todo) = waiting.pop() {
         note_end(ends, &todo, place);
-        match source.open(todo, place) {
-            None => return false,
-            Some(Opened::Leaf {
+        let Some(opened) = source.open(todo, place) else {
+            return false;
+        };
+        match opened {
+            Opened::Leaf {
                 next,
                 states: found,
-            }) => {
+            } => {
                 place = next;
                 states += found;
             }
-            Some(Opened::One { next, part }) => {
+            Opened::One { next, part } => {
                 place = next;
                 waiting.push(part);
             }
-            Some(Opened::Two { next, first, later }) => {
+            Opened::Two { next, first, later } => {
                 place = next;
                 waiting.push(later);
                 waiting.push(first);

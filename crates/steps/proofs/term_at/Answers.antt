@@ -1,22 +1,22 @@
-use Rattle.std.proofs.Common.{rules, ◌≡◌, ℕ, get_or, IfSome, ◌+◌, ◌-◌, ◌*◌, ◌<◌, ◌≤◌, length, ◌/◌, ◌%◌, Bool, true, false, nat_eq, nat_lt, List, [], ◌∷◌, ◌++◌, slice_set, bit_and, bit_or, Fits, w8, w32, w64, Bor, MutBor}
-use Rattle.procap.specs.Bytes.{term}
-use Rattle.procap.specs.Writable.{TermInForm}
-use Rattle.bl.specs.Tags.{infer_tag, check_tag}
-use Rattle.bl.specs.Steps.{time}
+-- The byte at the place is the tag that the reader goes on from; past the end it reads none.
+use mathlib.Core.Path.{◌∙◌}
+use native.Mathlib.Omega.{arith}
+use Rattle.steps.proofs.BytesAt.{as_before, inside}
+use Rattle.steps.proofs.Opening.{no_term_at, term_untagged, term_tagged}
 use Rattle.steps.proofs.term_at.Goals as goal
 
--- src/lib.rt:46:16
 pub returns-in_err-byte-clause-reads : goal.returns-in_err-byte-clause-reads
-returns-in_err-byte-clause-reads c = ?
+returns-in_err-byte-clause-reads c = rw c.from_residual.ensures (no_term_at _ _ c.in_err-byte.ensures)
 
--- src/lib.rt:47:45
+pub returns-in_err-tag-clause-reads : goal.returns-in_err-tag-clause-reads
+returns-in_err-tag-clause-reads c =
+    rw c.from_residual-in_err-tag.ensures
+    (term_untagged c.args.proof.now c.args.at c.in_ok-byte.ensures (c.in_err-tag.ensures.value ∙ (rw c.try_from.ensures (as_before _ _))))
+
 pub overflow_add-at : goal.overflow_add-at
-overflow_add-at c = ?
+overflow_add-at c = omega (arith, inside c.args.proof.now c.args.at c.in_ok-byte.ensures)
 
--- src/lib.rt:42:1
-pub returns-in-Found-clause-reads : goal.returns-in-Found-clause-reads
-returns-in-Found-clause-reads c = ?
-
--- src/lib.rt:42:1
-pub returns-in-NoTerm-clause-reads : goal.returns-in-NoTerm-clause-reads
-returns-in-NoTerm-clause-reads c = ?
+pub returns-clause-reads : goal.returns-clause-reads
+returns-clause-reads c =
+    c.term_by.ensures.reads
+    ∙ term_tagged c.args.proof.now c.args.at c.in_ok-byte.ensures (c.in_ok-tag.ensures.value ∙ (rw c.try_from.ensures (as_before _ _)))

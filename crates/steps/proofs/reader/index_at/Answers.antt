@@ -1,6 +1,6 @@
 -- The byte at the next place; past the end there is none.
 use Prim.Native.Nat.{ℕ, ◌+◌, ◌≤◌, ◌<◌}
-use mathlib.Core.Path.{◌≡◌, sym, ◌∙◌}
+use mathlib.Core.Path.{◌≡◌, refl, sym, ◌∙◌}
 use mathlib.Core.List.{List}
 use Rattle.std.proofs.lemmas.Option.{unwrap_or-slice_get}
 use native.Mathlib.Decide.{dec_lt}
@@ -22,5 +22,5 @@ same_byte bytes at next there stays = by (dec_lt at (length bytes))
 pub returns : goal.returns
 returns c =
     c.unwrap_or.ensures
-    ∙ (rw (c.byte.ensures, c.past.ensures.same) (unwrap_or-slice_get _ _ 0))
-    ∙ same_byte _ _ _ c.past.ensures.there c.past.ensures.stays
+    ∙ (rw (c.byte.ensures, c.past.ensures.same) (unwrap_or-slice_get c.args.proof.now c.past.result.at 0))
+    ∙ same_byte c.args.proof.now c.args.at c.past.result.at c.past.ensures.there c.past.ensures.stays

@@ -1,5 +1,6 @@
 -- By the tag: what is left is what the page says of it.
 use mathlib.Core.Path.{refl}
+use mathlib.Core.Logic.{inl, inr}
 use Rattle.steps.specs.Todo.{inferring_parts, left}
 use Rattle.steps.proofs.Opening.{no_put, put}
 use Rattle.steps.proofs.todo.Source.open_inferring.Goals as goal
@@ -14,7 +15,7 @@ returns-in-CertificateTag c = rw c.in-CertificateTag.is c.open_index-in-Certific
 
 pub returns-in-FirstTag : goal.returns-in-FirstTag
 unfolding inferring_parts left
-returns-in-FirstTag c = ?
+returns-in-FirstTag c = elim c.in-FirstTag.is [ inl e ↦ rw e refl | inr e ↦ rw e refl ]
 
 pub returns-in-ApplyTag : goal.returns-in-ApplyTag
 unfolding inferring_parts left
