@@ -21,7 +21,7 @@ use procap::fact::Term;
 use procap::time::{Time, TimeNumbers};
 use steps::reader::index_at;
 use steps::time_at;
-use strength::asking::as_strong;
+use strength::table::{Strengths, as_strong};
 
 // In whose view a step stands, and on which interval, in plain numbers: 0 for nobody's view, where the rest says nothing, and 1 for a principal's.
 #[derive(Clone, Copy)]
@@ -208,14 +208,14 @@ fn covers(ledger: Ledger, offset: usize, judgement: Judgement, from: Time, to: T
 // What a principal claims or certifies must be usable in the view: the principal must be at least as strong as the view's, and
 // then the judgement's interval must cover the view's.
 fn in_view(
-    strengths: &[u64],
+    strengths: Option<&Strengths>,
     ledger: Ledger,
     offset: usize,
     view: View,
     principal: u64,
     judgement: Judgement,
 ) -> Ledger
-    ensures { NeedsView strengths.now ledger offset view principal judgement result }
+    ensures { NeedsView strengths.entry ledger offset view principal judgement result }
 {
     let from = view.from;
     let to = view.to;
@@ -234,14 +234,14 @@ fn in_view(
 // principal is as strong as.
 fn row_used(
     rows: &[u64],
-    strengths: &[u64],
+    strengths: Option<&Strengths>,
     index: usize,
     scope: Scope,
     offset: usize,
     ledger: Ledger,
     next: usize,
 ) -> Inferred
-    ensures { UsesRow rows.now strengths.now index scope offset ledger next result }
+    ensures { UsesRow rows.now strengths.entry index scope offset ledger next result }
 {
     if MOST_ROWS <= index {
         return nothing(ledger.misfit(offset));
@@ -273,12 +273,12 @@ fn row_used(
 pub fn local(
     proof: &[u8],
     assumptions: &[u64],
-    strengths: &[u64],
+    strengths: Option<&Strengths>,
     scope: Scope,
     offset: usize,
     ledger: Ledger,
 ) -> Inferred
-    ensures { UsesLocal proof.now assumptions.now strengths.now scope offset ledger result }
+    ensures { UsesLocal proof.now assumptions.now strengths.entry scope offset ledger result }
 {
     let back = index_at(proof, offset) as usize;
     let count = scope.count;
@@ -301,12 +301,12 @@ pub fn local(
 pub fn certificate(
     proof: &[u8],
     certificates: &[u64],
-    strengths: &[u64],
+    strengths: Option<&Strengths>,
     scope: Scope,
     offset: usize,
     ledger: Ledger,
 ) -> Inferred
-    ensures { UsesCertificate proof.now certificates.now strengths.now scope offset ledger result }
+    ensures { UsesCertificate proof.now certificates.now strengths.entry scope offset ledger result }
 {
     let index = index_at(proof, offset) as usize;
     let next = past(proof, past(proof, offset));

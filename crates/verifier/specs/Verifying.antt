@@ -13,6 +13,8 @@ use Rattle.bl.specs.declared.Certificate.{Certificate}
 use Rattle.bl.specs.Trees.{Check}
 use Rattle.bl.specs.Certificates.{Statement, statements, statement_of, most_certificates}
 use Rattle.bl.specs.Strength.{pairs_in}
+use Rattle.strength.specs.Strengths.{StrengthsLent}
+use denote.Triple.Both.{Both}
 use Rattle.bl.specs.Policy.{Policy}
 use Rattle.bl.specs.Questions.{done}
 use Rattle.bl.specs.Steps.{proof_in}
@@ -73,9 +75,9 @@ abbrev pub WalkedOver : Asked → Lent → Lent → Lent → Lent → Lent → L
 WalkedOver asked buffer pairs proof state rows ends facts r =
     Walked asked (PolicyRead buffer.entry.now rows.entry.now pairs.entry.now) proof.entry.now state.entry.now ends.entry.now facts.entry.now r facts.exit.now
 
-abbrev pub WalkedBy : Asked → Lent → Lent → Lent → Lent → Lent → Lent → LentToWrite → Ledger → Type 0
+abbrev pub WalkedBy : Asked → Lent → Lent → Lent → Lent → Both StrengthsLent StrengthsLent → Lent → LentToWrite → Ledger → Type 0
 WalkedBy asked buffer proof state rows strengths ends facts r =
-    Walked asked (PolicyLent buffer.entry.now rows.entry.now strengths.entry.now) proof.entry.now state.entry.now ends.entry.now facts.entry.now r facts.exit.now
+    Walked asked (PolicyLent buffer.entry.now rows.entry.now strengths.entry) proof.entry.now state.entry.now ends.entry.now facts.entry.now r facts.exit.now
 
 -- An outcome goes on with a value, or is stopped by its answer.
 abbrev pub Stops : {A : Type 0} → Outcome A → Stop → Type 0
