@@ -4,7 +4,7 @@ ghost use Rattle.judging.specs.Judging.{plain_side};
 ghost use Rattle.judging.specs.StepPromises.{ChecksFalsity};
 
 use crate::judge::{Checked, Inferred, Inside, Sides};
-use crate::rows::{Row, Whose};
+use crate::rows::{Row};
 use bl::FormulaTag;
 use formula::parts::{FormulaAt, Judgement, is_a};
 use procap::time::TimeNumbers;
@@ -25,7 +25,7 @@ pub fn side_on(judgement: Judgement, at: usize, from: TimeNumbers, to: TimeNumbe
         to: to,
     };
     Row {
-        whose: Whose::Plain,
+        whose: None,
         judgement: assumed,
     }
 }

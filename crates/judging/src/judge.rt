@@ -4,13 +4,13 @@ ghost use Rattle.procap.specs.Writable.{TermInForm};
 ghost use Rattle.bl.specs.Walk as walk;
 ghost use Rattle.ledger.specs.Books.{misfitted, Leads};
 ghost use Rattle.formula.specs.Meaning.{from_of, to_of};
-ghost use Rattle.judging.specs.Judging.{outermost, scope_inside, scope_with, part_of, nothing_inferred, top_goal, order_goal, first_side, second_side, put_in};
+ghost use Rattle.judging.specs.Judging.{outermost, scope_inside, scope_with, part_of, nothing_inferred, top_goal, order_goal, side_of, put_in};
 ghost use Rattle.judging.specs.StepPromises.{NeedsView, UsesRow, UsesLocal, UsesCertificate, TakesSides, TakesSidesInferred, StaysStopped, TakesTimes, TakesAt, TakesSays, TakesInside, TakesInsideInferred, Continues, PutsToUse, MeetsGoal, MeetsFact, FitsGoal, ChecksInferred};
 ghost use Rattle.judging.specs.Pieces.{binder_of};
 ghost use Rattle.judging.specs.RowNumbers.{rows_with};
 
 use crate::either::side_inside;
-use crate::rows::{MOST_ROWS, Row, Whose, put_row, row_at};
+use crate::rows::{MOST_ROWS, Row, put_row, row_at};
 use bl::FormulaTag;
 use formula::compare::same;
 use formula::parts::{FormulaAt, Judgement, fact_at, is_a, past_formula, place_at};
@@ -23,21 +23,21 @@ use steps::reader::index_at;
 use steps::time_at;
 use strength::asking::as_strong;
 
-// In whose view a step stands, and on which interval, in plain numbers: 0 for nobody's view, where the rest says nothing, and 1 for a principal's.
+// The view of a principal, and on which interval.
 #[derive(Clone, Copy)]
 pub struct View {
-    pub kind: u64,
     pub principal: u64,
     pub from: TimeNumbers,
     pub to: TimeNumbers,
 }
 
-// Where a step stands: how many assumptions are around it, below which of them the plain ones are shut out, and its view.
+// Where a step stands: how many assumptions are around it, below which of them the plain ones are shut out, and in whose view, if
+// in anybody's.
 #[derive(Clone, Copy)]
 pub struct Scope {
     pub count: usize,
     pub shut: usize,
-    pub view: View,
+    pub view: Option<View>,
 }
 
 // What a step infers, and where it ends. Where the ledger has stopped, the rest says nothing.
@@ -61,6 +61,13 @@ pub struct Sides {
     pub ledger: Ledger,
     pub first: usize,
     pub second: usize,
+}
+
+// A side of a formula with two.
+#[derive(Clone, Copy, Debug, PartialEq, Eq)]
+pub enum Side {
+    First,
+    Second,
 }
 
 // What stands around a formula that a step takes out, or puts in: an "at", a "says", or an "or" around its left or its right side.
@@ -144,12 +151,7 @@ impl Scope {
         Scope {
             count: 0,
             shut: 0,
-            view: View {
-                kind: 0,
-                principal: 0,
-                from: Time::ctime().numbers(),
-                to: Time::ctime().numbers(),
-            },
+            view: None,
         }
     }
 
@@ -157,41 +159,34 @@ impl Scope {
     pub fn inside(self, row: Row) -> Scope
         ensures { result ≡ scope_inside self row }
     {
-        let whose = row.whose;
-        let judgement = row.judgement;
-        let from = judgement.from;
-        let to = judgement.to;
-        match whose {
-            Whose::Plain => self,
-            Whose::Claim(principal) => Scope {
+        match row.whose {
+            None => self,
+            Some(principal) => Scope {
                 count: self.count,
                 shut: self.count,
-                view: View {
-                    kind: 1,
-                    principal: principal,
-                    from: from,
-                    to: to,
-                },
+                view: Some(View {
+                    principal,
+                    from: row.judgement.from,
+                    to: row.judgement.to,
+                }),
             },
         }
     }
 }
 
 // One assumption more: its row is put past those that are there. Where no row has room any more, the scope stays as it was.
+#[tactic(auto, unfolding(crate::specs::Judging::scope_with))]
 pub fn assume(assumptions: &mut [u64], scope: Scope, row: Row) -> Scope
     ensures rows { assumptions.new ≡ rows_with assumptions.old scope.count row }
     ensures scope { result ≡ scope_with scope }
 {
-    let count = scope.count;
-    let view = scope.view;
-    put_row(assumptions, count, row);
-    if MOST_ROWS <= count {
+    put_row(assumptions, scope.count, row);
+    if MOST_ROWS <= scope.count {
         return scope;
     }
     Scope {
-        count: count + 1,
-        shut: scope.shut,
-        view: view,
+        count: scope.count + 1,
+        ..scope
     }
 }
 
@@ -211,23 +206,20 @@ fn in_view(
     strengths: &[u64],
     ledger: Ledger,
     offset: usize,
-    view: View,
+    view: Option<View>,
     principal: u64,
     judgement: Judgement,
 ) -> Ledger
     ensures { NeedsView strengths.now ledger offset view principal judgement result }
 {
-    let from = view.from;
-    let to = view.to;
-    let covered = covers(ledger, offset, judgement, from.time(), to.time());
     let unfit = ledger.misfit(offset);
-    if view.kind == 0 {
+    let Some(view) = view else {
         return unfit;
-    }
+    };
     if !as_strong(strengths, principal, view.principal) {
         return unfit;
     }
-    covered
+    covers(ledger, offset, judgement, view.from.time(), view.to.time())
 }
 
 // A row, used as it stands: a plain assumption unless it is shut out, a claim in a view that it covers, of somebody whom its
@@ -251,7 +243,7 @@ fn row_used(
     let judgement = row.judgement;
     let view = scope.view;
     match whose {
-        Whose::Plain => {
+        None => {
             if index < scope.shut {
                 return nothing(ledger.misfit(offset));
             }
@@ -261,7 +253,7 @@ fn row_used(
                 next: next,
             }
         }
-        Whose::Claim(principal) => Inferred {
+        Some(principal) => Inferred {
             ledger: in_view(strengths, ledger, offset, view, principal, judgement),
             judgement: judgement,
             next: next,
@@ -357,30 +349,24 @@ pub fn sides_inferred(buffer: &[u8], offset: usize, wanted: FormulaTag, inferred
     sides_of(buffer, offset, wanted, judgement, ledger)
 }
 
-// 23: the first side of the conjunction that was inferred.
-pub fn first(buffer: &[u8], offset: usize, inferred: Inferred) -> Inferred
-    ensures { Continues buffer.now inferred (first_side offset) result }
+// 23 and 24: a side of the conjunction that was inferred.
+pub fn conjunct(buffer: &[u8], offset: usize, side: Side, inferred: Inferred) -> Inferred
+    ensures { Continues buffer.now inferred (side_of side offset) result }
 {
-    let parts = sides_inferred(buffer, offset, FormulaTag::AndTag, inferred);
-    let after_parts = parts.ledger;
-    let judgement = inferred.judgement;
-    Inferred {
-        ledger: after_parts,
-        judgement: part_at(judgement, parts.first),
-        next: inferred.next,
+    let sides = sides_inferred(buffer, offset, FormulaTag::AndTag, inferred);
+    match side {
+        Side::First => part_inferred(inferred, sides.ledger, sides.first),
+        Side::Second => part_inferred(inferred, sides.ledger, sides.second),
     }
 }
 
-// 24: the second side of the conjunction that was inferred.
-pub fn second(buffer: &[u8], offset: usize, inferred: Inferred) -> Inferred
-    ensures { Continues buffer.now inferred (second_side offset) result }
+// The part of what was inferred that begins at a place, beside a ledger.
+fn part_inferred(inferred: Inferred, ledger: Ledger, at: usize) -> Inferred
+    ensures { result ≡ record { ledger = ledger; judgement = part_of inferred.judgement at; next = inferred.next } }
 {
-    let parts = sides_inferred(buffer, offset, FormulaTag::AndTag, inferred);
-    let after_parts = parts.ledger;
-    let judgement = inferred.judgement;
     Inferred {
-        ledger: after_parts,
-        judgement: part_at(judgement, parts.second),
+        ledger,
+        judgement: part_at(inferred.judgement, at),
         next: inferred.next,
     }
 }
@@ -517,7 +503,7 @@ pub fn inside_inferred(buffer: &[u8], offset: usize, shell: Shell, inferred: Inf
     let judgement = inferred.judgement;
     if !ledger.goes_on() {
         let row = Row {
-            whose: Whose::Plain,
+            whose: None,
             judgement: judgement,
         };
         return Inside {
@@ -546,7 +532,7 @@ fn lifted(bytes: &[u8], offset: usize, judgement: Judgement, ledger: Ledger) -> 
         terms: terms,
     };
     let row = Row {
-        whose: Whose::Plain,
+        whose: None,
         judgement: on_interval(body, from, to),
     };
     Inside {
@@ -613,7 +599,7 @@ fn said(bytes: &[u8], offset: usize, judgement: Judgement, ledger: Ledger) -> In
         return not_inside(judgement, ledger, offset);
     };
     let row = Row {
-        whose: Whose::Claim(principal as u64),
+        whose: Some(principal as u64),
         judgement: part_at(judgement, read.next),
     };
     Inside {
@@ -627,7 +613,7 @@ fn not_inside(judgement: Judgement, ledger: Ledger, offset: usize) -> Inside
     ensures { result.ledger ≡ misfitted ledger offset }
 {
     let row = Row {
-        whose: Whose::Plain,
+        whose: None,
         judgement: judgement,
     };
     Inside {
