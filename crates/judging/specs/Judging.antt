@@ -1,10 +1,9 @@
 -- What one step makes of a goal or of what was inferred: the parts of the walk that look at no other step.
-use Rattle.std.specs.Prelude.{ℕ, ◌+◌, ◌≡◌, List, eqb, ltb, None, Option, Some}
+use Rattle.std.specs.Prelude.{ℕ, ◌+◌, ◌≡◌, List, ltb, None, Option, Some}
 use Rattle.procap.specs.Tells.{pick}
-use Rattle.procap.specs.Numbered.{time_of, time_numbers}
+use Rattle.procap.specs.Numbered.{time_of}
 use Rattle.procap.specs.declared.time.Time.{Time}
 use Rattle.procap.specs.declared.time.TimeNumbers.{TimeNumbers}
-use Rattle.procap.specs.declared.time.Time.TheVariants.{Ctime}
 use Rattle.procap.specs.declared.fact.Term.{Term}
 use Rattle.bl.specs.declared.FormulaTag.{FormulaTag}
 use Rattle.bl.specs.declared.FormulaTag.TheVariants.{TopTag, AndTag, ImpliesTag, AllNamesTag, AllTimesTag, SaysTag, AtTag, AtomTag, FactTag, OrderTag, OrTag, FalsityTag, NoFormulaTag}
@@ -213,7 +212,7 @@ second_side q (F, a, b) = do
   (A, B) ← and_sides q F
   done (B, a, b)
 
-unfoldable pub side_of : Side → ℕ → walk.Judgement → Walk walk.Judgement
+abbrev pub side_of : Side → ℕ → walk.Judgement → Walk walk.Judgement
 side_of First q j = first_side q j
 side_of Second q j = second_side q j
 

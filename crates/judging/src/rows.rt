@@ -128,7 +128,12 @@ pub fn put_row(rows: &mut [u64], index: usize, row: Row)
     let start = index * ROW_NUMBERS;
     let Judgement { formula, from, to } = row.judgement;
     let FormulaAt { at, terms } = formula;
-    put_two(rows, start, u64::from(row.whose.is_some()), row.whose.unwrap_or(0));
+    put_two(
+        rows,
+        start,
+        u64::from(row.whose.is_some()),
+        row.whose.unwrap_or(0),
+    );
     put_two(rows, start + 2, from.kind, from.second);
     put_two(rows, start + 4, to.kind, to.second);
     put_two(rows, start + 6, at as u64, terms.count as u64);

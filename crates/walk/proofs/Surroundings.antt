@@ -113,7 +113,7 @@ module _ (S : Sources) (rows : List ℕ) (scope : Scope) (left : ℕ) (π : Poli
       record { policy = around.policy; assumed = around.assumed; shut_inside = around.shut_inside; room = omega arith; all_there = around.all_there }
 
   -- The part of a says-in.
-  pub around_said : (view : View) → Around S rows (record { count = scope.count; shut = scope.count; view = view }) left π (map shut_out Γ)
+  pub around_said : (view : Option View) → Around S rows (record { count = scope.count; shut = scope.count; view = view }) left π (map shut_out Γ)
   around_said view =
       let room = around.room in
       record {

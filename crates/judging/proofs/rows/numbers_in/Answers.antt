@@ -1,5 +1,5 @@
 -- The loop has copied the numbers passed, so at its end the array is those of the rows.
-use Rattle.std.proofs.Common.{refl, arith}
+use Rattle.std.proofs.Common.{refl}
 use Rattle.judging.proofs.RowLaws.{none_copied, one_copied, all_copied}
 use Rattle.judging.proofs.rows.numbers_in.Goals as goal
 

@@ -1,5 +1,5 @@
 -- What is copied over as many of the rows' numbers is stored there.
-use Rattle.std.proofs.Common.{arith, sym, append_assoc}
+use Rattle.std.proofs.Common.{arith}
 use Rattle.std.proofs.lemmas.Grind.{common_steps}
 use Rattle.std.proofs.Math.Seq.{sets-eq}
 use Rattle.judging.proofs.rows.put_numbers.Goals as goal
