@@ -1,5 +1,5 @@
 -- What the function of each single step promises, where the formulas that it is handed mean something.
-use Rattle.std.specs.Prelude.{ℕ, ◌+◌, ◌≤◌, ◌<◌, ◌≡◌, List, length, Some}
+use Rattle.std.specs.Prelude.{ℕ, ◌+◌, ◌≤◌, ◌<◌, ◌≡◌, List, length, Option, Some, None}
 use Rattle.procap.specs.Bytes.{byte}
 use Rattle.procap.specs.Numbered.{time_numbers}
 use Rattle.procap.specs.declared.time.Time.{Time}
@@ -26,7 +26,6 @@ use Rattle.judging.specs.declared.judge.Checked.{Checked}
 use Rattle.judging.specs.declared.judge.Sides.{Sides}
 use Rattle.judging.specs.declared.judge.Shell.{Shell}
 use Rattle.judging.specs.declared.judge.Span.{Span}
-use Rattle.judging.specs.declared.rows.Whose.TheVariants.{Plain, Claim}
 use Rattle.judging.specs.declared.judge.Inside.{Inside}
 use Rattle.judging.specs.declared.judge.Application.{Application}
 use Rattle.judging.specs.RowsOf.{RowIs, Assumed, Certified, most_rows, row_in}
@@ -34,7 +33,7 @@ use Rattle.judging.specs.Judging.{view_in, use_local, use_certificate, part_of, 
 use Rattle.judging.specs.Pieces.{two_times}
 
 -- What a principal claims or certifies is usable in the view, by the pairs that gave the strengths.
-abbrev pub NeedsView : StrengthsLent → Ledger → ℕ → View → ℕ → Judgement → Ledger → Type 0
+abbrev pub NeedsView : StrengthsLent → Ledger → ℕ → Option View → ℕ → Judgement → Ledger → Type 0
 NeedsView strengths l q v k j r = (ps : List Pair) → LentStrengthsOf strengths ps → Leads l (walk.need_view ps q (view_in v) k (from_of j) (to_of j)) r
 
 -- A row that is an assumption is used as it stands.
@@ -83,13 +82,13 @@ TakesTimes bytes at terms q l r =
 abbrev pub TakesAt : List ℕ → ℕ → Judgement → Ledger → Inside → Type 0
 TakesAt bytes q j l r =
     (F : Formula) → Means bytes 0 j.formula F
-    → Takes (at_parts q F) q l r.ledger (λ x. (r.row.whose ≡ Plain) × On bytes r.row.judgement x.0 x.1 x.2)
+    → Takes (at_parts q F) q l r.ledger (λ x. (r.row.whose ≡ None) × On bytes r.row.judgement x.0 x.1 x.2)
 
 -- 2A, 2B: a "says" is taken apart; what is said keeps the interval.
 abbrev pub TakesSays : List ℕ → ℕ → Judgement → Ledger → Inside → Type 0
 TakesSays bytes q j l r =
     (F : Formula) → Means bytes 0 j.formula F
-    → Takes (says_parts q F) q l r.ledger (λ x. (r.row.whose ≡ Claim x.0) × On bytes r.row.judgement x.1 (from_of j) (to_of j))
+    → Takes (says_parts q F) q l r.ledger (λ x. (r.row.whose ≡ Some x.0) × On bytes r.row.judgement x.1 (from_of j) (to_of j))
 
 -- 28, 29, 2A, 2B, 2E, 2F: what stands inside of a shell is taken out, as a row that is that assumption.
 abbrev pub TakesInside : List ℕ → ℕ → Shell → Judgement → Ledger → Inside → Type 0

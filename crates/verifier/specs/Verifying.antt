@@ -27,7 +27,6 @@ use Rattle.steps.specs.Ends.{ToldChecking, EndsTold}
 use Rattle.ledger.specs.declared.Ledger.{Ledger}
 use Rattle.ledger.specs.Books.{begun, book, list_numbers, Sound, resume}
 use Rattle.judging.specs.declared.rows.Row.{Row}
-use Rattle.judging.specs.declared.rows.Whose.TheVariants.{Claim}
 use Rattle.formula.specs.PutIn.{no_terms}
 use Rattle.judging.specs.RowsOf.{row_in, all_numbers, Certified}
 use Rattle.walk.specs.Walking.{PolicyLent}
@@ -43,7 +42,7 @@ no_record = record { principal = 0; from = Moment 0; to = Moment 0; start = 0; l
 -- The row of a record: a claim of its principal, with no terms put in.
 abbrev pub row_of : Certificate → Row
 row_of c = record {
-  whose = Claim c.principal;
+  whose = Some c.principal;
   judgement = record { formula = record { at = c.start; terms = no_terms }; from = time_numbers c.from; to = time_numbers c.to };
 }
 

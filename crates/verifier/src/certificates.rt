@@ -9,7 +9,7 @@ use bl::Certificate;
 use formula::ends::holds_formula;
 use formula::parts::{FormulaAt, Judgement};
 use formula::terms::Terms;
-use judging::rows::{Row, Whose, put_row};
+use judging::rows::{Row, put_row};
 use procap::answer::Answer;
 use procap::time::{LATEST_SECOND, Time};
 
@@ -106,7 +106,7 @@ fn row_of(certificate: Certificate) -> Row
         to: to.numbers(),
     };
     Row {
-        whose: Whose::Claim(certificate.principal as u64),
+        whose: Some(certificate.principal as u64),
         judgement: judgement,
     }
 }

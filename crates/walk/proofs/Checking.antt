@@ -33,7 +33,7 @@ use Rattle.ledger.specs.Books.{GoesOn, book, Sound, Gives}
 use Rattle.formula.specs.Meaning.{from_of, to_of, Means, On}
 use Rattle.judging.specs.RowsOf.{RowIs, is_plain, is_claim, is_shut}
 use Rattle.judging.specs.RowNumbers.{rows_with}
-use Rattle.judging.specs.Judging.{view_by, view_in, view_on, scope_inside, scope_with, part_of, and_then, sides, TwoSided, and_sides, inside, top_goal, fact_goal, order_goal, Passes}
+use Rattle.judging.specs.Judging.{view_in, view_on, scope_inside, scope_with, part_of, and_then, sides, TwoSided, and_sides, inside, top_goal, fact_goal, order_goal, Passes}
 use Rattle.judging.specs.StepPromises.{TakesSides, TakesInside, TakesInsideInferred, StaysStopped, ChecksInferred}
 use Rattle.walk.specs.Walking.{Sources, Around, Keeps, InfersAt, ChecksAt, ChecksBy}
 use Rattle.walk.specs.WalkCalls.{Puts, puts_at, puts_says, puts_left, puts_right, TakesOut, takes_at, takes_says}
@@ -309,13 +309,13 @@ module _ (S : Sources) (rows : List ℕ) (scope : Scope) (ledger : Ledger) (list
             → ChecksAt S rows (scope_inside scope held.row) held.ledger list left goal_bytes held.row.judgement begin r list'
             → (x : Assumption) → RowIs goal_bytes held.row 0 0 x
             → Passes S.state (book held.ledger list) (check_inside π Γ view N x) e r list'
-        unfolding check_inside view_by
+        unfolding check_inside view_in
         part_passes π Γ N e sound around begin reads told {r} {list'} checks x (is_plain {A} {a} {b} plain-Row usable on) =
             passes_on S.state goal_bytes held.row.judgement A a b on (check π Γ view N A) (book held.ledger list) e r list'
             ((rw plain-Row at checks) π Γ N e sound (around_part S rows scope left π Γ around) reads told A on.means)
         part_passes π Γ N e sound around begin reads told {r} {list'} checks x (is_claim {k} {A} {a} {b} claimed on) =
             passes_on S.state goal_bytes held.row.judgement A a b on (λ a b. check π (map shut_out Γ) (view_of k a b) N A a b) (book held.ledger list) e r list'
-            ((rw claimed at checks) π (map shut_out Γ) N e sound (around_said S rows scope left π Γ around (view_on k held.row.judgement)) reads told A on.means)
+            ((rw claimed at checks) π (map shut_out Γ) N e sound (around_said S rows scope left π Γ around (Some (view_on k held.row.judgement))) reads told A on.means)
         part_passes π Γ N e sound around begin reads told checks x (is_shut plain-Row lower) = absurd (omega arith)
 
         pub check_put : GoesOn held.ledger → {begin : ℕ} → (at < length S.proof → begin ≡ at + 1) → {r : Checked} {list' : List ℕ}

@@ -9,9 +9,9 @@ use bl::{CheckTag, FormulaTag, InferTag};
 use formula::parts::Judgement;
 use judging::either::{from_falsity, side_on};
 use judging::judge::{
-    Checked, Inferred, Scope, Shell, assume, certificate, checked_by, first, inside_inferred,
-    inside_of, instance, local, nothing, order, part_at, put_to_use, second, sides_inferred,
-    sides_of, state_fact, top,
+    Checked, Inferred, Scope, Shell, Side, assume, certificate, checked_by, conjunct,
+    inside_inferred, inside_of, instance, local, nothing, order, part_at, put_to_use,
+    sides_inferred, sides_of, state_fact, top,
 };
 use ledger::Ledger;
 use procap::bytes::past;
@@ -70,8 +70,8 @@ fn infer(
     match tag {
         InferTag::LocalTag => local(proof, assumptions, strengths, scope, at, ledger),
         InferTag::CertificateTag => certificate(proof, certificates, strengths, scope, at, ledger),
-        InferTag::FirstTag => first(buffer, at, infer(buffer, proof, state, certificates, strengths, ends, facts, assumptions, infer_tag_at(proof, begin), here.part(begin, ledger))),
-        InferTag::SecondTag => second(buffer, at, infer(buffer, proof, state, certificates, strengths, ends, facts, assumptions, infer_tag_at(proof, begin), here.part(begin, ledger))),
+        InferTag::FirstTag => conjunct(buffer, at, Side::First, infer(buffer, proof, state, certificates, strengths, ends, facts, assumptions, infer_tag_at(proof, begin), here.part(begin, ledger))),
+        InferTag::SecondTag => conjunct(buffer, at, Side::Second, infer(buffer, proof, state, certificates, strengths, ends, facts, assumptions, infer_tag_at(proof, begin), here.part(begin, ledger))),
         InferTag::ApplyTag => {
             let part = infer(buffer, proof, state, certificates, strengths, ends, facts, assumptions, infer_tag_at(proof, begin), here.part(begin, ledger));
             let used = put_to_use(buffer, proof, at, part, end_in(ends, part.next));

@@ -218,10 +218,10 @@ pub infer-returns-in-CertificateTag : goal.infer-returns-in-CertificateTag
 infer-returns-in-CertificateTag t c = record { walks = λ is. infer_tagged _ _ _ _ _ _ (c.args.here.left - 1) _ _ (a_level c.args.here.left (omega (arith, c.if-here-eq0.false))) (sym is ∙ c.in-CertificateTag.is) (infer_certificate _ _ _ _ _ _ _ c.certificate.ensures); keeps = keeps_same _ _ }
 
 pub infer-returns-in-FirstTag : goal.infer-returns-in-FirstTag
-infer-returns-in-FirstTag t c = record { walks = λ is. infer_tagged _ _ _ _ _ _ (c.args.here.left - 1) _ _ (a_level c.args.here.left (omega (arith, c.if-here-eq0.false))) (sym is ∙ c.in-FirstTag.is) (infer_first _ _ _ _ _ _ _ c.past-begin.ensures.there ((rw c.part.ensures at c.infer.ensures.walks) c.infer_tag_at.ensures) c.first.ensures); keeps = (rw c.part.ensures at c.infer.ensures.keeps) }
+infer-returns-in-FirstTag t c = record { walks = λ is. infer_tagged _ _ _ _ _ _ (c.args.here.left - 1) _ _ (a_level c.args.here.left (omega (arith, c.if-here-eq0.false))) (sym is ∙ c.in-FirstTag.is) (infer_first _ _ _ _ _ _ _ c.past-begin.ensures.there ((rw c.part.ensures at c.infer.ensures.walks) c.infer_tag_at.ensures) c.conjunct.ensures); keeps = (rw c.part.ensures at c.infer.ensures.keeps) }
 
 pub infer-returns-in-SecondTag : goal.infer-returns-in-SecondTag
-infer-returns-in-SecondTag t c = record { walks = λ is. infer_tagged _ _ _ _ _ _ (c.args.here.left - 1) _ _ (a_level c.args.here.left (omega (arith, c.if-here-eq0.false))) (sym is ∙ c.in-SecondTag.is) (infer_second _ _ _ _ _ _ _ c.past-begin.ensures.there ((rw c.part-in-SecondTag.ensures at c.infer-in-SecondTag.ensures.walks) c.infer_tag_at-in-SecondTag.ensures) c.second.ensures); keeps = (rw c.part-in-SecondTag.ensures at c.infer-in-SecondTag.ensures.keeps) }
+infer-returns-in-SecondTag t c = record { walks = λ is. infer_tagged _ _ _ _ _ _ (c.args.here.left - 1) _ _ (a_level c.args.here.left (omega (arith, c.if-here-eq0.false))) (sym is ∙ c.in-SecondTag.is) (infer_second _ _ _ _ _ _ _ c.past-begin.ensures.there ((rw c.part-in-SecondTag.ensures at c.infer-in-SecondTag.ensures.walks) c.infer_tag_at-in-SecondTag.ensures) c.conjunct-in-SecondTag.ensures); keeps = (rw c.part-in-SecondTag.ensures at c.infer-in-SecondTag.ensures.keeps) }
 
 pub infer-returns-else-not-goes_on : goal.infer-returns-else-not-goes_on
 infer-returns-else-not-goes_on t c = record { walks = λ is. infer_tagged _ _ _ _ _ _ (c.args.here.left - 1) _ _ (a_level c.args.here.left (omega (arith, c.if-here-eq0.false))) (sym is ∙ c.in-ApplyTag.is) (infer_apply _ _ _ _ _ _ _ c.past-begin.ensures.there ((rw c.part-in-ApplyTag.ensures at c.infer-part.ensures.walks) c.infer_tag_at-in-ApplyTag.ensures) c.end_in.ensures c.put_to_use-used.ensures.going c.put_to_use-used.ensures.stopped (holds_else c.goes_on.result c.if-not-goes_on.false-raw c.goes_on.ensures) c.part_at.ensures (checks_kept _ _ _ _ _ _ _ _ _ _ (rw c.part-in-ApplyTag.ensures at c.infer-part.ensures.keeps) (rw c.part-in-ApplyTag-2.ensures at c.check-checked.ensures.walks))); keeps = keeps_then (rw c.part-in-ApplyTag.ensures at c.infer-part.ensures.keeps) (rw c.part-in-ApplyTag-2.ensures at c.check-checked.ensures.keeps) }

@@ -15,8 +15,8 @@ returns c =
     let ends = time_found _ _ other k t2 e₄ (rw begins.1 time₂) in
     put_to_use c.args.inferred.judgement c.sides_of-parts.result.first c.sides_of-parts.result.second _ on.from on.to begins.0 ends.0 s
     (c.sides_of-parts.ensures F tt on.means)
-    (λ sound. c.covers-after_asked.ensures state list sound)
-    (rw (c.numbers-starts.ensures, c.numbers-ends.ensures) at c.on_interval.ensures)
+    (λ sound. c.covers.ensures state list sound)
+    (rw (c.numbers.ensures, c.numbers-2.ensures, c.part_at.ensures) refl)
     refl
     refl
     ends.1
