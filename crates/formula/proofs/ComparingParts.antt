@@ -5,8 +5,10 @@ use mathlib.Core.List.{List}
 use native.Mathlib.Omega.{arith}
 use lib.ListN.{length}
 use Rattle.bl.specs.declared.FormulaTag.{FormulaTag}
-use Rattle.bl.specs.declared.FormulaTag.TheVariants.{TopTag, AndTag, ImpliesTag, SaysTag, AtTag, AtomTag, FactTag, OrderTag, OrTag, FalsityTag, NoFormulaTag}
-use Rattle.bl.specs.Trees.{Place, Sort, names, times, Formula, and, implies, all, or}
+use Rattle.bl.specs.declared.FormulaTag.TheVariants.{TopTag, AndTag, ImpliesTag, SaysTag, AtTag, AtomTag, FactTag, OrderTag, OrTag, FalsityTag}
+use Rattle.bl.specs.declared.Sort.{Sort}
+use Rattle.bl.specs.declared.Sort.TheVariants.{Names, Times}
+use Rattle.bl.specs.Trees.{Place, Formula, and, implies, all, or}
 use Rattle.bl.specs.Questions.{done, ◌>>=◌, ◌>>◌, Test, need, need_equal}
 use Rattle.bl.specs.Kinds.{as_top, as_and, as_implies, as_all, as_says, as_at, as_atom, as_fact, as_order, as_or, as_falsity}
 use Rattle.bl.specs.Walk.{same_place, same_places, same_sort, same}
@@ -35,8 +37,8 @@ headed bytes d f m x = record {
 -- A for-all and another of its sort.
 same_binder : (q : ℕ) (s : Sort) (A A' : Formula) → same q (all s A) (all s A') ≡ same q A A'
 unfolding same need as_all same_sort ◌>>=◌
-same_binder q names A A' = refl
-same_binder q times A A' = refl
+same_binder q Names A A' = refl
+same_binder q Times A A' = refl
 
 -- A pair of formulas of one tag, and the pair of the places after their tags.
 module _ (left_bytes right_bytes : List ℕ) (pair parts : Pair) (l : Ledger) (levels : ℕ) (tag : FormulaTag) (r : Compared)

@@ -8,7 +8,8 @@ use Rattle.procap.specs.declared.time.Time.{Time}
 use Rattle.procap.specs.declared.fact.Term.{Term}
 use Rattle.procap.specs.declared.fact.Term.TheVariants.{Name, When}
 use Rattle.procap.proofs.ReadApart.{first_of, none_of}
-use Rattle.bl.specs.Trees.{Place, fixed, Sort}
+use Rattle.bl.specs.declared.Sort.{Sort}
+use Rattle.bl.specs.Trees.{Place, fixed}
 use Rattle.bl.specs.Formulas.{argument}
 use Rattle.bl.specs.Questions.{done, misfit, ◌>>=◌, ◌>>◌, ask_order, need, need_equal}
 use Rattle.bl.specs.Kinds.{as_name, as_time, as_variable}

@@ -21,8 +21,10 @@ use Rattle.procap.specs.declared.time.Time.{Time}
 use Rattle.procap.proofs.Telling.{tells_picked}
 use Rattle.procap.proofs.ReadApart.{not_read, from_tag}
 use Rattle.bl.specs.declared.FormulaTag.{FormulaTag}
-use Rattle.bl.specs.declared.FormulaTag.TheVariants.{TopTag, AndTag, ImpliesTag, AllNamesTag, AllTimesTag, SaysTag, AtTag, AtomTag, FactTag, OrderTag, OrTag, FalsityTag, NoFormulaTag}
-use Rattle.bl.specs.Trees.{Place, fixed, bound, Sort, names, times, Formula, top, and, implies, at, order, or, falsity}
+use Rattle.bl.specs.declared.FormulaTag.TheVariants.{TopTag, AndTag, ImpliesTag, AllNamesTag, AllTimesTag, SaysTag, AtTag, AtomTag, FactTag, OrderTag, OrTag, FalsityTag}
+use Rattle.bl.specs.declared.Sort.{Sort}
+use Rattle.bl.specs.declared.Sort.TheVariants.{Names, Times}
+use Rattle.bl.specs.Trees.{Place, fixed, bound, Formula, top, and, implies, at, order, or, falsity}
 use Rattle.bl.specs.Tags.{formula_tag}
 use Rattle.bl.specs.Formulas.{most_formula_levels, most_binders, variable_of, place_of, fixed_by, place_by, argument, place, for_all, formula_by, formula, formula_in}
 use Rattle.formula.specs.declared.ends.End.{End}
@@ -95,17 +97,17 @@ module _ (part : List ℕ) (tag : TermTag) (from : ℕ) (sorts : List Sort) wher
   unfolding fixed_by then place_of variable_of sort_of
   a_name x n next d e = (fixed (Name n), rw (e, d) refl, sort)
     where
-      sort : OfSort sorts names (fixed (Name n))
-      sort names = refl
-      sort times = refl
+      sort : OfSort sorts Names (fixed (Name n))
+      sort Names = refl
+      sort Times = refl
 
   pub a_time : (x : Term) (t : Time) (next : ℕ) → x ≡ When t → term_by part tag from ≡ Some (x, next) → PlaceEnds sorts (fixed_by part tag from) (Found true next)
   unfolding fixed_by then place_of variable_of sort_of
   a_time x t next d e = (fixed (When t), rw (e, d) refl, sort)
     where
-      sort : OfSort sorts times (fixed (When t))
-      sort names = refl
-      sort times = refl
+      sort : OfSort sorts Times (fixed (When t))
+      sort Names = refl
+      sort Times = refl
 
 module _ (part : List ℕ) (sorts : List Sort) (from : ℕ) where
   -- A variable without its index, or without its binder, is no place; else it is of its binder's sort.
@@ -147,11 +149,11 @@ module _ (part : List ℕ) (sorts : List Sort) (from : ℕ) where
     place_of_other e = rw (h.1, h.2 (sort_of wanted), sort_told wanted is, e) refl
 
   -- Two times end where the second does.
-  pub no_times : place part times sorts from ≡ None → two_times part sorts from ≡ None
+  pub no_times : place part Times sorts from ≡ None → two_times part sorts from ≡ None
   unfolding two_times
   no_times e = none_after _ _ e
 
-  pub times_end : (middle : ℕ) (r : End) → Ends (place part times sorts from) (At middle) → Ends (place part times sorts middle) r → Ends (two_times part sorts from) r
+  pub times_end : (middle : ℕ) (r : End) → Ends (place part Times sorts from) (At middle) → Ends (place part Times sorts middle) r → Ends (two_times part sorts from) r
   unfolding two_times
   times_end middle r h k = goes_on _ _ h.0 middle r h.1 (made_of _ (λ t. (h.0, t)) r k)
 
@@ -245,55 +247,55 @@ module _ (part : List ℕ) (below : List Sort → Reader Formula) (sorts : List 
   sides_end b r h k make = both_ended _ _ make b r h k
 
   -- The formulas by their tags.
-  pub top_ends : Ends (formula_by part below sorts TopTag from) (At from)
+  pub top_ends : Ends (formula_by part below sorts (Some TopTag) from) (At from)
   unfolding formula_by
   top_ends = (top, refl)
 
-  pub and_ends : (r : End) → SidesEndAt r → Ends (formula_by part below sorts AndTag from) r
+  pub and_ends : (r : End) → SidesEndAt r → Ends (formula_by part below sorts (Some AndTag) from) r
   unfolding formula_by
   and_ends r h = h and
 
-  pub implies_ends : (r : End) → SidesEndAt r → Ends (formula_by part below sorts ImpliesTag from) r
+  pub implies_ends : (r : End) → SidesEndAt r → Ends (formula_by part below sorts (Some ImpliesTag) from) r
   unfolding formula_by
   implies_ends r h = h implies
 
-  pub all_names_ends : (r : End) → Ends (for_all part below sorts names from) r → Ends (formula_by part below sorts AllNamesTag from) r
+  pub all_names_ends : (r : End) → Ends (for_all part below sorts Names from) r → Ends (formula_by part below sorts (Some AllNamesTag) from) r
   unfolding formula_by
   all_names_ends r h = h
 
-  pub all_times_ends : (r : End) → Ends (for_all part below sorts times from) r → Ends (formula_by part below sorts AllTimesTag from) r
+  pub all_times_ends : (r : End) → Ends (for_all part below sorts Times from) r → Ends (formula_by part below sorts (Some AllTimesTag) from) r
   unfolding formula_by
   all_times_ends r h = h
 
-  pub says_ends : (b r : End) → Ends (place part names sorts from) b → EndsAfter (below sorts) b r → Ends (formula_by part below sorts SaysTag from) r
+  pub says_ends : (b r : End) → Ends (place part Names sorts from) b → EndsAfter (below sorts) b r → Ends (formula_by part below sorts (Some SaysTag) from) r
   unfolding formula_by
   says_ends b r h k = both_ended _ _ _ b r h k
 
-  pub at_ends : (b r : End) → Ends (two_times part sorts from) b → EndsAfter (below sorts) b r → Ends (formula_by part below sorts AtTag from) r
+  pub at_ends : (b r : End) → Ends (two_times part sorts from) b → EndsAfter (below sorts) b r → Ends (formula_by part below sorts (Some AtTag) from) r
   unfolding formula_by two_times
   at_ends b r h k = paired _ _ _ r (both_ended _ (below sorts) (λ ts. at ts.0 ts.1) b r h k)
 
-  pub atom_ends : (r : End) → Ends (predicate_and part (argument part sorts) from) r → Ends (formula_by part below sorts AtomTag from) r
+  pub atom_ends : (r : End) → Ends (predicate_and part (argument part sorts) from) r → Ends (formula_by part below sorts (Some AtomTag) from) r
   unfolding formula_by
   atom_ends r h = made_of _ _ r h
 
-  pub fact_ends : (r : End) → Ends (predicate_and part (argument part sorts) from) r → Ends (formula_by part below sorts FactTag from) r
+  pub fact_ends : (r : End) → Ends (predicate_and part (argument part sorts) from) r → Ends (formula_by part below sorts (Some FactTag) from) r
   unfolding formula_by
   fact_ends r h = made_of _ _ r h
 
-  pub order_ends : (r : End) → Ends (two_times part sorts from) r → Ends (formula_by part below sorts OrderTag from) r
+  pub order_ends : (r : End) → Ends (two_times part sorts from) r → Ends (formula_by part below sorts (Some OrderTag) from) r
   unfolding formula_by two_times
   order_ends r h = paired _ _ _ r (made_of _ (λ ts. order ts.0 ts.1) r h)
 
-  pub or_ends : (r : End) → SidesEndAt r → Ends (formula_by part below sorts OrTag from) r
+  pub or_ends : (r : End) → SidesEndAt r → Ends (formula_by part below sorts (Some OrTag) from) r
   unfolding formula_by
   or_ends r h = h or
 
-  pub falsity_ends : Ends (formula_by part below sorts FalsityTag from) (At from)
+  pub falsity_ends : Ends (formula_by part below sorts (Some FalsityTag) from) (At from)
   unfolding formula_by
   falsity_ends = (falsity, refl)
 
-  pub no_formula : formula_by part below sorts NoFormulaTag from ≡ None
+  pub no_formula : formula_by part below sorts None from ≡ None
   unfolding formula_by
   no_formula = refl
 

@@ -19,7 +19,8 @@ use Rattle.procap.proofs.ReadApart.{none_of}
 use Rattle.procap.proofs.ReadSoFar.{led_by, ReadSoFar, none_yet, one_more, none_more, rest_is}
 use Rattle.procap.proofs.WithPredicate.{fact_with}
 use Rattle.bl.specs.declared.FormulaTag.TheVariants.{FactTag}
-use Rattle.bl.specs.Trees.{Place, fixed, bound, Sort, fact}
+use Rattle.bl.specs.declared.Sort.{Sort}
+use Rattle.bl.specs.Trees.{Place, fixed, bound, fact}
 use Rattle.bl.specs.Formulas.{argument}
 use Rattle.bl.specs.Kinds.{as_term, terms_too, as_terms, as_fact}
 use Rattle.formula.specs.declared.terms.Terms.{Terms}
@@ -165,7 +166,7 @@ module _ {bytes : List ℕ} {terms : Terms} {count at : ℕ} {arguments : List A
 -- ── The fact that a formula is ──
 
 -- A formula that means a fact has its tag.
-fact_tagged : (bytes : List ℕ) (f : FormulaAt) (p : ℕ) (xs : List Place) → Means bytes 0 f (fact p xs) → tag_of bytes f.at ≡ FactTag
+fact_tagged : (bytes : List ℕ) (f : FormulaAt) (p : ℕ) (xs : List Place) → Means bytes 0 f (fact p xs) → tag_of bytes f.at ≡ Some FactTag
 unfolding as_fact
 fact_tagged bytes f p xs m =
     elim (ℕ_discrete (tag_byte (tag_of bytes f.at)) (tag_byte FactTag))

@@ -9,8 +9,10 @@ use Rattle.procap.specs.Bytes.{then, give, predicate_and}
 use Rattle.procap.proofs.Readers.{IfRead, unread, read, so_read, ensure_read}
 use Rattle.procap.proofs.ReadApart.{not_read, byte_then}
 use Rattle.bl.specs.declared.FormulaTag.{FormulaTag}
-use Rattle.bl.specs.declared.FormulaTag.TheVariants.{TopTag, AndTag, ImpliesTag, AllNamesTag, AllTimesTag, SaysTag, AtTag, AtomTag, FactTag, OrderTag, OrTag, FalsityTag, NoFormulaTag}
-use Rattle.bl.specs.Trees.{Place, Sort, names, times, Formula, and, implies, atom, fact, or}
+use Rattle.bl.specs.declared.FormulaTag.TheVariants.{TopTag, AndTag, ImpliesTag, AllNamesTag, AllTimesTag, SaysTag, AtTag, AtomTag, FactTag, OrderTag, OrTag, FalsityTag}
+use Rattle.bl.specs.declared.Sort.{Sort}
+use Rattle.bl.specs.declared.Sort.TheVariants.{Names, Times}
+use Rattle.bl.specs.Trees.{Place, Formula, and, implies, atom, fact, or}
 use Rattle.bl.specs.Formulas.{argument, place, for_all, formula_by, formula}
 use Rattle.formula.specs.Meaning.{tag_of}
 use Rattle.formula.proofs.PartsRead.{EndsAt, after_end}
@@ -93,17 +95,17 @@ module _ (bytes : List ℕ) where
 
       pub all_names_end : tag ≡ AllNamesTag → FormulaEnds at left r
       unfolding formula_by
-      all_names_end k = ends_by k (under_ends names)
+      all_names_end k = ends_by k (under_ends Names)
 
       pub all_times_end : tag ≡ AllTimesTag → FormulaEnds at left r
       unfolding formula_by
-      all_times_end k = ends_by k (under_ends times)
+      all_times_end k = ends_by k (under_ends Times)
 
     pub says_ends : (m : ℕ) → PlaceEnds after m → FormulaEnds m (left - 1) r → tag ≡ SaysTag → FormulaEnds at left r
     unfolding formula_by
     says_ends m h h' k =
         ends_by k λ n sorts l.
-        after_end (place bytes names sorts after) m _ (sorted_ends after m h names sorts) λ x.
+        after_end (place bytes Names sorts after) m _ (sorted_ends after m h Names sorts) λ x.
         after_end (formula bytes n sorts m) r _ (λ A e. h' n sorts A e l) λ A.
         read refl
 
@@ -111,8 +113,8 @@ module _ (bytes : List ℕ) where
     unfolding formula_by
     at_ends m m' h h' g k =
         ends_by k λ n sorts l.
-        after_end (place bytes times sorts after) m _ (sorted_ends after m h times sorts) λ x.
-        after_end (place bytes times sorts m) m' _ (sorted_ends m m' h' times sorts) λ y.
+        after_end (place bytes Times sorts after) m _ (sorted_ends after m h Times sorts) λ x.
+        after_end (place bytes Times sorts m) m' _ (sorted_ends m m' h' Times sorts) λ y.
         after_end (formula bytes n sorts m') r _ (λ A e. g n sorts A e l) λ A.
         read refl
 
@@ -120,8 +122,8 @@ module _ (bytes : List ℕ) where
     unfolding formula_by
     order_ends m h h' k =
         ends_by k λ n sorts l.
-        after_end (place bytes times sorts after) m _ (sorted_ends after m h times sorts) λ x.
-        after_end (place bytes times sorts m) r _ (sorted_ends m r h' times sorts) λ y.
+        after_end (place bytes Times sorts after) m _ (sorted_ends after m h Times sorts) λ x.
+        after_end (place bytes Times sorts m) r _ (sorted_ends m r h' Times sorts) λ y.
         read refl
 
     -- A predicate with its places.

@@ -5,7 +5,8 @@ use mathlib.Core.List.{List}
 use Rattle.std.proofs.lemmas.Option.{none-some}
 use Rattle.std.specs.Prelude.{Some}
 use lib.ListN.{length}
-use Rattle.bl.specs.Trees.{Sort, Formula}
+use Rattle.bl.specs.declared.Sort.{Sort}
+use Rattle.bl.specs.Trees.{Formula}
 use Rattle.bl.specs.Formulas.{argument, place, formula_by, formula}
 use Rattle.formula.specs.Meaning.{tag_of}
 use Rattle.procap.proofs.Readers.{IfRead, read, then_read, ensure_read}

@@ -16,8 +16,9 @@ use Rattle.procap.proofs.Telling.{tells_if}
 use Rattle.procap.proofs.Readers.{IfRead, unread, read, so_read, then_read, ensure_read}
 use Rattle.procap.proofs.ReadApart.{if_read, as_read, same_read, not_read, byte_then, first_of, none_of}
 use Rattle.bl.specs.declared.FormulaTag.{FormulaTag}
-use Rattle.bl.specs.declared.FormulaTag.TheVariants.{TopTag, AndTag, ImpliesTag, AllNamesTag, AllTimesTag, SaysTag, AtTag, AtomTag, FactTag, OrderTag, OrTag, FalsityTag, NoFormulaTag}
-use Rattle.bl.specs.Trees.{Place, fixed, bound, Sort}
+use Rattle.bl.specs.declared.FormulaTag.TheVariants.{TopTag, AndTag, ImpliesTag, AllNamesTag, AllTimesTag, SaysTag, AtTag, AtomTag, FactTag, OrderTag, OrTag, FalsityTag}
+use Rattle.bl.specs.declared.Sort.{Sort}
+use Rattle.bl.specs.Trees.{Place, fixed, bound}
 use Rattle.bl.specs.Tags.{formula_tag}
 use Rattle.bl.specs.Formulas.{fixed_by, place_by, argument}
 use Rattle.formula.specs.declared.terms.Terms.{Terms}

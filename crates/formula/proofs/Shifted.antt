@@ -15,8 +15,10 @@ use Rattle.procap.specs.declared.tag.TermTag.{TermTag}
 use Rattle.procap.specs.declared.tag.TermTag.TheVariants.{NameTag, MomentTag, MinusInfinityTag, PlusInfinityTag, CtimeTag, VariableTag, NoTermTag}
 use Rattle.procap.proofs.ReadApart.{at_the_end}
 use Rattle.bl.specs.declared.FormulaTag.{FormulaTag}
-use Rattle.bl.specs.declared.FormulaTag.TheVariants.{TopTag, AndTag, ImpliesTag, AllNamesTag, AllTimesTag, SaysTag, AtTag, AtomTag, FactTag, OrderTag, OrTag, FalsityTag, NoFormulaTag}
-use Rattle.bl.specs.Trees.{Sort, names, times, Formula}
+use Rattle.bl.specs.declared.FormulaTag.TheVariants.{TopTag, AndTag, ImpliesTag, AllNamesTag, AllTimesTag, SaysTag, AtTag, AtomTag, FactTag, OrderTag, OrTag, FalsityTag}
+use Rattle.bl.specs.declared.Sort.{Sort}
+use Rattle.bl.specs.declared.Sort.TheVariants.{Names, Times}
+use Rattle.bl.specs.Trees.{Formula}
 use Rattle.bl.specs.Tags.{formula_tag}
 use Rattle.bl.specs.Formulas.{most_formula_levels, fixed_by, place_by, argument, place, for_all, formula_by, formula, formula_in}
 
@@ -167,40 +169,40 @@ module _ (buffer : List ℕ) (start size : ℕ) (fits : start + size ≤ length 
         both_shift (below (s ∷ sorts)) λ A.
         give_shifts
 
-    formula_by_shifts : (tag : FormulaTag) → Shifts start (formula_by part here sorts tag) (formula_by buffer there sorts tag)
+    formula_by_shifts : (tag : Option FormulaTag) → Shifts start (formula_by part here sorts tag) (formula_by buffer there sorts tag)
     unfolding formula_by
-    formula_by_shifts TopTag = give_shifts
-    formula_by_shifts AndTag =
+    formula_by_shifts (Some TopTag) = give_shifts
+    formula_by_shifts (Some AndTag) =
         both_shift (below sorts) λ A.
         both_shift (below sorts) λ B.
         give_shifts
-    formula_by_shifts ImpliesTag =
+    formula_by_shifts (Some ImpliesTag) =
         both_shift (below sorts) λ A.
         both_shift (below sorts) λ B.
         give_shifts
-    formula_by_shifts AllNamesTag = for_all_shifts names
-    formula_by_shifts AllTimesTag = for_all_shifts times
-    formula_by_shifts SaysTag =
-        both_shift (place_shifts sorts names) λ k.
+    formula_by_shifts (Some AllNamesTag) = for_all_shifts Names
+    formula_by_shifts (Some AllTimesTag) = for_all_shifts Times
+    formula_by_shifts (Some SaysTag) =
+        both_shift (place_shifts sorts Names) λ k.
         both_shift (below sorts) λ A.
         give_shifts
-    formula_by_shifts AtTag =
-        both_shift (place_shifts sorts times) λ t1.
-        both_shift (place_shifts sorts times) λ t2.
+    formula_by_shifts (Some AtTag) =
+        both_shift (place_shifts sorts Times) λ t1.
+        both_shift (place_shifts sorts Times) λ t2.
         both_shift (below sorts) λ A.
         give_shifts
-    formula_by_shifts AtomTag = both_shift (arguments_shift sorts) λ x. give_shifts
-    formula_by_shifts FactTag = both_shift (arguments_shift sorts) λ x. give_shifts
-    formula_by_shifts OrderTag =
-        both_shift (place_shifts sorts times) λ t1.
-        both_shift (place_shifts sorts times) λ t2.
+    formula_by_shifts (Some AtomTag) = both_shift (arguments_shift sorts) λ x. give_shifts
+    formula_by_shifts (Some FactTag) = both_shift (arguments_shift sorts) λ x. give_shifts
+    formula_by_shifts (Some OrderTag) =
+        both_shift (place_shifts sorts Times) λ t1.
+        both_shift (place_shifts sorts Times) λ t2.
         give_shifts
-    formula_by_shifts OrTag =
+    formula_by_shifts (Some OrTag) =
         both_shift (below sorts) λ A.
         both_shift (below sorts) λ B.
         give_shifts
-    formula_by_shifts FalsityTag = give_shifts
-    formula_by_shifts NoFormulaTag = fail_shifts
+    formula_by_shifts (Some FalsityTag) = give_shifts
+    formula_by_shifts None = fail_shifts
 
   formula_shifts : (n : ℕ) (sorts : List Sort) → Shifts start (formula part n sorts) (formula buffer n sorts)
   unfolding formula
