@@ -2,6 +2,7 @@
 use Prim.Native.Nat.{ℕ, suc, ◌+◌, ◌≤◌, ◌<◌}
 use mathlib.Core.Path.{◌≡◌, refl, sym, ap, ap₂, ◌∙◌}
 use mathlib.Core.List.{List}
+use Rattle.std.specs.Prelude.{Some}
 use native.Mathlib.Omega.{arith}
 use lib.ListN.{length}
 use Rattle.bl.specs.declared.FormulaTag.{FormulaTag}
@@ -14,10 +15,9 @@ use Rattle.bl.specs.Kinds.{as_top, as_and, as_implies, as_all, as_says, as_at, a
 use Rattle.bl.specs.Walk.{same_place, same_places, same_sort, same}
 use Rattle.ledger.specs.declared.Ledger.{Ledger}
 use Rattle.formula.specs.declared.parts.FormulaAt.{FormulaAt}
-use Rattle.formula.specs.declared.compare.Pair.{Pair}
 use Rattle.formula.specs.declared.compare.Compared.{Compared}
 use Rattle.formula.specs.Meaning.{begin, Means}
-use Rattle.formula.specs.Comparing.{LeadsTo, move, PlacesStand, HeadStands, ComparesPlaces, ComparesHeads, ComparesPair, ComparesBody, ComparesAfter, ComparesTagged}
+use Rattle.formula.specs.Comparing.{Two, LeadsTo, move, PlacesStand, HeadStands, ComparesPlaces, ComparesHeads, ComparesPair, ComparesBody, ComparesAfter, ComparesTagged}
 use Rattle.formula.proofs.Shapes as shapes
 use Rattle.formula.proofs.Comparing.{test_row, leads_as, agrees}
 use Rattle.formula.proofs.ComparingPlaces.{one_stands, two_stand, one_place, two_places}
@@ -41,7 +41,7 @@ same_binder q Names A A' = refl
 same_binder q Times A A' = refl
 
 -- A pair of formulas of one tag, and the pair of the places after their tags.
-module _ (left_bytes right_bytes : List ℕ) (pair parts : Pair) (l : Ledger) (levels : ℕ) (tag : FormulaTag) (r : Compared)
+module _ (left_bytes right_bytes : List ℕ) (pair parts : Two) (l : Ledger) (levels : ℕ) (tag : FormulaTag) (r : Compared)
     (moved : pair.left.at < length left_bytes → pair.right.at < length right_bytes → parts ≡ move pair (pair.left.at + 1) (pair.right.at + 1)) where
   abbrev d : ℕ
   d = pair.under
@@ -114,12 +114,12 @@ module _ (left_bytes right_bytes : List ℕ) (pair parts : Pair) (l : Ledger) (l
   pub top_same : tag ≡ TopTag → r ≡ record { ledger = l; left_next = parts.left.at; right_next = parts.right.at } → Tagged
   unfolding same need as_top ◌>>=◌
   top_same told is t t' F G m n low =
-      leaves_same _ refl is m n low (shapes.top_shape left_bytes d left m (t ∙ told)) (shapes.top_shape right_bytes d right n (t' ∙ told))
+      leaves_same _ refl is m n low (shapes.top_shape left_bytes d left m (t ∙ ap Some told)) (shapes.top_shape right_bytes d right n (t' ∙ ap Some told))
 
   pub falsity_same : tag ≡ FalsityTag → r ≡ record { ledger = l; left_next = parts.left.at; right_next = parts.right.at } → Tagged
   unfolding same need as_falsity ◌>>=◌
   falsity_same told is t t' F G m n low =
-      leaves_same _ refl is m n low (shapes.falsity_shape left_bytes d left m (t ∙ told)) (shapes.falsity_shape right_bytes d right n (t' ∙ told))
+      leaves_same _ refl is m n low (shapes.falsity_shape left_bytes d left m (t ∙ ap Some told)) (shapes.falsity_shape right_bytes d right n (t' ∙ ap Some told))
 
   -- Two formulas made of two.
   sides_same : (make : Formula → Formula → Formula) → ((A B A' B' : Formula) → same q (make A B) (make A' B') ≡ (same q A A' >> same q B B'))
@@ -132,30 +132,30 @@ module _ (left_bytes right_bytes : List ℕ) (pair parts : Pair) (l : Ledger) (l
   pub and_same : tag ≡ AndTag → (one : Compared) → ComparesPair left_bytes right_bytes parts l levels one → After one → Tagged
   unfolding same need as_and ◌>>=◌
   and_same told one first second t t' F G m n low =
-      sides_same and (λ A B A' B'. refl) one first second m n low (shapes.and_shape left_bytes d left m (t ∙ told)) (shapes.and_shape right_bytes d right n (t' ∙ told))
+      sides_same and (λ A B A' B'. refl) one first second m n low (shapes.and_shape left_bytes d left m (t ∙ ap Some told)) (shapes.and_shape right_bytes d right n (t' ∙ ap Some told))
 
   pub implies_same : tag ≡ ImpliesTag → (one : Compared) → ComparesPair left_bytes right_bytes parts l levels one → After one → Tagged
   unfolding same need as_implies ◌>>=◌
   implies_same told one first second t t' F G m n low =
-      sides_same implies (λ A B A' B'. refl) one first second m n low (shapes.implies_shape left_bytes d left m (t ∙ told)) (shapes.implies_shape right_bytes d right n (t' ∙ told))
+      sides_same implies (λ A B A' B'. refl) one first second m n low (shapes.implies_shape left_bytes d left m (t ∙ ap Some told)) (shapes.implies_shape right_bytes d right n (t' ∙ ap Some told))
 
   pub or_same : tag ≡ OrTag → (one : Compared) → ComparesPair left_bytes right_bytes parts l levels one → After one → Tagged
   unfolding same need as_or ◌>>=◌
   or_same told one first second t t' F G m n low =
-      sides_same or (λ A B A' B'. refl) one first second m n low (shapes.or_shape left_bytes d left m (t ∙ told)) (shapes.or_shape right_bytes d right n (t' ∙ told))
+      sides_same or (λ A B A' B'. refl) one first second m n low (shapes.or_shape left_bytes d left m (t ∙ ap Some told)) (shapes.or_shape right_bytes d right n (t' ∙ ap Some told))
 
   pub all_same : (s : Sort) → tag ≡ shapes.binder_tag s → ComparesBody left_bytes right_bytes parts l levels r → Tagged
   all_same s told h t t' F G m n low =
-      let x = shapes.all_shape left_bytes d left m s (t ∙ told) in
-      let y = shapes.all_shape right_bytes d right n s (t' ∙ told) in
+      let x = shapes.all_shape left_bytes d left m s (t ∙ ap Some told) in
+      let y = shapes.all_shape right_bytes d right n s (t' ∙ ap Some told) in
       let bodies = (rw (at_parts m n low) at h) (omega (arith, x.room)) x.body y.body x.part.means y.part.means (omega (arith, x.part.lower)) in
       seen m n low _ x.is y.is (same_binder q s x.body y.body) x.ends y.ends bodies
 
   pub says_same : tag ≡ SaysTag → (one : Compared) → ComparesPlaces left_bytes right_bytes 1 parts l one → After one → Tagged
   unfolding same need as_says ◌>>=◌
   says_same told one first second t t' F G m n low =
-      let x = shapes.says_shape left_bytes d left m (t ∙ told) in
-      let y = shapes.says_shape right_bytes d right n (t' ∙ told) in
+      let x = shapes.says_shape left_bytes d left m (t ∙ ap Some told) in
+      let y = shapes.says_shape right_bytes d right n (t' ∙ ap Some told) in
       let who = one_stands left_bytes d left m.few x.named in
       let who' = one_stands right_bytes d right n.few y.named in
       seen m n low _ x.is y.is refl x.ends y.ends
@@ -164,8 +164,8 @@ module _ (left_bytes right_bytes : List ℕ) (pair parts : Pair) (l : Ledger) (l
   pub at_same : tag ≡ AtTag → (one : Compared) → ComparesPlaces left_bytes right_bytes 2 parts l one → After one → Tagged
   unfolding same need as_at ◌>>=◌
   at_same told one first second t t' F G m n low =
-      let x = shapes.at_shape left_bytes d left m (t ∙ told) in
-      let y = shapes.at_shape right_bytes d right n (t' ∙ told) in
+      let x = shapes.at_shape left_bytes d left m (t ∙ ap Some told) in
+      let y = shapes.at_shape right_bytes d right n (t' ∙ ap Some told) in
       let interval = two_stand left_bytes d left m.few x.first x.second in
       let interval' = two_stand right_bytes d right n.few y.first y.second in
       let row = test_row (same_place q x.from y.from) (same_place q x.to y.to) (same q x.body y.body) in
@@ -175,26 +175,23 @@ module _ (left_bytes right_bytes : List ℕ) (pair parts : Pair) (l : Ledger) (l
   pub atom_same : tag ≡ AtomTag → ComparesHeads left_bytes right_bytes parts l r → Tagged
   unfolding same need as_atom ◌>>=◌
   atom_same told h t t' F G m n low =
-      let x = shapes.atom_shape left_bytes d left m (t ∙ told) in
-      let y = shapes.atom_shape right_bytes d right n (t' ∙ told) in
+      let x = shapes.atom_shape left_bytes d left m (t ∙ ap Some told) in
+      let y = shapes.atom_shape right_bytes d right n (t' ∙ ap Some told) in
       seen m n low _ x.is y.is refl refl refl (heads m n low x.headed y.headed h)
 
   pub fact_same : tag ≡ FactTag → ComparesHeads left_bytes right_bytes parts l r → Tagged
   unfolding same need as_fact ◌>>=◌
   fact_same told h t t' F G m n low =
-      let x = shapes.fact_shape left_bytes d left m (t ∙ told) in
-      let y = shapes.fact_shape right_bytes d right n (t' ∙ told) in
+      let x = shapes.fact_shape left_bytes d left m (t ∙ ap Some told) in
+      let y = shapes.fact_shape right_bytes d right n (t' ∙ ap Some told) in
       seen m n low _ x.is y.is refl refl refl (heads m n low x.headed y.headed h)
 
   pub order_same : tag ≡ OrderTag → ComparesPlaces left_bytes right_bytes 2 parts l r → Tagged
   unfolding same need as_order ◌>>=◌
   order_same told h t t' F G m n low =
-      let x = shapes.order_shape left_bytes d left m (t ∙ told) in
-      let y = shapes.order_shape right_bytes d right n (t' ∙ told) in
+      let x = shapes.order_shape left_bytes d left m (t ∙ ap Some told) in
+      let y = shapes.order_shape right_bytes d right n (t' ∙ ap Some told) in
       let times_stand = two_stand left_bytes d left m.few x.first x.second in
       let times_stand' = two_stand right_bytes d right n.few y.first y.second in
       seen m n low _ x.is y.is (sym (two_places q x.left x.right y.left y.right)) refl refl
       ((rw (at_parts m n low) at h) _ _ m.end n.end times_stand times_stand')
-
-  pub no_formula : tag ≡ NoFormulaTag → Tagged
-  no_formula told t t' F G m n low = absurd (shapes.tagged left_bytes d left m (t ∙ told))

@@ -2,6 +2,7 @@
 use Prim.Native.Nat.{ℕ, ◌≤◌}
 use mathlib.Core.Path.{◌≡◌, refl, sym, ap, ◌∙◌}
 use mathlib.Core.List.{List}
+use Rattle.std.proofs.lemmas.Option.{none-some}
 use Rattle.std.specs.Prelude.{None, Option, Some}
 use native.Mathlib.Omega.{arith}
 use Rattle.bl.specs.declared.FormulaTag.{FormulaTag}
@@ -15,10 +16,9 @@ use Rattle.bl.specs.Kinds.{as_top, as_and, as_implies, as_all, as_says, as_at, a
 use Rattle.bl.specs.Walk.{same_sort, same}
 use Rattle.ledger.specs.declared.Ledger.{Ledger}
 use Rattle.formula.specs.declared.parts.FormulaAt.{FormulaAt}
-use Rattle.formula.specs.declared.compare.Pair.{Pair}
 use Rattle.formula.specs.declared.compare.Compared.{Compared}
 use Rattle.formula.specs.Meaning.{tag_of, Means}
-use Rattle.formula.specs.Comparing.{LeadsTo, ComparesPair}
+use Rattle.formula.specs.Comparing.{Two, LeadsTo, ComparesPair}
 use Rattle.formula.proofs.Shapes as shapes
 use Rattle.formula.proofs.Comparing.{not_there, leads_as}
 
@@ -86,7 +86,6 @@ module _ (left_bytes right_bytes : List ℕ) (d : ℕ) (left right : FormulaAt) 
   other_tags OrTag e other = seen (shapes.or_shape left_bytes d left m e).is (not_there q (as_or G) _ (shapes.not_or right_bytes d right n other))
   other_tags FalsityTag e other =
       seen (shapes.falsity_shape left_bytes d left m e).is (not_there q (as_falsity G) _ (shapes.not_falsity right_bytes d right n other))
-  other_tags NoFormulaTag e other = absurd (shapes.tagged left_bytes d left m e)
 
 -- A formula has a level.
 some_level : (bytes : List ℕ) (d : ℕ) (f : FormulaAt) (F : Formula) (m : Means bytes d f F) → m.level ≤ 0 → ⊥
@@ -97,14 +96,19 @@ some_level bytes d f F m low =
     let z : ◌≡◌ {A = ℕ} 0 1 = cc reads in
     absurd (omega arith)
 
-module _ (left_bytes right_bytes : List ℕ) (pair : Pair) (l : Ledger) (levels : ℕ) (r : Compared) where
+module _ (left_bytes right_bytes : List ℕ) (pair : Two) (l : Ledger) (levels : ℕ) (r : Compared) where
   -- With no levels left there is nothing to compare.
   pub no_levels : levels ≡ 0 → ComparesPair left_bytes right_bytes pair l levels r
   no_levels is F G m n low = absurd (some_level left_bytes pair.under pair.left F m (rw is at low))
+
+  -- Without a tag there is no formula to compare.
+  pub no_tag : tag_of left_bytes pair.left.at ≡ None → ComparesPair left_bytes right_bytes pair l levels r
+  no_tag none F G m n low = absurd (none-some _ (sym none ∙ shapes.tagged left_bytes pair.under pair.left m))
 
   -- With different tags the formulas do not fit.
   pub unlike : (tag_of left_bytes pair.left.at ≡ tag_of right_bytes pair.right.at → ⊥)
       → ((e e' : ℕ) → LeadsTo l (misfit pair.offset) r e e') → ComparesPair left_bytes right_bytes pair l levels r
   unlike differ misfits F G m n low =
-      let other = other_tags left_bytes right_bytes pair.under pair.left pair.right pair.offset m n _ refl (λ same. differ (sym same)) in
+      let tagged = shapes.tagged left_bytes pair.under pair.left m in
+      let other = other_tags left_bytes right_bytes pair.under pair.left pair.right pair.offset m n _ tagged (λ same. differ (tagged ∙ sym same)) in
       leads_as l (same pair.offset F G) (misfit pair.offset) r m.end m.end n.end n.end other refl refl (misfits m.end n.end)

@@ -1,8 +1,9 @@
 -- What is seen of a formula in bytes from its tag: where its parts stand, and what they mean.
 -- Each law goes along the reader by that tag, line by line, and puts the terms into what was read.
 use Prim.Native.Nat.{ℕ, suc, ◌+◌, ◌≤◌, ◌<◌}
-use mathlib.Core.Path.{◌≡◌, refl, sym}
+use mathlib.Core.Path.{◌≡◌, refl, sym, ◌∙◌}
 use mathlib.Core.List.{List, ◌∷◌, map}
+use Rattle.std.proofs.lemmas.Option.{same_Some}
 use Rattle.std.specs.Prelude.{Option, Some}
 use native.Mathlib.Omega.{arith}
 use borrow.Author.Tests.{leb-true, ltb-true}
@@ -64,7 +65,8 @@ module _ (bytes : List ℕ) (d : ℕ) (f : FormulaAt) where
         → ((n : ℕ) → m.level ≡ suc n → Leads X (formula_by bytes (λ around. formula bytes n around) m.sorts tag (f.at + 1))) → X
     by_tag tag e h =
         let r = by_its_tag in
-        so_read _ (rw e at r.reads) (h r.below r.lower) (sym m.filled) refl
+        let same = same_Some r.tag tag (sym r.tagged ∙ e) in
+        so_read _ (rw same at r.reads) (h r.below r.lower) (sym m.filled) refl
 
     -- What is read one level lower is a part: under d' binders of these sorts, or under the same as the formula itself.
     part_under : (d' : ℕ) (sorts : List Sort) → length sorts ≡ d' + f.terms.count → (n : ℕ) → m.level ≡ suc n
@@ -91,9 +93,13 @@ module _ (bytes : List ℕ) (d : ℕ) (f : FormulaAt) where
     pub inside : f.at < length bytes
     inside = by_its_tag.inside
 
-    pub tagged : tag_of bytes f.at ≡ NoFormulaTag → ⊥
-    unfolding formula_by
-    tagged e = by_tag NoFormulaTag e λ n l. unread
+    -- There is a tag.
+    pub its_tag : FormulaTag
+    its_tag = by_its_tag.tag
+
+    pub tagged : tag_of bytes f.at ≡ Some its_tag
+    unfolding its_tag
+    tagged = by_its_tag.tagged
 
     -- A formula without parts.
     pub record LeafShape (leaf : Formula) : Type 0 where

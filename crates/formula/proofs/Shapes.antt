@@ -18,11 +18,11 @@ use Rattle.formula.specs.PutIn.{terms_of, FewTerms}
 use Rattle.formula.specs.Meaning.{tag_of, Means}
 use Rattle.formula.proofs.Filling.{put_fill}
 unfoldable pub use Rattle.formula.proofs.FormulaShapes.{binder_tag}
-pub use Rattle.formula.proofs.FormulaShapes.{Stands, Part, inside, tagged, LeafShape, top_shape, falsity_shape, TwoParts, SidesShape, and_shape, implies_shape, or_shape, AllShape, all_shape}
+pub use Rattle.formula.proofs.FormulaShapes.{Stands, Part, inside, its_tag, tagged, LeafShape, top_shape, falsity_shape, TwoParts, SidesShape, and_shape, implies_shape, or_shape, AllShape, all_shape}
 pub use Rattle.formula.proofs.FormulaShapes.{SaysShape, says_shape, AtShape, at_shape, Headed, AtomShape, atom_shape, FactShape, fact_shape, OrderShape, order_shape}
 
 -- The tag that a formula begins with.
-kind : Formula → FormulaTag
+unfoldable pub kind : Formula → FormulaTag
 kind top = TopTag
 kind (and A B) = AndTag
 kind (implies A B) = ImpliesTag
@@ -56,11 +56,10 @@ module _ (bytes : List ℕ) (d : ℕ) (f : FormulaAt) {F : Formula} (m : Means b
   kind_by OrderTag e = ap kind (order_shape bytes d f m e).is
   kind_by OrTag e = ap kind (or_shape bytes d f m e).is
   kind_by FalsityTag e = ap kind (falsity_shape bytes d f m e).is
-  kind_by NoFormulaTag e = absurd (tagged bytes d f m e)
 
   -- So the tag is that of any formula that it is equal to.
-  tag_is : {G : Formula} → F ≡ G → tag_of bytes f.at ≡ kind G
-  tag_is e = sym (kind_by _ refl) ∙ ap kind e
+  pub tag_is : {G : Formula} → F ≡ G → tag_of bytes f.at ≡ Some (kind G)
+  tag_is e = tagged bytes d f m ∙ ap Some (sym (kind_by _ (tagged bytes d f m)) ∙ ap kind e)
 
   -- Another tag is another kind.
   pub not_top : (tag_of bytes f.at ≡ Some TopTag → ⊥) → as_top F ≡ None

@@ -27,6 +27,7 @@ impl Model for Binders {
 
 impl Binders {
     // No binders.
+    #[tactic(auto, unfolding(crate::specs::Binders::sorts_of, crate::specs::PutIn::stack))]
     pub(crate) fn none() -> Binders
         ensures { result ≡ [] }
     {

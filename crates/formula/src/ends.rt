@@ -12,7 +12,7 @@ use crate::binders::Binders;
 use crate::parts::tag_at;
 use crate::terms::MOST_FORMULA_LEVELS;
 use bl::{FormulaTag, Sort};
-use procap::bytes::{NumberRead, TermRead, byte_at, past, term_by, two_bytes_at};
+use procap::bytes::{number_at, past, term_by};
 use procap::fact::{MOST_TERMS, Term};
 use procap::tag::TermTag;
 
@@ -91,12 +91,8 @@ fn place_end(part: &[u8], binders: &Binders, wanted: Sort, at: usize) -> Option<
 fn arguments_end(part: &[u8], binders: &Binders, at: usize) -> Option<usize>
     ensures { Ends (predicate_and part.now (argument part.now binders.now) at) result }
 {
-    let NumberRead::Number(_, after_predicate) = two_bytes_at(part, at) else {
-        return None;
-    };
-    let NumberRead::Number(count, after_count) = byte_at(part, after_predicate) else {
-        return None;
-    };
+    let (_, after_predicate) = number_at::<2>(part, at)?;
+    let (count, after_count) = number_at::<1>(part, after_predicate)?;
     let terms = count as usize;
     if MOST_TERMS < terms {
         return None;
@@ -119,17 +115,15 @@ fn many_end(part: &[u8], binders: &Binders, count: usize, at: usize) -> Option<u
 fn argument_end(part: &[u8], binders: &Binders, at: usize) -> Option<(Sort, usize)>
     ensures { PlaceEnds binders.now (argument part.now binders.now at) result }
 {
-    let NumberRead::Number(byte, after) = byte_at(part, at) else {
-        return None;
-    };
-    let tag = TermTag::of(byte as u8);
+    let (byte, after) = number_at::<1>(part, at)?;
+    let tag = TermTag::try_from(byte as u8).ok()?;
     match tag {
         TermTag::NameTag
         | TermTag::MomentTag
         | TermTag::MinusInfinityTag
         | TermTag::PlusInfinityTag => fixed_end(part, tag, after),
         TermTag::VariableTag => variable_end(part, binders, after),
-        TermTag::CtimeTag | TermTag::NoTermTag => None,
+        TermTag::CtimeTag => None,
     }
 }
 
@@ -137,9 +131,7 @@ fn argument_end(part: &[u8], binders: &Binders, at: usize) -> Option<(Sort, usiz
 fn fixed_end(part: &[u8], tag: TermTag, at: usize) -> Option<(Sort, usize)>
     ensures { (sorts : List Sort) → PlaceEnds sorts (fixed_by part.now tag at) result }
 {
-    let TermRead::Found(term, next) = term_by(part, tag, at) else {
-        return None;
-    };
+    let (term, next) = term_by(part, tag, at)?;
     match term {
         Term::Name(_) => Some((Sort::Names, next)),
         Term::When(_) => Some((Sort::Times, next)),
@@ -150,9 +142,7 @@ fn fixed_end(part: &[u8], tag: TermTag, at: usize) -> Option<(Sort, usize)>
 fn variable_end(part: &[u8], binders: &Binders, at: usize) -> Option<(Sort, usize)>
     ensures { PlaceEnds binders.now (place_by part.now binders.now TermTag.VariableTag at) result }
 {
-    let NumberRead::Number(index, next) = byte_at(part, at) else {
-        return None;
-    };
+    let (index, next) = number_at::<1>(part, at)?;
     let sort = binders.sort(index as usize)?;
     Some((sort, next))
 }

@@ -7,7 +7,7 @@ ghost use Rattle.formula.specs.PartPromises.{front_on_ctime, FixedReads, Variabl
 
 use crate::terms::{Place, Terms};
 use bl::FormulaTag;
-use procap::bytes::{NumberRead, TermRead, byte_at, past, term_by, two_bytes_at};
+use procap::bytes::{number_at, past, term_by};
 use procap::fact::{Argument, Fact, MOST_TERMS, Term};
 use procap::tag::TermTag;
 use procap::time::{Time, TimeNumbers};
@@ -63,17 +63,15 @@ pub fn is_a(bytes: &[u8], at: usize, wanted: FormulaTag) -> bool
 pub fn place_at(bytes: &[u8], at: usize, terms: Terms, under: usize) -> Option<(Place, usize)>
     ensures { PlaceReads bytes.now at terms under result }
 {
-    if bytes.len() <= at {
-        return None;
-    }
-    let tag = TermTag::of(bytes[at]);
+    let (byte, after) = number_at::<1>(bytes, at)?;
+    let tag = TermTag::try_from(byte as u8).ok()?;
     match tag {
         TermTag::NameTag
         | TermTag::MomentTag
         | TermTag::MinusInfinityTag
-        | TermTag::PlusInfinityTag => fixed_by(bytes, tag, at + 1),
-        TermTag::VariableTag => variable_at(bytes, at + 1, terms, under),
-        TermTag::CtimeTag | TermTag::NoTermTag => None,
+        | TermTag::PlusInfinityTag => fixed_by(bytes, tag, after),
+        TermTag::VariableTag => variable_at(bytes, after, terms, under),
+        TermTag::CtimeTag => None,
     }
 }
 
@@ -81,9 +79,7 @@ pub fn place_at(bytes: &[u8], at: usize, terms: Terms, under: usize) -> Option<(
 fn fixed_by(bytes: &[u8], tag: TermTag, at: usize) -> Option<(Place, usize)>
     ensures { FixedReads bytes tag at result }
 {
-    let TermRead::Found(term, next) = term_by(bytes, tag, at) else {
-        return None;
-    };
+    let (term, next) = term_by(bytes, tag, at)?;
     Some((Place::Fixed(term), next))
 }
 
@@ -91,9 +87,7 @@ fn fixed_by(bytes: &[u8], tag: TermTag, at: usize) -> Option<(Place, usize)>
 fn variable_at(bytes: &[u8], at: usize, terms: Terms, under: usize) -> Option<(Place, usize)>
     ensures { VariableReads bytes at terms under result }
 {
-    let NumberRead::Number(variable, next) = byte_at(bytes, at) else {
-        return None;
-    };
+    let (variable, next) = number_at::<1>(bytes, at)?;
     Some((terms.look_up(under, variable as usize), next))
 }
 
@@ -109,16 +103,12 @@ pub struct Head {
 pub(crate) fn head_at(bytes: &[u8], at: usize) -> Option<Head>
     ensures { HeadReads bytes.now at result }
 {
-    let NumberRead::Number(predicate, after_predicate) = two_bytes_at(bytes, at) else {
-        return None;
-    };
-    let NumberRead::Number(count, after_count) = byte_at(bytes, after_predicate) else {
-        return None;
-    };
+    let (predicate, after_predicate) = number_at::<2>(bytes, at)?;
+    let (count, next) = number_at::<1>(bytes, after_predicate)?;
     Some(Head {
         predicate: predicate as u16,
         count: count as usize,
-        next: after_count,
+        next,
     })
 }
 
