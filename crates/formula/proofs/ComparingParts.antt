@@ -2,11 +2,12 @@
 use Prim.Native.Nat.{ℕ, suc, ◌+◌, ◌≤◌, ◌<◌}
 use mathlib.Core.Path.{◌≡◌, refl, sym, ap, ap₂, ◌∙◌}
 use mathlib.Core.List.{List}
+use mathlib.Core.Logic.{◌⊎◌, inl, inr}
 use Rattle.std.specs.Prelude.{Some}
 use native.Mathlib.Omega.{arith}
 use lib.ListN.{length}
 use Rattle.bl.specs.declared.FormulaTag.{FormulaTag}
-use Rattle.bl.specs.declared.FormulaTag.TheVariants.{TopTag, AndTag, ImpliesTag, SaysTag, AtTag, AtomTag, FactTag, OrderTag, OrTag, FalsityTag}
+use Rattle.bl.specs.declared.FormulaTag.TheVariants.{TopTag, AndTag, ImpliesTag, AllNamesTag, AllTimesTag, SaysTag, AtTag, AtomTag, FactTag, OrderTag, OrTag, FalsityTag}
 use Rattle.bl.specs.declared.Sort.{Sort}
 use Rattle.bl.specs.declared.Sort.TheVariants.{Names, Times}
 use Rattle.bl.specs.Trees.{Place, Formula, and, implies, all, or}
@@ -111,15 +112,19 @@ module _ (left_bytes right_bytes : List ℕ) (pair parts : Two) (l : Ledger) (le
       (ap (λ z. z.right_next) is ∙ ap (λ z. z.right.at) (at_parts m n low) ∙ y.ends)
       (agrees l r (ap (λ z. z.ledger) is))
 
-  pub top_same : tag ≡ TopTag → r ≡ record { ledger = l; left_next = parts.left.at; right_next = parts.right.at } → Tagged
+  top_same : tag ≡ TopTag → r ≡ record { ledger = l; left_next = parts.left.at; right_next = parts.right.at } → Tagged
   unfolding same need as_top ◌>>=◌
   top_same told is t t' F G m n low =
       leaves_same _ refl is m n low (shapes.top_shape left_bytes d left m (t ∙ ap Some told)) (shapes.top_shape right_bytes d right n (t' ∙ ap Some told))
 
-  pub falsity_same : tag ≡ FalsityTag → r ≡ record { ledger = l; left_next = parts.left.at; right_next = parts.right.at } → Tagged
+  falsity_same : tag ≡ FalsityTag → r ≡ record { ledger = l; left_next = parts.left.at; right_next = parts.right.at } → Tagged
   unfolding same need as_falsity ◌>>=◌
   falsity_same told is t t' F G m n low =
       leaves_same _ refl is m n low (shapes.falsity_shape left_bytes d left m (t ∙ ap Some told)) (shapes.falsity_shape right_bytes d right n (t' ∙ ap Some told))
+
+  pub leaf_same : (tag ≡ TopTag) ⊎ (tag ≡ FalsityTag) → r ≡ record { ledger = l; left_next = parts.left.at; right_next = parts.right.at } → Tagged
+  leaf_same (inl told) = top_same told
+  leaf_same (inr told) = falsity_same told
 
   -- Two formulas made of two.
   sides_same : (make : Formula → Formula → Formula) → ((A B A' B' : Formula) → same q (make A B) (make A' B') ≡ (same q A A' >> same q B B'))
@@ -129,27 +134,37 @@ module _ (left_bytes right_bytes : List ℕ) (pair parts : Two) (l : Ledger) (le
   sides_same make walk one first second m n low x y =
       seen m n low _ x.is y.is (walk x.left x.right y.left y.right) refl refl (two_parts m n low x.parts y.parts one first second)
 
-  pub and_same : tag ≡ AndTag → (one : Compared) → ComparesPair left_bytes right_bytes parts l levels one → After one → Tagged
+  and_same : tag ≡ AndTag → (one : Compared) → ComparesPair left_bytes right_bytes parts l levels one → After one → Tagged
   unfolding same need as_and ◌>>=◌
   and_same told one first second t t' F G m n low =
       sides_same and (λ A B A' B'. refl) one first second m n low (shapes.and_shape left_bytes d left m (t ∙ ap Some told)) (shapes.and_shape right_bytes d right n (t' ∙ ap Some told))
 
-  pub implies_same : tag ≡ ImpliesTag → (one : Compared) → ComparesPair left_bytes right_bytes parts l levels one → After one → Tagged
+  implies_same : tag ≡ ImpliesTag → (one : Compared) → ComparesPair left_bytes right_bytes parts l levels one → After one → Tagged
   unfolding same need as_implies ◌>>=◌
   implies_same told one first second t t' F G m n low =
       sides_same implies (λ A B A' B'. refl) one first second m n low (shapes.implies_shape left_bytes d left m (t ∙ ap Some told)) (shapes.implies_shape right_bytes d right n (t' ∙ ap Some told))
 
-  pub or_same : tag ≡ OrTag → (one : Compared) → ComparesPair left_bytes right_bytes parts l levels one → After one → Tagged
+  or_same : tag ≡ OrTag → (one : Compared) → ComparesPair left_bytes right_bytes parts l levels one → After one → Tagged
   unfolding same need as_or ◌>>=◌
   or_same told one first second t t' F G m n low =
       sides_same or (λ A B A' B'. refl) one first second m n low (shapes.or_shape left_bytes d left m (t ∙ ap Some told)) (shapes.or_shape right_bytes d right n (t' ∙ ap Some told))
 
-  pub all_same : (s : Sort) → tag ≡ shapes.binder_tag s → ComparesBody left_bytes right_bytes parts l levels r → Tagged
+  pub two_sided_same : (tag ≡ AndTag) ⊎ ((tag ≡ ImpliesTag) ⊎ (tag ≡ OrTag)) → (one : Compared) → ComparesPair left_bytes right_bytes parts l levels one → After one → Tagged
+  two_sided_same (inl told) = and_same told
+  two_sided_same (inr (inl told)) = implies_same told
+  two_sided_same (inr (inr told)) = or_same told
+
+  all_same : (s : Sort) → tag ≡ shapes.binder_tag s → ComparesBody left_bytes right_bytes parts l levels r → Tagged
   all_same s told h t t' F G m n low =
       let x = shapes.all_shape left_bytes d left m s (t ∙ ap Some told) in
       let y = shapes.all_shape right_bytes d right n s (t' ∙ ap Some told) in
       let bodies = (rw (at_parts m n low) at h) (omega (arith, x.room)) x.body y.body x.part.means y.part.means (omega (arith, x.part.lower)) in
       seen m n low _ x.is y.is (same_binder q s x.body y.body) x.ends y.ends bodies
+
+  pub under_same : (tag ≡ AllNamesTag) ⊎ (tag ≡ AllTimesTag) → ComparesBody left_bytes right_bytes parts l levels r → Tagged
+  unfolding shapes.binder_tag
+  under_same (inl told) = all_same Names told
+  under_same (inr told) = all_same Times told
 
   pub says_same : tag ≡ SaysTag → (one : Compared) → ComparesPlaces left_bytes right_bytes 1 parts l one → After one → Tagged
   unfolding same need as_says ◌>>=◌
@@ -172,19 +187,23 @@ module _ (left_bytes right_bytes : List ℕ) (pair parts : Two) (l : Ledger) (le
       seen m n low _ x.is y.is (sym row) x.ends y.ends
       (part_after m n low _ (two_places q x.from x.to y.from y.to) interval interval' x.part y.part one first second)
 
-  pub atom_same : tag ≡ AtomTag → ComparesHeads left_bytes right_bytes parts l r → Tagged
+  atom_same : tag ≡ AtomTag → ComparesHeads left_bytes right_bytes parts l r → Tagged
   unfolding same need as_atom ◌>>=◌
   atom_same told h t t' F G m n low =
       let x = shapes.atom_shape left_bytes d left m (t ∙ ap Some told) in
       let y = shapes.atom_shape right_bytes d right n (t' ∙ ap Some told) in
       seen m n low _ x.is y.is refl refl refl (heads m n low x.headed y.headed h)
 
-  pub fact_same : tag ≡ FactTag → ComparesHeads left_bytes right_bytes parts l r → Tagged
+  fact_same : tag ≡ FactTag → ComparesHeads left_bytes right_bytes parts l r → Tagged
   unfolding same need as_fact ◌>>=◌
   fact_same told h t t' F G m n low =
       let x = shapes.fact_shape left_bytes d left m (t ∙ ap Some told) in
       let y = shapes.fact_shape right_bytes d right n (t' ∙ ap Some told) in
       seen m n low _ x.is y.is refl refl refl (heads m n low x.headed y.headed h)
+
+  pub headed_same : (tag ≡ AtomTag) ⊎ (tag ≡ FactTag) → ComparesHeads left_bytes right_bytes parts l r → Tagged
+  headed_same (inl told) = atom_same told
+  headed_same (inr told) = fact_same told
 
   pub order_same : tag ≡ OrderTag → ComparesPlaces left_bytes right_bytes 2 parts l r → Tagged
   unfolding same need as_order ◌>>=◌

@@ -1,16 +1,19 @@
 -- Laws of readers by where they end: one after another, a place of a sort, so many arguments, and a formula by its tag.
 use Prim.Native.Nat.{ℕ, zero, suc, ◌+◌, ◌-◌, ◌≤◌, ◌<◌}
-use mathlib.Core.Path.{◌≡◌, refl, sym, ap}
+use mathlib.Core.Path.{◌≡◌, refl, sym, ap, ◌∙◌}
 use mathlib.Core.Bool.{true, false}
 use mathlib.Core.List.{List, [], ◌∷◌}
-use Rattle.std.proofs.lemmas.Option.{none-some}
+use mathlib.Core.Logic.{◌⊎◌, inl, inr}
+use Rattle.std.proofs.lemmas.Option.{none-some, same_Some}
+use Rattle.std.specs.Option.{option_eq}
 use Rattle.std.specs.Prelude.{None, Option, Some}
 use native.Mathlib.Omega.{arith}
+use native.Mathlib.Decide.{dec_lt}
 use native.Mathlib.Numerals.{sub-one}
 use borrow.Author.Tests.{le-leb, lt-leb, lt-ltb, le-ltb}
 use lib.ListN.{length}
-use lib.Dec.{eqb}
-use Rattle.procap.specs.Tells.{Tells}
+use lib.Dec.{eqb, ltb}
+use Rattle.procap.specs.Tells.{Tells, pick}
 use Rattle.procap.specs.Lists.{nth}
 use Rattle.procap.specs.Facts.{most_terms}
 use Rattle.procap.specs.Bytes.{Reader, then, ◌>>=◌, present, ensure, many, number, byte, term_tag, term_by, predicate_and, to_the_end, whole}
@@ -25,7 +28,7 @@ use Rattle.bl.specs.declared.FormulaTag.{FormulaTag}
 use Rattle.bl.specs.declared.FormulaTag.TheVariants.{TopTag, AndTag, ImpliesTag, AllNamesTag, AllTimesTag, SaysTag, AtTag, AtomTag, FactTag, OrderTag, OrTag, FalsityTag}
 use Rattle.bl.specs.declared.Sort.{Sort}
 use Rattle.bl.specs.declared.Sort.TheVariants.{Names, Times}
-use Rattle.bl.specs.Trees.{Place, fixed, bound, Formula, top, and, implies, at, order, or, falsity}
+use Rattle.bl.specs.Trees.{fixed, bound, Formula, top, and, implies, at, order, or, falsity}
 use Rattle.bl.specs.Tags.{formula_tag}
 use Rattle.bl.specs.Formulas.{most_formula_levels, most_binders, variable_of, place_of, fixed_by, place_by, argument, place, for_all, formula_by, formula, formula_in}
 use Rattle.formula.specs.Meaning.{tag_of}
@@ -250,17 +253,32 @@ module _ (part : List ℕ) (sorts : List Sort) (from left : ℕ) where
       by zero n h = absurd (n refl)
       by (suc k) n h = rw (← (from_tag part from (By k) next after refl), is) (rw sub-one at h)
 
+-- One binder more around others, if that is no ninth.
+abbrev pub binder_with : Sort → List Sort → Option (List Sort)
+binder_with s sorts = pick (ltb (length sorts) most_binders) (Some (s ∷ sorts)) None
+
 -- By its tag, over the readers of the level below.
 module _ (part : List ℕ) (below : List Sort → Reader Formula) (sorts : List Sort) (from : ℕ) where
   -- A ninth binder is malformed; one that is no ninth ends where its body does.
   module _ (s : Sort) where
-    pub ninth_binder : most_binders ≤ length sorts → for_all part below sorts s from ≡ None
+    pub ninth_binder : None ≡ binder_with s sorts → for_all part below sorts s from ≡ None
     unfolding for_all then ensure
-    ninth_binder l = rw (le-ltb (length sorts) most_binders l) refl
+    ninth_binder h = by (dec_lt (length sorts) most_binders)
+      where
+        by : Dec (length sorts < most_binders) → for_all part below sorts s from ≡ None
+        by (yes l) = absurd (none-some (s ∷ sorts) (h ∙ ap (λ b. pick b (Some (s ∷ sorts)) None) (lt-ltb (length sorts) most_binders l)))
+        by (no m) = rw (le-ltb (length sorts) most_binders (omega (arith, m))) refl
 
-    pub body_ends : (r : Option ℕ) → length sorts < most_binders → Ends (below (s ∷ sorts) from) r → Ends (for_all part below sorts s from) r
+    pub body_ends : (r : Option ℕ) (around : List Sort) → Some around ≡ binder_with s sorts → Ends (below around from) r → Ends (for_all part below sorts s from) r
     unfolding for_all then ensure
-    body_ends r l h = rw (lt-ltb (length sorts) most_binders l) (made_of _ _ r h)
+    body_ends r around h k = by (dec_lt (length sorts) most_binders)
+      where
+        by : Dec (length sorts < most_binders) → Ends (for_all part below sorts s from) r
+        by (yes l) =
+            let same = same_Some around (s ∷ sorts) (h ∙ ap (λ b. pick b (Some (s ∷ sorts)) None) (lt-ltb (length sorts) most_binders l)) in
+            rw (lt-ltb (length sorts) most_binders l) (made_of _ _ r (rw same at k))
+        by (no m) =
+            absurd (none-some around (sym (h ∙ ap (λ b. pick b (Some (s ∷ sorts)) None) (le-ltb (length sorts) most_binders (omega (arith, m))))))
 
   -- Both sides of a formula, whatever is made of them.
   abbrev pub SidesEndAt : Option ℕ → Type 0
@@ -273,71 +291,60 @@ module _ (part : List ℕ) (below : List Sort → Reader Formula) (sorts : List 
   no_first_side h make = none_after _ _ h
 
   -- The formulas by their tags.
-  pub top_ends : Ends (formula_by part below sorts TopTag from) (Some from)
-  unfolding formula_by
-  top_ends = (top, refl)
+  abbrev EndsBy : FormulaTag → Option ℕ → Type 0
+  EndsBy tag r = Ends (formula_by part below sorts tag from) r
 
-  pub and_ends : (r : Option ℕ) → SidesEndAt r → Ends (formula_by part below sorts AndTag from) r
-  unfolding formula_by
-  and_ends r h = h and
+  module _ {tag : FormulaTag} where
+    pub leaf_ends : (tag ≡ TopTag) ⊎ (tag ≡ FalsityTag) → EndsBy tag (Some from)
+    unfolding formula_by
+    leaf_ends (inl e) = rw e (top, refl)
+    leaf_ends (inr e) = rw e (falsity, refl)
 
-  pub implies_ends : (r : Option ℕ) → SidesEndAt r → Ends (formula_by part below sorts ImpliesTag from) r
-  unfolding formula_by
-  implies_ends r h = h implies
+    pub two_sided_ends : (r : Option ℕ) → (tag ≡ AndTag) ⊎ ((tag ≡ ImpliesTag) ⊎ (tag ≡ OrTag)) → SidesEndAt r → EndsBy tag r
+    unfolding formula_by
+    two_sided_ends r (inl e) h = rw e (h and)
+    two_sided_ends r (inr (inl e)) h = rw e (h implies)
+    two_sided_ends r (inr (inr e)) h = rw e (h or)
 
-  pub all_names_ends : (r : Option ℕ) → Ends (for_all part below sorts Names from) r → Ends (formula_by part below sorts AllNamesTag from) r
-  unfolding formula_by
-  all_names_ends r h = h
+    pub all_names_ends : (r : Option ℕ) → tag ≡ AllNamesTag → Ends (for_all part below sorts Names from) r → EndsBy tag r
+    unfolding formula_by
+    all_names_ends r e h = rw e h
 
-  pub all_times_ends : (r : Option ℕ) → Ends (for_all part below sorts Times from) r → Ends (formula_by part below sorts AllTimesTag from) r
-  unfolding formula_by
-  all_times_ends r h = h
+    pub all_times_ends : (r : Option ℕ) → tag ≡ AllTimesTag → Ends (for_all part below sorts Times from) r → EndsBy tag r
+    unfolding formula_by
+    all_times_ends r e h = rw e h
 
-  pub says_ends : (e : ℕ) (r : Option ℕ) → Ends (place part Names sorts from) (Some e) → Ends (below sorts e) r → Ends (formula_by part below sorts SaysTag from) r
-  unfolding formula_by
-  says_ends e r h k = both_ended _ _ _ e r h k
+    pub says_ends : (m : ℕ) (r : Option ℕ) → tag ≡ SaysTag → Ends (place part Names sorts from) (Some m) → Ends (below sorts m) r → EndsBy tag r
+    unfolding formula_by
+    says_ends m r e h k = rw e (both_ended _ _ _ m r h k)
 
-  pub nobody_says : place part Names sorts from ≡ None → formula_by part below sorts SaysTag from ≡ None
-  unfolding formula_by
-  nobody_says h = none_after _ _ h
+    pub nobody_says : tag ≡ SaysTag → place part Names sorts from ≡ None → EndsBy tag None
+    unfolding formula_by
+    nobody_says e h = rw e (none_after _ _ h)
 
-  pub at_ends : (e : ℕ) (r : Option ℕ) → Ends (two_times part sorts from) (Some e) → Ends (below sorts e) r → Ends (formula_by part below sorts AtTag from) r
-  unfolding formula_by two_times
-  at_ends e r h k = paired _ _ _ r (both_ended _ (below sorts) (λ ts. at ts.0 ts.1) e r h k)
+    pub at_ends : (m : ℕ) (r : Option ℕ) → tag ≡ AtTag → Ends (two_times part sorts from) (Some m) → Ends (below sorts m) r → EndsBy tag r
+    unfolding formula_by two_times
+    at_ends m r e h k = rw e (paired _ _ _ r (both_ended _ (below sorts) (λ ts. at ts.0 ts.1) m r h k))
 
-  pub at_no_times : two_times part sorts from ≡ None → formula_by part below sorts AtTag from ≡ None
-  unfolding formula_by two_times
-  at_no_times h = paired _ _ _ None (none_after _ _ h)
+    pub at_no_times : tag ≡ AtTag → two_times part sorts from ≡ None → EndsBy tag None
+    unfolding formula_by two_times
+    at_no_times e h = rw e (paired _ _ _ None (none_after _ _ h))
 
-  pub atom_ends : (r : Option ℕ) → Ends (predicate_and part (argument part sorts) from) r → Ends (formula_by part below sorts AtomTag from) r
-  unfolding formula_by
-  atom_ends r h = made_of _ _ r h
+    pub headed_ends : (r : Option ℕ) → (tag ≡ AtomTag) ⊎ (tag ≡ FactTag) → Ends (predicate_and part (argument part sorts) from) r → EndsBy tag r
+    unfolding formula_by
+    headed_ends r (inl e) h = rw e (made_of _ _ r h)
+    headed_ends r (inr e) h = rw e (made_of _ _ r h)
 
-  pub fact_ends : (r : Option ℕ) → Ends (predicate_and part (argument part sorts) from) r → Ends (formula_by part below sorts FactTag from) r
-  unfolding formula_by
-  fact_ends r h = made_of _ _ r h
-
-  pub order_ends : (r : Option ℕ) → Ends (two_times part sorts from) r → Ends (formula_by part below sorts OrderTag from) r
-  unfolding formula_by two_times
-  order_ends r h = paired _ _ _ r (made_of _ (λ ts. order ts.0 ts.1) r h)
-
-  pub or_ends : (r : Option ℕ) → SidesEndAt r → Ends (formula_by part below sorts OrTag from) r
-  unfolding formula_by
-  or_ends r h = h or
-
-  pub falsity_ends : Ends (formula_by part below sorts FalsityTag from) (Some from)
-  unfolding formula_by
-  falsity_ends = (falsity, refl)
+    pub order_ends : (r : Option ℕ) → tag ≡ OrderTag → Ends (two_times part sorts from) r → EndsBy tag r
+    unfolding formula_by two_times
+    order_ends r e h = rw e (paired _ _ _ r (made_of _ (λ ts. order ts.0 ts.1) r h))
 
 -- ── A whole part ──
 
 -- A part holds a formula when one is read from its start and ends where the part does.
 module _ (part : List ℕ) where
-  pub held_to_the_end : (e : ℕ) → Ends (formula part most_formula_levels [] 0) (Some e)
-      → Tells (eqb e (length part)) ((A : Formula) × (formula_in part ≡ Some A))
+  pub held_to_the_end : (o : Option ℕ) → Ends (formula part most_formula_levels [] 0) o
+      → Tells (option_eq eqb o (Some (length part))) ((A : Formula) × (formula_in part ≡ Some A))
   unfolding formula_in whole to_the_end
-  held_to_the_end e h = rw h.1 (tells_picked (eqb e (length part)) h.0)
-
-  pub none_held : formula part most_formula_levels [] 0 ≡ None → (A : Formula) × (formula_in part ≡ Some A) → ⊥
-  unfolding formula_in whole to_the_end
-  none_held e x = not_read None refl (rw e at x.1)
+  held_to_the_end (Some e) h = rw h.1 (tells_picked (eqb e (length part)) h.0)
+  held_to_the_end None h = λ x. not_read None refl (rw h at x.1)

@@ -197,14 +197,17 @@ module _ (bytes : List ℕ) (f : FormulaAt) (after : ℕ) (past : f.at < length 
       let headed = shape.headed in
       let is = shape.is in
       let there = found shape.predicate headed.count headed.after_predicate headed.after_count
-          (ap (number bytes 2) (past (inside bytes 0 f m)) ∙ headed.predicate_reads) headed.count_reads in
-      (_, there, record {
-        written = headed.written;
-        few = headed.few;
-        predicate = cc;
-        reads = headed.places_read;
-        is = headed.filled ∙ cc;
-      })
+      (ap (number bytes 2) (past (inside bytes 0 f m)) ∙ headed.predicate_reads) headed.count_reads in (
+        _,
+        there,
+        record {
+          written = headed.written;
+          few = headed.few;
+          predicate = cc;
+          reads = headed.places_read;
+          is = headed.filled ∙ cc;
+        },
+      )
 
   -- There is a head, with no more terms than a fact may have; and what its places spell the fact spells.
   pub no_head_read : HeadReads bytes after None → ⊥

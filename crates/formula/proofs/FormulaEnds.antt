@@ -2,6 +2,7 @@
 use Prim.Native.Nat.{ℕ, zero, suc, ◌+◌, ◌-◌, ◌≤◌, ◌<◌}
 use mathlib.Core.Path.{◌≡◌, refl}
 use mathlib.Core.List.{List, ◌∷◌}
+use mathlib.Core.Logic.{◌⊎◌, inl, inr}
 use Rattle.std.specs.Prelude.{None, Option, Some}
 use native.Mathlib.Omega.{arith}
 use lib.ListN.{length}
@@ -60,13 +61,10 @@ module _ (bytes : List ℕ) where
         so_read {P = λ _ e. r ≡ Some e} (formula bytes (suc n) sorts at) q
         (byte_then bytes at _ (λ l. rw (told, k, ← (past l)) (h n sorts (omega arith))))
 
-    pub top_ends : tag ≡ TopTag → r ≡ Some after → FormulaEnds at left r
+    pub leaf_ends : (tag ≡ TopTag) ⊎ (tag ≡ FalsityTag) → r ≡ Some after → FormulaEnds at left r
     unfolding formula_by
-    top_ends k e = ends_by k (λ n sorts l. read e)
-
-    pub falsity_ends : tag ≡ FalsityTag → r ≡ Some after → FormulaEnds at left r
-    unfolding formula_by
-    falsity_ends k e = ends_by k (λ n sorts l. read e)
+    leaf_ends (inl k) e = ends_by k (λ n sorts l. read e)
+    leaf_ends (inr k) e = ends_by k (λ n sorts l. read e)
 
     -- What a formula at a place with so many levels less reads to.
     abbrev Reads : {A : Type 0} → (ℕ → List Sort → Option (A × ℕ)) → Type 0
@@ -86,17 +84,11 @@ module _ (bytes : List ℕ) where
     pub first_missing : FormulaEnds after (left - 1) None → Both
     first_missing h join n sorts l = after_none (formula bytes n sorts after) _ (λ A e. h n sorts A e l)
 
-    pub and_ends : Both → tag ≡ AndTag → FormulaEnds at left r
+    pub two_sided_ends : (tag ≡ AndTag) ⊎ ((tag ≡ ImpliesTag) ⊎ (tag ≡ OrTag)) → Both → FormulaEnds at left r
     unfolding formula_by
-    and_ends h k = ends_by k (h and)
-
-    pub implies_ends : Both → tag ≡ ImpliesTag → FormulaEnds at left r
-    unfolding formula_by
-    implies_ends h k = ends_by k (h implies)
-
-    pub or_ends : Both → tag ≡ OrTag → FormulaEnds at left r
-    unfolding formula_by
-    or_ends h k = ends_by k (h or)
+    two_sided_ends (inl k) h = ends_by k (h and)
+    two_sided_ends (inr (inl k)) h = ends_by k (h implies)
+    two_sided_ends (inr (inr k)) h = ends_by k (h or)
 
     -- A formula under a binder.
     module _ (h : FormulaEnds after (left - 1) r) where
@@ -107,13 +99,10 @@ module _ (bytes : List ℕ) where
           then_read (if_read (formula bytes n (s ∷ sorts) after) (λ A e. h n (s ∷ sorts) A e l)) λ A e q.
           read q
 
-      pub all_names_end : tag ≡ AllNamesTag → FormulaEnds at left r
+      pub all_end : (tag ≡ AllNamesTag) ⊎ (tag ≡ AllTimesTag) → FormulaEnds at left r
       unfolding formula_by
-      all_names_end k = ends_by k (under_ends Names)
-
-      pub all_times_end : tag ≡ AllTimesTag → FormulaEnds at left r
-      unfolding formula_by
-      all_times_end k = ends_by k (under_ends Times)
+      all_end (inl k) = ends_by k (under_ends Names)
+      all_end (inr k) = ends_by k (under_ends Times)
 
     pub says_ends : (m : ℕ) → PlaceEnds after (Some m) → FormulaEnds m (left - 1) r → tag ≡ SaysTag → FormulaEnds at left r
     unfolding formula_by
@@ -164,10 +153,7 @@ module _ (bytes : List ℕ) where
       headed_ends : (join : ℕ → List Place → Formula) → Reads (λ n sorts. then (predicate_and bytes (argument bytes sorts) after) (λ s. give (join s.0 s.1)))
       headed_ends join n sorts l = then_read (if_read (predicate_and bytes (argument bytes sorts) after) (λ s e. h sorts s.0 s.1 e)) λ s e q. read q
 
-      pub atom_ends : tag ≡ AtomTag → FormulaEnds at left r
+      pub headed_end : (tag ≡ AtomTag) ⊎ (tag ≡ FactTag) → FormulaEnds at left r
       unfolding formula_by
-      atom_ends k = ends_by k (headed_ends atom)
-
-      pub fact_ends : tag ≡ FactTag → FormulaEnds at left r
-      unfolding formula_by
-      fact_ends k = ends_by k (headed_ends fact)
+      headed_end (inl k) = ends_by k (headed_ends atom)
+      headed_end (inr k) = ends_by k (headed_ends fact)

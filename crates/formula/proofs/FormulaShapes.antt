@@ -19,7 +19,7 @@ use Rattle.bl.specs.Formulas.{most_binders, argument, for_all, formula_by, formu
 use Rattle.formula.specs.declared.parts.FormulaAt.{FormulaAt}
 use Rattle.formula.specs.PutIn.{terms_of, fill_place, fill}
 use Rattle.formula.specs.Meaning.{tag_of, begin, Means}
-use Rattle.procap.proofs.Readers.{IfRead, unread, read, so_read, then_read, ensure_read, any_read, many_read}
+use Rattle.procap.proofs.Readers.{IfRead, read, so_read, then_read, ensure_read, any_read, many_read}
 use Rattle.procap.proofs.ReadApart.{as_read}
 use Rattle.formula.proofs.FormulasRead.{place_read, ReadByTag, read_by_tag}
 

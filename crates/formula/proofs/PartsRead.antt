@@ -6,13 +6,12 @@ use mathlib.Core.Logic.{◌⊎◌, inl, inr}
 use Rattle.std.proofs.lemmas.Option.{none-some, same_Some}
 use Rattle.std.specs.Prelude.{None, Option, Some}
 use native.Mathlib.Omega.{arith}
-use lib.ListN.{length, get_or}
 use Rattle.procap.specs.Bytes.{Reader, then, present, many, number, byte, term_tag, term_by, predicate_and}
 use Rattle.procap.specs.declared.fact.Term.{Term}
 use Rattle.procap.specs.declared.tag.TermTag.{TermTag}
 use Rattle.procap.specs.declared.tag.TermTag.TheVariants.{NameTag, MomentTag, MinusInfinityTag, PlusInfinityTag, CtimeTag, VariableTag}
 use Rattle.procap.proofs.Readers.{IfRead, unread, read, so_read, then_read, ensure_read}
-use Rattle.procap.proofs.ReadApart.{if_read, as_read, same_read, not_read, byte_then, first_of, none_of}
+use Rattle.procap.proofs.ReadApart.{if_read, as_read, same_read, not_read, first_of, none_of}
 use Rattle.bl.specs.declared.Sort.{Sort}
 use Rattle.bl.specs.Trees.{Place, bound}
 use Rattle.bl.specs.Formulas.{fixed_by, place_by, argument}

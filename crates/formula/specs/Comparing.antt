@@ -44,6 +44,10 @@ abbrev pub two_at : Pair → Spot → Two
 two_at pair x =
     record { left = begin pair.left.formula x.left; right = begin pair.right.formula x.right; under = x.under; offset = pair.offset }
 
+-- The formulas of a pair, wherever they are taken to stand, under so many binders.
+abbrev pub two_under : Pair → ℕ → Two
+two_under pair under = record { left = pair.left.formula; right = pair.right.formula; under = under; offset = pair.offset }
+
 -- The formulas are the same, and end at a spot.
 abbrev pub ended : Ledger → Spot → Compared
 ended l x = record { ledger = l; left_next = x.left; right_next = x.right }
@@ -116,9 +120,7 @@ module _ (pair : Pair) where
   BodiesOf x = ComparesBody pair.left.bytes.now pair.right.bytes.now (two_at pair x)
 
   abbrev pub RestsOf : Compared → ℕ → ℕ → Compared → Type 0
-  RestsOf before under =
-      ComparesAfter pair.left.bytes.now pair.right.bytes.now before
-      (record { left = pair.left.formula; right = pair.right.formula; under = under; offset = pair.offset })
+  RestsOf before under = ComparesAfter pair.left.bytes.now pair.right.bytes.now before (two_under pair under)
 
   abbrev pub TaggedOf : FormulaTag → Spot → Ledger → ℕ → Compared → Type 0
   TaggedOf tag x = ComparesTagged pair.left.bytes.now pair.right.bytes.now tag (two_at pair x)

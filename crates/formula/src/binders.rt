@@ -6,8 +6,8 @@ ghost use Rattle.bl.specs.declared.Sort.{Sort};
 ghost use Rattle.bl.specs.Formulas.{most_binders};
 ghost use Rattle.formula.specs.Binders.{sorts_of, FewBinders};
 
-use bl::Sort;
 use crate::terms::MOST_BINDERS;
+use bl::Sort;
 use std::marker::Model;
 
 // The sorts of so many binders, the innermost last.

@@ -8,7 +8,7 @@ ghost use Rattle.ledger.specs.Books.{Leads};
 ghost use Rattle.formula.specs.Comparing.{LeadsTo, ended, PlacesOf, HeadsOf, FormulasOf, BodiesOf, RestsOf, TaggedOf};
 ghost use Rattle.formula.specs.PartPromises.{ComparesOver, PastTags};
 
-use crate::parts::{FormulaAt, head_at, place_at, tag_at};
+use crate::parts::{FormulaAt, head_at, is_a, place_at, tag_at};
 use crate::terms::{MOST_BINDERS, Place};
 use bl::FormulaTag;
 use ledger::{Ledger, ask_order};
@@ -82,7 +82,7 @@ impl Pair<'_> {
         let Some(tag) = tag_at(self.left.bytes, spot.left) else {
             return different(ledger, self.offset);
         };
-        if tag_at(self.right.bytes, spot.right) != Some(tag) {
+        if !is_a(self.right.bytes, spot.right, tag) {
             return different(ledger, self.offset);
         }
         self.same_tagged(tag, spot, ledger, levels - 1)
@@ -192,17 +192,19 @@ impl Pair<'_> {
         let mut now = ledger;
         let mut next = spot;
         for _ in 0..count {
-            let Some((one, left)) = place_at(self.left.bytes, next.left, left_terms, spot.under) else {
+            let one = place_at(self.left.bytes, next.left, left_terms, next.under);
+            let Some((one, left)) = one else {
                 return different(now, self.offset);
             };
-            let Some((other, right)) = place_at(self.right.bytes, next.right, right_terms, spot.under) else {
+            let other = place_at(self.right.bytes, next.right, right_terms, next.under);
+            let Some((other, right)) = other else {
                 return different(now, self.offset);
             };
             now = same_place(now, self.offset, one, other);
             next = Spot {
                 left,
                 right,
-                under: spot.under,
+                under: next.under,
             };
         }
         equal(now, next)

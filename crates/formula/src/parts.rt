@@ -136,7 +136,8 @@ fn fact_with(bytes: &[u8], head: Head, terms: Terms) -> Option<Fact>
     let mut arguments = [zero; MOST_TERMS];
     let mut next = head.next;
     for i in 0..head.count {
-        let (Place::Fixed(term), after) = place_at(bytes, next, terms, 0)? else {
+        let (place, after) = place_at(bytes, next, terms, 0)?;
+        let Place::Fixed(term) = place else {
             return None;
         };
         arguments[i] = Argument { term };

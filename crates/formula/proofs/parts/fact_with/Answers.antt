@@ -9,16 +9,16 @@ pub loop-i-init : goal.loop-i-init
 unfolding pad
 loop-i-init c = none_kept refl
 
-pub returns-in_err-term-clause-spells : goal.returns-in_err-term-clause-spells
+pub returns-in_err-place-clause-spells : goal.returns-in_err-place-clause-spells
 unfolding SpellsPlaces
-returns-in_err-term-clause-spells c = ?
+returns-in_err-place-clause-spells c = rw c.from_residual.ensures (place_missing c.loop-i.invariant c.loop-i-test.true c.in_err-place.ensures)
 
 pub returns-in_default-clause-spells : goal.returns-in_default-clause-spells
 unfolding SpellsPlaces
-returns-in_default-clause-spells c = ?
+returns-in_default-clause-spells c = variable_left c.loop-i.invariant c.loop-i-test.true _ _ c.in_ok-place.ensures _ c.in_default.is
 
 pub loop-i-preserved : goal.loop-i-preserved
-loop-i-preserved c = ?
+loop-i-preserved c = one_kept c.loop-i.invariant c.loop-i-test.true _ _ c.in_ok-place.ensures _ c.in-Fixed.is c.requires
 
 pub returns-clause-spells : goal.returns-clause-spells
-returns-clause-spells c = ?
+returns-clause-spells c = all_kept c.loop-i.invariant c.loop-i-test.false _

@@ -1,6 +1,6 @@
 -- With room for one more the sort is the innermost of them; with none there is no ninth.
 use native.Mathlib.Omega.{arith}
-use mathlib.Core.Path.{◌≡◌, sym, ap, ◌∙◌}
+use mathlib.Core.Path.{◌≡◌}
 use borrow.Author.Tests.{lt-ltb, le-ltb}
 use lib.ListN.{length}
 use Rattle.procap.proofs.Indices.{mapped}
@@ -15,5 +15,9 @@ returns-then-count-ge-MOST_BINDERS c =
 pub returns : goal.returns
 returns c =
     let full : length c.self.inside.sorts ≡ most_binders = search mapped in
-    rw (← c.self.view_is, sorts_length c.self.inside.sorts c.self.inside.count, lt-ltb _ most_binders c.if-count-ge-MOST_BINDERS.false,
-        sorts_more c.self.inside.sorts c.self.inside.count c.args.sort (omega (arith, full)))
+    rw (
+      ← c.self.view_is,
+      sorts_length c.self.inside.sorts c.self.inside.count,
+      lt-ltb _ most_binders c.if-count-ge-MOST_BINDERS.false,
+      sorts_more c.self.inside.sorts c.self.inside.count c.args.sort (omega (arith, full)),
+    )
