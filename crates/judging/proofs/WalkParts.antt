@@ -7,7 +7,8 @@ use mathlib.Core.Logic.{if_pos, if_neg}
 use Rattle.procap.specs.declared.time.Time.{Time}
 use Rattle.procap.specs.declared.fact.Term.{Term}
 use Rattle.procap.specs.declared.fact.Term.TheVariants.{Name, When}
-use Rattle.bl.specs.Trees.{Place, fixed, Sort, Formula, top, and, implies, all, says, at, fact, order, or, falsity, put}
+use Rattle.bl.specs.declared.Sort.{Sort}
+use Rattle.bl.specs.Trees.{Place, fixed, Formula, top, and, implies, all, says, at, fact, order, or, falsity, put}
 use Rattle.bl.specs.Questions.{Walk, done, misfit, ◌>>=◌, ask_order, ask_fact, need}
 use Rattle.bl.specs.Kinds.{as_name, as_time, as_terms, as_top, as_and, as_implies, as_all, as_says, as_at, as_fact, as_order, as_or, as_falsity}
 use Rattle.bl.specs.Strength.{Pair, AsStrong}

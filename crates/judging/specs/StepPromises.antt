@@ -4,7 +4,8 @@ use Rattle.procap.specs.Bytes.{byte}
 use Rattle.procap.specs.Numbered.{time_numbers}
 use Rattle.procap.specs.declared.time.Time.{Time}
 use Rattle.bl.specs.declared.FormulaTag.{FormulaTag}
-use Rattle.bl.specs.Trees.{Place, Sort, Formula}
+use Rattle.bl.specs.declared.Sort.{Sort}
+use Rattle.bl.specs.Trees.{Place, Formula}
 use Rattle.bl.specs.Formulas.{argument}
 use Rattle.bl.specs.Certificates.{Statement}
 use Rattle.bl.specs.Strength.{Pair}
