@@ -354,15 +354,22 @@ pub fn put_to_use(
 {
     let ledger = inferred.ledger;
     if !ledger.goes_on() {
-        return Application {
-            ledger,
-            premise: inferred.judgement,
-            conclusion: 0,
-            middle: 0,
-            next: 0,
-        };
+        return unused(inferred.judgement, ledger);
     }
     applied(buffer, proof, offset, inferred, second_end)
+}
+
+// What is handed back where no implication is put to use.
+fn unused(judgement: Judgement, ledger: Ledger) -> Application
+    ensures { result ≡ record { ledger = ledger; premise = judgement; conclusion = 0; middle = 0; next = 0 } }
+{
+    Application {
+        ledger: ledger,
+        premise: judgement,
+        conclusion: 0,
+        middle: 0,
+        next: 0,
+    }
 }
 
 // Both sides of the implication that was inferred, on the times that stand at a place, and the two orders that they must be in.
@@ -376,6 +383,12 @@ fn applied(
     ensures { PutsToUse buffer.now proof.now offset inferred second_end result }
 {
     let judgement = inferred.judgement;
+    let Some((begin, between)) = time_at(proof, second_end) else {
+        return unused(judgement, inferred.ledger.misfit(offset));
+    };
+    let Some((end, next)) = time_at(proof, between) else {
+        return unused(judgement, inferred.ledger.misfit(offset));
+    };
     let parts = sides_of(
         buffer,
         offset,
@@ -383,18 +396,16 @@ fn applied(
         judgement,
         inferred.ledger,
     );
-    let t1 = time_at(proof, second_end);
-    let t2 = time_at(proof, t1.next);
     Application {
-        ledger: covers(parts.ledger, offset, judgement, t1.time, t2.time),
+        ledger: covers(parts.ledger, offset, judgement, begin, end),
         premise: Judgement {
-            from: t1.time.numbers(),
-            to: t2.time.numbers(),
+            from: begin.numbers(),
+            to: end.numbers(),
             ..part_at(judgement, parts.first)
         },
         conclusion: parts.second,
         middle: inferred.next,
-        next: t2.next,
+        next,
     }
 }
 

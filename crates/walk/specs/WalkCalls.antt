@@ -1,5 +1,5 @@
 -- The promise of each call of the walk, over what it is lent.
-use Rattle.std.specs.Prelude.{◌-◌, ◌≡◌, get_or}
+use Rattle.std.specs.Prelude.{◌-◌, ◌≡◌, get_or, Option}
 use denote.Triple.Both.{Both}
 use Rattle.procap.specs.Lent.{Lent, LentToWrite}
 use Rattle.bl.specs.declared.InferTag.{InferTag}
@@ -46,7 +46,7 @@ pub data Leaves : CheckTag → Cases → Type 0 where
 
 module _ (S : Sources) (facts assumptions : LentToWrite) where
   -- A step that infers, of at most so many levels, by the tag that stands at its place.
-  abbrev pub Infers : InferTag → Here → Inferred → Type 0
+  abbrev pub Infers : Option InferTag → Here → Inferred → Type 0
   Infers tag here r =
       tag ≡ infer_tag (get_or S.proof here.at 0)
       → InfersAt S assumptions.entry.now here.scope here.ledger facts.entry.now here.left here.at r facts.exit.now

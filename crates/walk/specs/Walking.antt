@@ -1,7 +1,6 @@
 -- What the walk over the bytes promises: the walk of the tree that the bytes read as.
 use Rattle.std.specs.Prelude.{ℕ, suc, ◌+◌, ◌≤◌, ◌<◌, ◌≡◌, List, length, Some}
 use Rattle.bl.specs.declared.InferTag.{InferTag}
-use Rattle.bl.specs.declared.InferTag.TheVariants.{NoInferTag}
 use Rattle.bl.specs.declared.CheckTag.{CheckTag}
 use Rattle.bl.specs.Trees.{Formula, Infer, Check}
 use Rattle.bl.specs.Policy.{Policy}
@@ -92,6 +91,6 @@ module _ (S : Sources) (rows : List ℕ) (scope : Scope) (ledger : Ledger) (list
   ChecksBy tag goal_bytes goal at r list' =
       (π : Policy) (Γ : List Assumption) (N : Check) (e : ℕ)
       → Sound (book ledger list) → Around S rows scope (suc left) π Γ
-      → check_by S.proof (length π.statements) (infer_step S.proof (length π.statements) left) (check_step S.proof (length π.statements) left) scope.count at NoInferTag tag (at + 1) ≡ Some (N, e)
+      → check_by S.proof (length π.statements) (infer_step S.proof (length π.statements) left) (check_step S.proof (length π.statements) left) scope.count at tag (at + 1) ≡ Some (N, e)
       → ToldChecking S.ends N
       → ChecksStep π Γ goal_bytes goal N e r list'

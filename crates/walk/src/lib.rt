@@ -51,11 +51,11 @@ impl Here {
     }
 }
 
-// What the step at a place infers, of at most so many levels, by its tag, which was read there.
+// What the step at a place infers, of at most so many levels, by its tag, which was read there, if one stands there.
 #[rattlefmt::skip]
 #[cycle(by_cases_check_infer_pair_put_in_take_out)]
 fn infer(
-    buffer: &[u8], proof: &[u8], state: &[u8], certificates: &[u64], strengths: Option<&Strengths>, ends: &[u16], facts: &mut [u64], assumptions: &mut [u64], tag: InferTag, here: Here,
+    buffer: &[u8], proof: &[u8], state: &[u8], certificates: &[u64], strengths: Option<&Strengths>, ends: &[u16], facts: &mut [u64], assumptions: &mut [u64], tag: Option<InferTag>, here: Here,
 ) -> Inferred
     ensures walks { Infers (sources buffer proof state certificates strengths ends) facts assumptions tag here result }
     ensures keeps { KeepsRows here assumptions }
@@ -66,6 +66,9 @@ fn infer(
     if here.left == 0 {
         return nothing(ledger.misfit(at));
     }
+    let Some(tag) = tag else {
+        return nothing(ledger.misfit(at));
+    };
     let begin = past(proof, at);
     match tag {
         InferTag::LocalTag => local(proof, assumptions, strengths, scope, at, ledger),
@@ -85,13 +88,12 @@ fn infer(
             Inferred { ledger: after_checked, judgement: part_at(premise, used.conclusion), next: used.next }
         }
         InferTag::InstanceTag => {
-            let read = term_at(proof, begin);
-            let term = read.term;
-            let next = read.next;
+            let Some((term, next)) = term_at(proof, begin) else {
+                return nothing(ledger.misfit(at));
+            };
             let part = infer(buffer, proof, state, certificates, strengths, ends, facts, assumptions, infer_tag_at(proof, next), here.part(next, ledger));
             instance(buffer, at, part, term)
         }
-        InferTag::NoInferTag => nothing(ledger.misfit(at)),
     }
 }
 
@@ -110,7 +112,10 @@ pub fn check(
     if here.left == 0 {
         return Checked { ledger: ledger.misfit(at), next: at };
     }
-    match check_tag_at(proof, at) {
+    let Some(tag) = check_tag_at(proof, at) else {
+        return Checked { ledger: ledger.misfit(at), next: at };
+    };
+    match tag {
         CheckTag::PairTag => pair(buffer, proof, state, certificates, strengths, ends, facts, assumptions, goal_bytes, goal, here),
         CheckTag::TopStepTag => Checked { ledger: top(goal_bytes, at, goal, ledger), next: past(proof, at) },
         CheckTag::AtInTag => put_in(buffer, proof, state, certificates, strengths, ends, facts, assumptions, Shell::AtShell, goal_bytes, goal, here),
@@ -123,11 +128,10 @@ pub fn check(
         CheckTag::OrRightTag => put_in(buffer, proof, state, certificates, strengths, ends, facts, assumptions, Shell::RightShell, goal_bytes, goal, here),
         CheckTag::OrOutTag => by_cases(buffer, proof, state, certificates, strengths, ends, facts, assumptions, Cases::BothSides, goal_bytes, goal, here),
         CheckTag::FalsityOutTag => by_cases(buffer, proof, state, certificates, strengths, ends, facts, assumptions, Cases::NoCase, goal_bytes, goal, here),
-        CheckTag::InferredTag => {
-            let inferred = infer(buffer, proof, state, certificates, strengths, ends, facts, assumptions, infer_tag_at(proof, at), here);
+        CheckTag::InferredTag(tag) => {
+            let inferred = infer(buffer, proof, state, certificates, strengths, ends, facts, assumptions, Some(tag), here);
             checked_by(buffer, goal_bytes, at, inferred, goal)
         }
-        CheckTag::NoCheckTag => Checked { ledger: ledger.misfit(at), next: at },
     }
 }
 
