@@ -1,4 +1,4 @@
--- Names are put one after another: they have the sides of each pair that was passed, and the marks stay zeros.
+-- Names are put one after another: they have the sides of each pair that was passed, and where the marks are zeros these are no pairs' strengths yet.
 use Prim.Native.Nat.{ℕ, zero, suc, ◌+◌, ◌≤◌, ◌<◌}
 use mathlib.Core.Path.{◌≡◌, refl, ap, ◌∙◌}
 use mathlib.Core.List.{List, [], ◌∷◌, ◌++◌}
@@ -15,20 +15,19 @@ use Rattle.rising.proofs.RisingLaws.{insert_has}
 use Rattle.bl.specs.Strength.{pair_of, most_pairs}
 use Rattle.bl.specs.Deciding.{alone_is}
 use Rattle.strength.specs.declared.table.Strengths.{Strengths}
-use Rattle.strength.specs.Strengths.{names, StrengthsOf}
-use Rattle.strength.specs.Taking.{IsEmpty, Standing}
+use Rattle.strength.specs.Strengths.{names, Unmarked, StrengthsOf}
+use Rattle.strength.specs.Taking.{Standing}
 use Rattle.strength.proofs.BitLaws.{no_bit}
 
--- The names have both sides of the pairs, no more than so many, and there are no marks.
+-- The names have both sides of the pairs, no more than so many.
 pub record NamesOf (pairs : List ℕ) (most : ℕ) (s : Strengths) : Type 0 where
   pub named : Standing pairs s
   pub above : s.strongers.count ≤ most
   pub under : s.weakers.count ≤ most
-  pub marks : s.marks ≡ replicate most_pairs 0
 
-pub none_named : (s : Strengths) → IsEmpty s → NamesOf [] 0 s
+pub none_named : (s : Strengths) → s.strongers.count ≡ 0 → s.weakers.count ≡ 0 → NamesOf [] 0 s
 unfolding In
-none_named s e = record { named = λ n i. absurd i; above = omega (arith, e.above); under = omega (arith, e.under); marks = e.marks }
+none_named s e f = record { named = λ n i. absurd i; above = omega arith; under = omega arith }
 
 -- Among zeros all numbers are zero.
 zero_at : (n i : ℕ) → get_or {A = ℕ} (replicate n 0) i 0 ≡ 0
@@ -37,7 +36,7 @@ zero_at (suc n) zero = refl
 zero_at (suc n) (suc i) = zero_at n i
 
 -- Where the marks are zeros, nobody is marked above another.
-pub unmarked : (s : Strengths) → s.marks ≡ replicate most_pairs 0 → StrengthsOf s []
+pub unmarked : (s : Strengths) → Unmarked s → StrengthsOf s []
 unmarked s zeros =
     record { told = λ k j h. inl (alone_is h); only = λ k j m. absurd (no_bit _ (rw (none _) at m.marked)) }
   where
@@ -63,5 +62,5 @@ module _ (pairs : List ℕ) (i : ℕ) (s more : Strengths) (inside : i < length 
             }
       ]
 
-  pub one_named : more.marks ≡ s.marks → NamesOf (take (i + 1) pairs) (i + 1) more
-  one_named same = record { named = stands; above = omega (arith, named.above); under = omega (arith, named.under); marks = same ∙ named.marks }
+  pub one_named : NamesOf (take (i + 1) pairs) (i + 1) more
+  one_named = record { named = stands; above = omega (arith, named.above); under = omega (arith, named.under) }

@@ -1,10 +1,10 @@
 -- The strengths that pairs give: the strongers, the weakers, and a mark for each two of them.
-use Rattle.std.specs.Prelude.{ℕ, ◌≡◌, Bool, List, ◌⊎◌, Option, None, Some, take}
+use Rattle.std.specs.Prelude.{ℕ, ◌≡◌, Bool, List, ◌⊎◌, Option, None, Some, take, replicate}
 use Rattle.std.specs.Borrow.{Bor}
 use Rattle.procap.specs.Lists.{In}
 use Rattle.procap.specs.Tells.{Tells}
 use Rattle.rising.specs.Rising.{below}
-use Rattle.bl.specs.Strength.{Pair, AsStrong}
+use Rattle.bl.specs.Strength.{Pair, most_pairs, AsStrong}
 use Rattle.strength.specs.declared.names.Names.{Names}
 use Rattle.strength.specs.declared.table.Strengths.{Strengths}
 use Rattle.strength.specs.Marks.{Marked}
@@ -12,6 +12,10 @@ use Rattle.strength.specs.Marks.{Marked}
 -- The names that stand in order.
 abbrev pub names : Names → List ℕ
 names ordered = take ordered.count ordered.numbers
+
+-- Nobody is marked yet.
+abbrev pub Unmarked : Strengths → Type 0
+Unmarked s = s.marks ≡ replicate most_pairs 0
 
 -- The mark of two principals, where their names stand.
 abbrev pub MarkOf : Strengths → ℕ → ℕ → Type 0

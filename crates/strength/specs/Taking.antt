@@ -1,17 +1,11 @@
 -- Pairs that are taken one after another: what each brings, and what comes of it.
-use Rattle.std.specs.Prelude.{ℕ, ◌≡◌, List, ◌∷◌, ◌⊎◌, ◌↔◌, replicate}
+use Rattle.std.specs.Prelude.{ℕ, ◌≡◌, List, ◌∷◌, ◌⊎◌, ◌↔◌}
 use Rattle.procap.specs.Lists.{In}
 use Rattle.rising.specs.Rising.{below}
-use Rattle.bl.specs.Strength.{Pair, pair_of, most_pairs, AsStrong}
+use Rattle.bl.specs.Strength.{Pair, pair_of, AsStrong}
 use Rattle.strength.specs.declared.table.Strengths.{Strengths}
 use Rattle.strength.specs.Marks.{Bit}
 use Rattle.strength.specs.Strengths.{names, MarkOf, MarkedAbove, StrengthsOf}
-
--- There are no names and no marks.
-pub record IsEmpty (s : Strengths) : Type 0 where
-  pub above : s.strongers.count ≡ 0
-  pub under : s.weakers.count ≡ 0
-  pub marks : s.marks ≡ replicate most_pairs 0
 
 -- Both sides of a pair stand in the names.
 pub record Stands (pair : ℕ) (s : Strengths) : Type 0 where

@@ -24,13 +24,18 @@ impl Names {
     ghost use Rattle.strength.specs.Places.{PlacedIn};
 
     // No names.
-    pub(crate) fn none() -> Names
-        ensures { result.count ≡ 0 }
-    {
+    pub(crate) fn none() -> Names {
         Names {
             count: 0,
             numbers: [0; MOST_PAIRS],
         }
+    }
+
+    // Leaves no name.
+    pub(crate) fn clear(&mut self)
+        ensures { self.new.count ≡ 0 }
+    {
+        self.count = 0;
     }
 
     // Where a name stands, if it does.

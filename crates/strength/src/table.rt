@@ -3,9 +3,9 @@ ghost use Rattle.std.specs.Prelude.{◌≡◌, ◌≤◌, [], length};
 ghost use Rattle.procap.specs.Lists.{In};
 ghost use Rattle.procap.specs.Tells.{Tells};
 ghost use Rattle.bl.specs.Strength.{pair_of, pairs_of, most_pairs};
-ghost use Rattle.strength.specs.Strengths.{names, MarkedAbove, StrengthsOf, TellsStrength};
+ghost use Rattle.strength.specs.Strengths.{names, Unmarked, MarkedAbove, StrengthsOf, TellsStrength};
 ghost use Rattle.strength.specs.Finding.{FindsStrengths};
-ghost use Rattle.strength.specs.Taking.{IsEmpty, Stands, Standing, Reaches, Gains, OnePairMore};
+ghost use Rattle.strength.specs.Taking.{Stands, Standing, Reaches, Gains, OnePairMore};
 
 use crate::MOST_PAIRS;
 use crate::marks::{gain_rows, has_mark};
@@ -48,21 +48,20 @@ fn weaker_of(pair: u32) -> u64
 }
 
 impl Strengths {
-    // The strengths that the pairs give, unless these are too many.
-    pub fn found(pairs: &[u32]) -> Strengths
-        ensures { FindsStrengths pairs.now result }
+    // Finds the strengths that the pairs give, unless these are too many.
+    // What is lent is filled, since a result of 4,112 bytes is copied, and the stack is as much deeper.
+    pub fn find(&mut self, pairs: &[u32])
+        ensures { FindsStrengths pairs.now self.old self.new }
     {
-        let mut strengths = Strengths::none();
         if pairs.len() <= MOST_PAIRS {
-            strengths.put_names(pairs);
-            strengths.take_pairs(pairs);
+            self.put_names(pairs);
+            self.take_pairs(pairs);
         }
-        strengths
     }
 
     // No names and no marks.
-    fn none() -> Strengths
-        ensures { IsEmpty result }
+    pub fn none() -> Strengths
+        ensures { Unmarked result }
     {
         Strengths {
             strongers: Names::none(),
@@ -71,13 +70,14 @@ impl Strengths {
         }
     }
 
-    // Puts the names of both sides of the pairs.
+    // Puts the names of both sides of the pairs, in place of any that stand there.
     fn put_names(&mut self, pairs: &[u32])
-        requires few { length pairs.now ≤ most_pairs }
-        requires empty { IsEmpty self.old }
+        requires { length pairs.now ≤ most_pairs }
         ensures named { Standing pairs.now self.new }
-        ensures unmarked { StrengthsOf self.new [] }
+        ensures marks { self.new.marks ≡ self.old.marks }
     {
+        self.strongers.clear();
+        self.weakers.clear();
         for pair in pairs {
             self.strongers.put_name(stronger_of(*pair));
             self.weakers.put_name(weaker_of(*pair));

@@ -10,7 +10,7 @@ use Rattle.bl.specs.Deciding.{alone_is}
 use Rattle.bl.proofs.Called.{pairs_from}
 use Rattle.bl.specs.Strength.{Pair, pairs_in}
 use Rattle.strength.specs.declared.table.Strengths.{Strengths}
-use Rattle.strength.specs.Strengths.{StrengthsOf, StrengthsLent, LentStrengthsOf}
+use Rattle.strength.specs.Strengths.{Unmarked, StrengthsOf, StrengthsLent, LentStrengthsOf}
 use Rattle.strength.specs.Finding.{FindsStrengths}
 use Rattle.ledger.specs.declared.Ledger.{Ledger}
 use Rattle.walk.specs.Walking.{PolicyLent}
@@ -23,8 +23,8 @@ none_give [] ps none e = pairs_from [] ps e λ _ is. rw is (record { told = λ k
 none_give (n ∷ ns) ps none e = absurd (omega arith)
 
 -- Pairs give the strengths that were found.
-pub found_give : (pairs : List ℕ) (strengths : Strengths) (ps : List Pair) → FindsStrengths pairs strengths → pairs_in pairs ≡ Ok ps → StrengthsOf strengths ps
-found_give pairs strengths ps found e = pairs_from pairs ps e λ few is. rw is (found few)
+pub found_give : (pairs : List ℕ) (before strengths : Strengths) (ps : List Pair) → Unmarked before → FindsStrengths pairs before strengths → pairs_in pairs ≡ Ok ps → StrengthsOf strengths ps
+found_give pairs before strengths ps none found e = pairs_from pairs ps e λ few is. rw is (found few none)
 
 -- So the walk by these is the walk by those.
 pub by_strengths : (asked : Asked) (buffer pairs rows : List ℕ) (strengths : StrengthsLent) (proof state ends list : List ℕ) {l : Ledger} {list' : List ℕ}

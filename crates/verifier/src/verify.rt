@@ -271,7 +271,8 @@ fn walked(
     if pairs.len() == 0 {
         return walked_by(asked, buffer, proof, state, certificates, None, ends, facts);
     }
-    let strengths = Strengths::found(pairs);
+    let mut strengths = Strengths::none();
+    strengths.find(pairs);
     walked_by(asked, buffer, proof, state, certificates, Some(&strengths), ends, facts)
 }
 

@@ -9,4 +9,4 @@ returns-then-pairs-eq0 c =
 
 pub returns : goal.returns
 returns c =
-    by_strengths _ _ _ _ _ _ _ _ _ (λ ps. found_give _ _ ps c.found-strengths.ensures) c.walked_by-2.ensures
+    by_strengths _ _ _ _ _ _ _ _ _ (λ ps. found_give _ c.none-strengths.result _ ps c.none-strengths.ensures c.find.ensures) c.walked_by-2.ensures

@@ -1,7 +1,8 @@
--- The names have both sides of the pairs passed, as many as these at the most, and there are no marks yet.
+-- The names have both sides of the pairs passed, as many as these at the most, and the marks stay.
+use mathlib.Core.Path.{◌≡◌}
 use lib.ListN.{take}
 use Rattle.strength.proofs.NamesPut.{NamesOf}
 use Rattle.strength.proofs.table.Strengths.put_names.Given as goal
 
 abbrev pub invariant-loop-pair : goal.invariant-loop-pair
-invariant-loop-pair l = NamesOf (take l.pair-index l.pairs) l.pair-index l.self
+invariant-loop-pair l = NamesOf (take l.pair-index l.pairs) l.pair-index l.self × (l.self.marks ≡ l.fn.self.marks)
