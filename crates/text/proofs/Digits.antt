@@ -14,8 +14,6 @@ use Rattle.procap.specs.Bytes.{then, ensure}
 use Rattle.text.specs.Numbers.{digit_zero, is_digit, while_digit, leading_digits, value, one_spelling}
 use Rattle.text.specs.Line.{digits, number_to}
 use Rattle.text.specs.Places.{DigitReads}
-use Rattle.text.specs.declared.line.Digit.{Digit}
-use Rattle.text.specs.declared.line.Digit.TheVariants.{Value, NoDigit}
 use Rattle.text.proofs.Numerals.{value_append, starts, started_one}
 
 -- ── The digits at a place ──
@@ -35,7 +33,7 @@ module _ (text : List ℕ) (at : ℕ) where
         rw (drop-cons text at 0 l, le-leb digit_zero (get_or text at 0) low, le-leb (get_or text at 0) (digit_zero + 9) high, add-one at)
 
     pub digit_here : digit_zero ≤ get_or text at 0 → get_or text at 0 ≤ digit_zero + 9
-        → DigitReads text at (Value (get_or text at 0 - digit_zero))
+        → DigitReads text at (Some (get_or text at 0 - digit_zero))
     digit_here low high =
         let whole : get_or text at 0 ≡ digit_zero + (get_or text at 0 - digit_zero) = omega arith in
         (omega arith, l, digit_first low high ∙ ap (λ (b : ℕ). b ∷ leading_digits (drop (at + 1) text)) whole)
@@ -112,23 +110,19 @@ pub record DigitsRead (text : List ℕ) (limit at n next : ℕ) : Type 0 where
   pub within : n ≤ limit
   pub spelled : (others ≡ []) ⊎ (0 < first)
 
--- The digit that was found is read.
-pub digit_told : (text : List ℕ) (at : ℕ) {r s : Digit} → r ≡ s → DigitReads text at r → DigitReads text at s
-digit_told text at e h = subst (DigitReads text at) e h
-
 module _ (text : List ℕ) (limit at : ℕ) where
   -- There is no number where no digit is, and where the first one passes the limit.
-  pub no_number : DigitReads text at NoDigit → number_to text limit at ≡ None
+  pub no_number : DigitReads text at None → number_to text limit at ≡ None
   unfolding one_spelling
   no_number h = number_in_no_spelling text limit at [] h refl
 
-  pub first_above : (d : ℕ) → DigitReads text at (Value d) → limit < d → number_to text limit at ≡ None
+  pub first_above : (d : ℕ) → DigitReads text at (Some d) → limit < d → number_to text limit at ≡ None
   first_above d h l =
       let rest : List ℕ = leading_digits (drop (at + 1) text) in
       number_above text limit at ((digit_zero + d) ∷ rest) h.2 (omega (arith, value_first d rest, value_grows d rest))
 
   -- The first digit.
-  pub started : (d : ℕ) → DigitReads text at (Value d) → d ≤ limit → DigitsRead text limit at d (at + 1)
+  pub started : (d : ℕ) → DigitReads text at (Some d) → d ≤ limit → DigitsRead text limit at d (at + 1)
   unfolding value
   started d h l = record { first = d; others = []; split = h.2; place = omega arith; says = refl; within = l; spelled = inl refl }
 
@@ -141,7 +135,7 @@ module _ (text : List ℕ) (limit at : ℕ) where
         [ inl e ↦ ap (λ (ds : List ℕ). one_spelling ((digit_zero + r.first) ∷ ds)) e | inr l ↦ not_zero_first r.first r.others l ]
 
     -- With no digit more, the number is what they say.
-    pub ended : DigitReads text next NoDigit → number_to text limit at ≡ Some (n, next)
+    pub ended : DigitReads text next None → number_to text limit at ≡ Some (n, next)
     ended h =
         let ds : List ℕ = (digit_zero + r.first) ∷ r.others in
         let all : leading_digits (drop at text) ≡ ds = r.split ∙ rw (h, append-nil) in
@@ -149,7 +143,7 @@ module _ (text : List ℕ) (limit at : ℕ) where
         number_here text limit at ds all read_spelled (omega arith)
         ∙ ap₂ (λ (m e : ℕ). Some (m, e)) says (omega arith)
 
-    module _ (d : ℕ) (h : DigitReads text next (Value d)) where
+    module _ (d : ℕ) (h : DigitReads text next (Some d)) where
       -- All digits: those read, this one, and the rest.
       abbrev rest : List ℕ
       rest = leading_digits (drop (next + 1) text)
