@@ -14,7 +14,7 @@ use Rattle.procap.specs.Bytes.{then, ensure}
 use Rattle.text.specs.Numbers.{digit_zero, is_digit, while_digit, leading_digits, value, one_spelling}
 use Rattle.text.specs.Line.{digits, number_to}
 use Rattle.text.specs.Places.{DigitReads}
-use Rattle.text.proofs.Numerals.{value_append, starts, started_one}
+use Rattle.text.proofs.Numerals.{digit_from, digit_to, value_append, starts, started_one}
 
 -- ── The digits at a place ──
 
@@ -24,30 +24,22 @@ module _ (text : List ℕ) (at : ℕ) where
   unfolding leading_digits
   no_digits_past l = rw (drop_of_length-le text l)
 
-  module _ (l : at < length text) where
-    -- A byte from '0' to '9' is the first digit there.
-    digit_first : digit_zero ≤ get_or text at 0 → get_or text at 0 ≤ digit_zero + 9
-        → leading_digits (drop at text) ≡ get_or text at 0 ∷ leading_digits (drop (at + 1) text)
-    unfolding leading_digits while_digit is_digit
-    digit_first low high =
-        rw (drop-cons text at 0 l, le-leb digit_zero (get_or text at 0) low, le-leb (get_or text at 0) (digit_zero + 9) high, add-one at)
+  -- The byte that stands there is the first digit there if it is one, and else there is none.
+  module _ (b : ℕ) (l : at < length text) (e : b ≡ get_or text at 0) where
+    digit_first : is_digit b ≡ true → leading_digits (drop at text) ≡ b ∷ leading_digits (drop (at + 1) text)
+    unfolding leading_digits while_digit
+    digit_first d = rw (drop-cons text at 0 l, ← e, d, add-one at)
 
-    pub digit_here : digit_zero ≤ get_or text at 0 → get_or text at 0 ≤ digit_zero + 9
-        → DigitReads text at (Some (get_or text at 0 - digit_zero))
-    digit_here low high =
-        let whole : get_or text at 0 ≡ digit_zero + (get_or text at 0 - digit_zero) = omega arith in
-        (omega arith, l, digit_first low high ∙ ap (λ (b : ℕ). b ∷ leading_digits (drop (at + 1) text)) whole)
+    pub digit_here : is_digit b ≡ true → DigitReads text at (Some (b - digit_zero))
+    digit_here d =
+        let low = digit_from b d in
+        let high = digit_to b d in
+        let whole : b ≡ digit_zero + (b - digit_zero) = omega arith in
+        (omega arith, l, digit_first d ∙ ap (λ (b : ℕ). b ∷ leading_digits (drop (at + 1) text)) whole)
 
-    -- Any other byte is none.
-    pub no_digit_below : get_or text at 0 < digit_zero → leading_digits (drop at text) ≡ []
-    unfolding leading_digits while_digit is_digit
-    no_digit_below h = rw (drop-cons text at 0 l, lt-leb digit_zero (get_or text at 0) h)
-
-    pub no_digit_above : digit_zero + 9 < get_or text at 0 → leading_digits (drop at text) ≡ []
-    unfolding leading_digits while_digit is_digit
-    no_digit_above h =
-        let low : digit_zero ≤ get_or text at 0 = omega arith in
-        rw (drop-cons text at 0 l, le-leb digit_zero (get_or text at 0) low, lt-leb (get_or text at 0) (digit_zero + 9) h)
+    pub no_digit_here : is_digit b ≡ false → leading_digits (drop at text) ≡ []
+    unfolding leading_digits while_digit
+    no_digit_here d = rw (drop-cons text at 0 l, ← e, d)
 
 -- ── Values ──
 

@@ -2,7 +2,6 @@
 pub mod Numerals
 pub mod Readers
 pub mod Spellings
-pub mod Forms
 pub mod Requests
 pub mod WholeTexts
 pub mod Theorems
@@ -13,6 +12,7 @@ pub mod Joined
 pub mod Putting
 pub mod Written
 pub mod Digits
+pub mod Words
 pub mod Lines
 pub mod Terms
 pub mod FactLines

@@ -1,12 +1,11 @@
 -- The three lines of a request: which of them breaks the form, and what they say together; that they are read from just the bytes that spell a
 -- request of three names, and that those bytes read as it.
 use Prim.Native.Nat.{ℕ, suc}
-use mathlib.Core.Path.{◌≡◌, refl, subst}
+use mathlib.Core.Path.{◌≡◌}
 use mathlib.Core.List.{List, ◌++◌}
 use Rattle.std.specs.Prelude.{Err, None, Ok, Option, Some}
 use native.Mathlib.Omega.{arith}
 use Rattle.procap.specs.Outcome.{Outcome, go_on}
-use Rattle.procap.specs.Procaps.{no_request}
 use Rattle.procap.specs.Writable.{largest_name, RequestInForm}
 use Rattle.procap.specs.declared.answer.Answer.TheVariants.{InputMalformed}
 use Rattle.procap.specs.declared.procap.Request.{Request}
@@ -16,26 +15,8 @@ use Rattle.text.specs.Text.{line}
 use Rattle.text.specs.Line.{line_to}
 use Rattle.text.specs.LinesInARow.{at_line, said}
 use Rattle.text.specs.RequestLines.{request_lines}
-use Rattle.text.specs.Places.{RequestFound, RequestReads}
-use Rattle.text.specs.declared.line.Form.TheVariants.{Kept, BrokenAt}
-use Rattle.text.specs.declared.request.RequestRead.{RequestRead}
 use Rattle.text.proofs.Readers.{Takes, joined, parted, TextRead}
 use Rattle.text.proofs.Spellings.{line_read, line_found}
-
--- ── What is handed back ──
-
-module _ (o : Outcome (Request × ℕ × ℕ)) (r : RequestRead) where
-  -- Where the form is kept, the request was read; where a line breaks it, the reader refuses with it.
-  pub request_kept : r.form ≡ Kept → RequestReads o r → o ≡ Ok (r.request, 4, r.next)
-  request_kept e h = subst (λ f. RequestFound o f r.request r.next) e h
-
-  pub request_broken_at : {line : ℕ} → r.form ≡ BrokenAt line → RequestReads o r → o ≡ Err (InputMalformed line)
-  request_broken_at e h = (subst (λ f. RequestFound o f r.request r.next) e h).0
-
-  -- Where the reader refuses with a line, that line is handed back, and zeros.
-  pub request_refused : {line : ℕ} → r ≡ record { form = BrokenAt line; request = no_request; next = 0 } → o ≡ Err (InputMalformed line)
-      → RequestReads o r
-  request_refused e h = rw e (h, refl, refl)
 
 -- ── Line by line ──
 

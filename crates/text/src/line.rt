@@ -22,9 +22,11 @@ pub fn after(text: &[u8], at: usize, word: &[u8]) -> Option<usize>
 fn digit_at(text: &[u8], at: usize) -> Option<u64>
     ensures { DigitReads text.now at result }
 {
-    match *text.get(at)? {
-        byte @ b'0'..=b'9' => Some(u64::from(byte - b'0')),
-        _ => None,
+    let byte = *text.get(at)?;
+    if byte.is_ascii_digit() {
+        Some(u64::from(byte - b'0'))
+    } else {
+        None
     }
 }
 
