@@ -2,6 +2,7 @@
 pub mod Numerals
 pub mod Readers
 pub mod Spellings
+pub mod Forms
 pub mod Requests
 pub mod WholeTexts
 pub mod Theorems

@@ -52,14 +52,14 @@ fn term_at(text: &[u8], at: usize) -> Option<(Term, usize)>
     ensures { result ≡ «term» text.now at }
 {
     match *text.get(at)? {
-        b'n' => number(text, at + 1, LARGEST_NAME).map(|(name, next)| (
-            Term::Name(name as u16),
-            next,
-        )),
-        b't' => number(text, at + 1, LATEST_SECOND).map(|(second, next)| (
-            Term::When(Time::Moment(second)),
-            next,
-        )),
+        b'n' => {
+            let (name, next) = number(text, at + 1, LARGEST_NAME)?;
+            Some((Term::Name(name as u16), next))
+        }
+        b't' => {
+            let (second, next) = number(text, at + 1, LATEST_SECOND)?;
+            Some((Term::When(Time::Moment(second)), next))
+        }
         b'-' => Some((Term::When(Time::MinusInfinity), at + 1)),
         b'+' => Some((Term::When(Time::PlusInfinity), at + 1)),
         b'c' => Some((Term::When(Time::Ctime), at + 1)),

@@ -1,0 +1,26 @@
+-- The letter says which term follows; any other byte, and the text's end, say none.
+use mathlib.Core.Path.{sym, ◌∙◌}
+use borrow.Author.Rules.{rules}
+use Rattle.text.specs.Reader.{term_with}
+use Rattle.text.proofs.Terms.{name_here, no_name, moment_here, no_moment, no_term_past, term_here, other_letter}
+use Rattle.text.proofs.facts.term_at.Goals as goal
+
+pub returns-in_err-get : goal.returns-in_err-get
+returns-in_err-get c = c.from_residual.ensures ∙ sym (no_term_past _ _ c.in_err-get.ensures.lookup.3)
+
+pub returns-in-45 : goal.returns-in-45
+unfolding term_with
+returns-in-45 c = let here = c.in_ok-get.ensures.lookup.3 in sym (term_here _ _ here.0 0x2d (sym (here.1 0) ∙ c.in-45.is))
+
+pub returns-in-43 : goal.returns-in-43
+unfolding term_with
+returns-in-43 c = let here = c.in_ok-get.ensures.lookup.3 in sym (term_here _ _ here.0 0x2b (sym (here.1 0) ∙ c.in-43.is))
+
+pub returns-in-99 : goal.returns-in-99
+unfolding term_with
+returns-in-99 c = let here = c.in_ok-get.ensures.lookup.3 in sym (term_here _ _ here.0 0x63 (sym (here.1 0) ∙ c.in-99.is))
+
+pub returns-in_default : goal.returns-in_default
+returns-in_default c =
+    let here = c.in_ok-get.ensures.lookup.3 in
+    sym (other_letter _ _ here.0 (search rules) (search rules) (search rules) (search rules) (search rules))
