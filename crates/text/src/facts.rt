@@ -29,12 +29,12 @@ fn fact_with(text: &[u8], predicate: u16, at: usize) -> Option<(Fact, usize)>
     let mut arguments = [zero; MOST_TERMS];
     let mut next = at;
     let mut count: usize = 0;
-    while count < MOST_TERMS {
+    for argument in arguments.iter_mut() {
         let Some(after_space) = after(text, next, b" ") else {
             break;
         };
         let (term, after_term) = term_at(text, after_space)?;
-        arguments[count] = Argument { term: term };
+        *argument = Argument { term: term };
         next = after_term;
         count += 1;
     }

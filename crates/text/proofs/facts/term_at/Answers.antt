@@ -8,6 +8,32 @@ use Rattle.text.proofs.facts.term_at.Goals as goal
 pub returns-in_err-get : goal.returns-in_err-get
 returns-in_err-get c = c.from_residual.ensures ∙ sym (no_term_past _ _ c.in_err-get.ensures.lookup.3)
 
+-- A name and a moment are their numbers.
+pub returns-in_err-name-in-110 : goal.returns-in_err-name-in-110
+returns-in_err-name-in-110 c =
+    let here = c.in_ok-get.ensures.lookup.3 in
+    let none = no_name _ _ (sym c.in_err-name-in-110.ensures.reads) in
+    c.from_residual-in_err-name-in-110.ensures ∙ sym (term_here _ _ here.0 0x6e (sym (here.1 0) ∙ c.in-110.is) ∙ none)
+
+pub returns-in_ok-name-in-110 : goal.returns-in_ok-name-in-110
+returns-in_ok-name-in-110 c =
+    let here = c.in_ok-get.ensures.lookup.3 in
+    let name = name_here _ _ _ _ (sym c.in_ok-name-in-110.ensures.reads) in
+    sym (term_here _ _ here.0 0x6e (sym (here.1 0) ∙ c.in-110.is) ∙ name)
+
+pub returns-in_err-second-in-116 : goal.returns-in_err-second-in-116
+returns-in_err-second-in-116 c =
+    let here = c.in_ok-get.ensures.lookup.3 in
+    let none = no_moment _ _ (sym c.in_err-second-in-116.ensures.reads) in
+    c.from_residual-in_err-second-in-116.ensures ∙ sym (term_here _ _ here.0 0x74 (sym (here.1 0) ∙ c.in-116.is) ∙ none)
+
+pub returns-in_ok-second-in-116 : goal.returns-in_ok-second-in-116
+returns-in_ok-second-in-116 c =
+    let here = c.in_ok-get.ensures.lookup.3 in
+    let moment = moment_here _ _ _ _ (sym c.in_ok-second-in-116.ensures.reads) in
+    sym (term_here _ _ here.0 0x74 (sym (here.1 0) ∙ c.in-116.is) ∙ moment)
+
+-- A sign is a term by itself.
 pub returns-in-45 : goal.returns-in-45
 unfolding term_with
 returns-in-45 c = let here = c.in_ok-get.ensures.lookup.3 in sym (term_here _ _ here.0 0x2d (sym (here.1 0) ∙ c.in-45.is))
