@@ -2,7 +2,7 @@
 use Rattle.std.specs.Prelude.{ℕ, ◌+◌, ◌<◌, Bool, ◌≡◌, List, [], ◌∷◌, map, length, drop, Err, None, Ok, Option, Result, Some}
 use Rattle.procap.specs.Lists.{pad, In, Distinct}
 use Rattle.procap.specs.Tells.{Tells}
-use Rattle.procap.specs.Facts.{Spelled, spelled, fact_of, no_fact}
+use Rattle.procap.specs.Facts.{Spelled, fact_of, no_fact}
 use Rattle.procap.specs.Procaps.{most_facts}
 use Rattle.procap.specs.Outcome.{Outcome}
 use Rattle.procap.specs.declared.answer.Answer.TheVariants.{InputMalformed}
@@ -28,11 +28,6 @@ Reads o So (Err broken) = o ≡ Err (InputMalformed broken.0)
 -- The request, where its lines are counted from 1, and the place after them; or the line that breaks their form.
 abbrev pub RequestReads : Outcome (Request × ℕ × ℕ) → Result (Request × ℕ) BrokenLine → Type 0
 RequestReads o r = Reads o (λ b. o ≡ Ok (b.0, 4, b.1)) r
-
--- TODO
-abbrev pub FactReads : Option (Spelled × ℕ) → Option (Fact × ℕ) → Type 0
-FactReads o None = o ≡ None
-FactReads o (Some r) = (o ≡ Some (spelled r.0, r.1)) × (r.0 ≡ fact_of (spelled r.0))
 
 -- The line of this fact stands at a place and ends at another.
 abbrev pub ReadsAt : List ℕ → ℕ → Spelled → ℕ → Type 0

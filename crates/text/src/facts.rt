@@ -1,8 +1,7 @@
 // The line of a fact.
 ghost use Rattle.std.specs.Prelude.{◌≡◌};
 ghost use Rattle.procap.specs.Facts.{most_terms};
-ghost use Rattle.procap.specs.Reading.{with_predicate};
-ghost use Rattle.text.specs.Places.{FactReads};
+ghost use Rattle.procap.specs.Reading.{FactReads, with_predicate};
 ghost use Rattle.text.specs.Reader.{«term», «terms», fact_line};
 
 use crate::line::{after, number};

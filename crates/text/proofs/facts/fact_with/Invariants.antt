@@ -1,9 +1,12 @@
-use Rattle.std.proofs.Common.{◌≡◌, ℕ, ◌+◌, ◌-◌, ◌*◌, ◌<◌, ◌≤◌, length}
-use Rattle.procap.specs.Facts.{most_terms}
-use Rattle.procap.specs.Reading.{with_predicate}
-use Rattle.text.specs.Places.{FactReads}
-use Rattle.text.specs.Reader.{term, terms, fact_line}
+-- The terms read so far are kept in the array, and the rest is still to be read. Where no space follows, or after four terms, only the
+-- line's end may stand.
+use Rattle.std.proofs.Common.{◌≡◌, ◌-◌}
+use Rattle.procap.specs.Facts.{most_terms, no_argument, argument_of}
+use Rattle.procap.proofs.ReadSoFar.{ReadSoFar}
+use Rattle.text.specs.Reader.{terms}
 use Rattle.text.proofs.facts.fact_with.Given as goal
 
 abbrev pub invariant-loop-argument : goal.invariant-loop-argument
-invariant-loop-argument l = ?
+invariant-loop-argument l =
+    (l.count ≡ l.argument-index)
+    × ReadSoFar most_terms no_argument argument_of (terms l.text most_terms l.at) (terms l.text (most_terms - l.count) l.next) l.argument-items l.count
