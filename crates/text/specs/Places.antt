@@ -48,6 +48,10 @@ StandsBefore text at end places r = (f : Spelled) (fs : List Spelled) → ReadsA
 abbrev pub SameLine : List ℕ → ℕ → ℕ → ℕ → Bool → Type 0
 SameLine text at end other r = (f g : Spelled) (e : ℕ) → ReadsAt text at f end → ReadsAt text other g e → Tells r (f ≡ g)
 
+-- The fact on the line at a place.
+abbrev pub FactOn : List ℕ → ℕ → Fact → Type 0
+FactOn text at r = (f : Spelled) (e : ℕ) → ReadsAt text at f e → r ≡ fact_of f
+
 -- The facts on the lines at these places, with zeros past them.
 abbrev pub FactsOn : List ℕ → List ℕ → List Fact → Type 0
 FactsOn text places r = (fs : List Spelled) → OnLines text places fs → r ≡ pad most_facts no_fact (map fact_of fs)

@@ -1,9 +1,9 @@
 // Where the lines of facts stand in a text: each place is enough to read its fact again, so that no fact is carried along.
-ghost use Rattle.std.specs.Prelude.{◌≡◌, ◌≤◌, take};
+ghost use Rattle.std.specs.Prelude.{◌≡◌, ◌≤◌, length, take};
 ghost use Rattle.procap.specs.Procaps.{most_facts};
 ghost use Rattle.procap.specs.Bytes.{many};
 ghost use Rattle.text.specs.Reader.{fact_line};
-ghost use Rattle.text.specs.Places.{LinesReads, StandsBefore, SameLine, FactsOn};
+ghost use Rattle.text.specs.Places.{LinesReads, StandsBefore, SameLine, FactOn, FactsOn};
 
 use crate::facts::fact_at;
 use procap::fact::Fact;
@@ -54,7 +54,12 @@ pub(crate) fn lines_at(text: &[u8], at: usize, count: usize) -> Option<(Lines, u
 fn stood_before(text: &[u8], at: usize, end: usize, places: &[usize]) -> bool
     ensures { StandsBefore text.now at end places.now result }
 {
-    places.iter().any(|place| same_line(text, at, end, *place))
+    for place in places {
+        if same_line(text, at, end, *place) {
+            return true;
+        }
+    }
+    false
 }
 
 // Whether the line of a fact, up to its end, is the line at another place too: the bytes behind the word decide.
@@ -87,13 +92,22 @@ fn same_line(text: &[u8], at: usize, end: usize, other: usize) -> bool
 
 // The facts on the lines at these places, with zeros past them.
 pub(crate) fn facts_on(text: &[u8], places: &[usize]) -> [Fact; MOST_FACTS]
+    requires { length places.now ≤ most_facts }
     ensures { FactsOn text.now places.now result }
 {
     let mut facts = [Fact::none(); MOST_FACTS];
-    for (fact, place) in facts.iter_mut().zip(places) {
-        if let Some((read, _)) = fact_at(text, *place) {
-            *fact = read;
-        }
+    for (i, place) in places.iter().enumerate() {
+        facts[i] = fact_on(text, *place);
     }
     facts
+}
+
+// The fact on the line at a place, or zeros where none stands there.
+fn fact_on(text: &[u8], at: usize) -> Fact
+    ensures { FactOn text.now at result }
+{
+    match fact_at(text, at) {
+        Some((fact, _)) => fact,
+        None => Fact::none(),
+    }
 }
