@@ -2,7 +2,7 @@
 -- back for what a reader finds is a function of that.
 use Prim.Native.Nat.{ℕ}
 use mathlib.Core.Path.{◌≡◌, sym, ap}
-use Rattle.std.specs.Prelude.{Err, None, Ok, Option, Result, Some, option_map}
+use Rattle.std.specs.Prelude.{Err, Ok, Result}
 use Rattle.procap.specs.Answers.{place_of}
 use Rattle.procap.specs.Outcome.{Outcome}
 use Rattle.procap.specs.declared.procap.Request.{Request}

@@ -1,7 +1,7 @@
 -- What is handed on where a line does not read: that line, by its number.
 use Prim.Native.Nat.{ℕ}
 use mathlib.Core.Path.{◌≡◌, ap, ◌∙◌}
-use Rattle.std.specs.Prelude.{Err, IsErrAnd, None, Ok, Option, Result, Some, ok_or}
+use Rattle.std.specs.Prelude.{Err, IsErrAnd, None, Option, Result, Some, ok_or}
 use Rattle.std.proofs.lemmas.Result.{err_from_is_err_and}
 use Rattle.procap.specs.Outcome.{Outcome}
 use Rattle.procap.specs.declared.answer.Answer.TheVariants.{InputMalformed}

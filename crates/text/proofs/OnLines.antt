@@ -15,7 +15,6 @@ use Rattle.procap.specs.Procaps.{most_facts}
 use Rattle.procap.specs.Reading.{FactReads}
 use Rattle.procap.specs.declared.fact.Fact.{Fact}
 use Rattle.procap.proofs.Indices.{in_rest, pad_more}
-use Rattle.text.specs.Reader.{fact_line}
 use Rattle.text.specs.Places.{ReadsAt, OnLines}
 
 -- A fact to stand past the others.

@@ -1,7 +1,7 @@
 -- What an overview of a text says: the text reads as the procap of what was seen, and the lines of its facts begin at the places that were
 -- seen. The text is just the procap's spelling, so its last bytes are the lines of the facts, each from the end of the one before.
 use Prim.Native.Nat.{ℕ, ◌-◌, ◌≤◌}
-use mathlib.Core.Path.{◌≡◌, refl, sym, ap, subst, ◌∙◌}
+use mathlib.Core.Path.{◌≡◌, refl, sym, subst, ◌∙◌}
 use mathlib.Core.List.{List, [], ◌∷◌, ◌++◌}
 use Rattle.std.proofs.lemmas.Option.{same_Some}
 use Rattle.std.specs.Prelude.{Err, None, Ok, Option, Some}

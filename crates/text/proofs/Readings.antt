@@ -9,7 +9,7 @@ use borrow.Author.Tests.{le-leb, lt-leb, eq-eqb, ne_eqb}
 use Rattle.procap.specs.Lists.{Distinct, pad}
 use Rattle.procap.specs.Times.{latest}
 use Rattle.procap.specs.Facts.{Spelled, fact_of, no_fact}
-use Rattle.procap.specs.Procaps.{most_facts, version_one, empty_procap, procap_of}
+use Rattle.procap.specs.Procaps.{most_facts, version_one, empty_procap, listed, procap_of}
 use Rattle.procap.specs.Outcome.{Outcome, or_else, answer_of, procap_handed}
 use Rattle.procap.specs.Bytes.{then, ensure, many, to_the_end, whole}
 use Rattle.procap.specs.Deciding.{distinct?, spelled?}
@@ -27,6 +27,7 @@ use Rattle.text.specs.Reader.{fact_line, moment_lines, procap_with, procap_lines
 use Rattle.text.specs.Overviews.{places_in, overview_of}
 use Rattle.text.specs.declared.reader.ReadText.{ReadText}
 use Rattle.text.specs.declared.reader.Overview.{Overview}
+use Rattle.text.specs.declared.fact_places.Lines.{Lines}
 
 -- ── The moments ──
 
@@ -151,18 +152,14 @@ pub none_seen : (text : List ℕ) (o : Option Procap) → o ≡ None → ◌≡�
 unfolding or_else overview_of
 none_seen text o e = rw e
 
-pub some_seen : (text : List ℕ) (o : Option Procap) (request : Request) (from to count : ℕ) (places : List ℕ) (fs : List Spelled)
-    → o ≡ Some (procap_of request from to fs) → length fs ≡ count → places ≡ places_in text fs
-    → ◌≡◌ {A = Option Overview} (Some (record { request = request; from = from; to = to; lines = record { count = count; places = places } }))
-    (overview_of text (or_else ProcapMalformed o))
+pub some_seen : (text : List ℕ) (o : Option Procap) (request : Request) (from to : ℕ) (lines : Lines) (fs : List Spelled)
+    → o ≡ Some (procap_of request from to fs) → lines ≡ record { count = length fs; places = places_in text fs }
+    → ◌≡◌ {A = Option Overview} (Some (record { request = request; from = from; to = to; lines = lines })) (overview_of text (or_else ProcapMalformed o))
 unfolding or_else overview_of procap_of
-some_seen text o request from to count places fs e n on =
-    rw e λ i. Some (record {
-      request = request;
-      from = from;
-      to = to;
-      lines = record { count = sym n i; places = (on ∙ ap (places_in text) (sym (listed_back request from to fs))) i };
-    })
+some_seen text o request from to lines fs e on =
+    let same : lines ≡ record { count = length fs; places = places_in text (listed (procap_of request from to fs)) } =
+    on ∙ ap (λ gs. record { count = length fs; places = places_in text gs }) (sym (listed_back request from to fs)) in
+    rw e (ap (λ l. Some (record { request = request; from = from; to = to; lines = l })) same)
 
 -- ── What is handed over ──
 

@@ -1,9 +1,10 @@
 -- The three lines of a request: which of them breaks the form, and what they say together; that they are read from just the bytes that spell a
 -- request of three names, and that those bytes read as it.
 use Prim.Native.Nat.{ℕ, suc}
-use mathlib.Core.Path.{◌≡◌}
+use mathlib.Core.Path.{◌≡◌, sym, ◌∙◌}
 use mathlib.Core.List.{List, ◌++◌}
-use Rattle.std.specs.Prelude.{Err, None, Ok, Option, Some}
+use Rattle.std.specs.Prelude.{Err, None, Ok, Option, Result, Some}
+use Rattle.std.specs.Result.{result_ok}
 use native.Mathlib.Omega.{arith}
 use Rattle.procap.specs.Outcome.{Outcome, go_on}
 use Rattle.procap.specs.Writable.{largest_name, RequestInForm}
@@ -15,6 +16,8 @@ use Rattle.text.specs.Text.{line}
 use Rattle.text.specs.Line.{line_to}
 use Rattle.text.specs.LinesInARow.{at_line, said}
 use Rattle.text.specs.RequestLines.{request_lines}
+use Rattle.text.specs.Places.{RequestReads}
+use Rattle.text.specs.declared.line.BrokenLine.{BrokenLine}
 use Rattle.text.proofs.Readers.{Takes, joined, parted, TextRead}
 use Rattle.text.proofs.Spellings.{line_read, line_found}
 
@@ -88,6 +91,17 @@ said_granted o a n next e = rw e
 pub said_refused : {A : Type 0} (o : Outcome (A × ℕ × ℕ)) (n : ℕ) → o ≡ Err (InputMalformed n) → said o ≡ None
 unfolding said
 said_refused o n e = rw e
+
+-- What is said by what is handed back, where nobody asks which line breaks: the request and the place after it, or none.
+pub said_none : (o : Outcome (Request × ℕ × ℕ)) (r : Result (Request × ℕ) BrokenLine) → RequestReads o r
+    → ◌≡◌ {A = Option (Request × ℕ)} None (result_ok r) → said o ≡ None
+said_none o (Ok b) h e = cc
+said_none o (Err broken) h e = said_refused o broken.0 h
+
+pub said_some : (o : Outcome (Request × ℕ × ℕ)) (r : Result (Request × ℕ) BrokenLine) → RequestReads o r
+    → (q : Request) (next : ℕ) → ◌≡◌ {A = Option (Request × ℕ)} (Some (q, next)) (result_ok r) → said o ≡ Some (q, next)
+said_some o (Ok b) h q next e = said_granted o b.0 4 b.1 h ∙ sym e
+said_some o (Err broken) h q next e = cc
 
 -- A request that was read is one of three names.
 pub request_in_form : (bytes : List ℕ) (n at : ℕ) (r : Request) (m next : ℕ) → request_lines bytes n at ≡ Ok (r, m, next) → RequestInForm r

@@ -12,7 +12,7 @@ use native.Mathlib.Omega.{arith}
 use lib.ListN.{length, take, drop, drop_of_length-le, take-append-drop, length-drop}
 use lib.Dec.{eqb}
 use lib.Seq.{drop-drop, take_all, take-append_seam}
-use Rattle.procap.proofs.Readers.{unread, read}
+use Rattle.procap.proofs.Readers.{read}
 use Rattle.text.specs.Line.{literal}
 use Rattle.text.proofs.Readers.{Takes, TextRead, literal_read, literal_found}
 

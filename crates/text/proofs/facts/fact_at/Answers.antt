@@ -1,5 +1,5 @@
 -- The word, the predicate and the terms are read one after another. A predicate is at most 65,535, so that it fits.
-use mathlib.Core.Path.{sym, ◌∙◌}
+use mathlib.Core.Path.{sym}
 use Rattle.text.proofs.Words.{no_word, word_to}
 use Rattle.text.proofs.FactLines.{no_fact_word, no_predicate, fact_line_with}
 use Rattle.text.proofs.facts.fact_at.Goals as goal

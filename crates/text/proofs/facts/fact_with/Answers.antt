@@ -6,7 +6,7 @@ use native.Mathlib.Omega.{arith}
 use Rattle.std.proofs.lemmas.List.{set-get_or}
 use Rattle.procap.specs.Lists.{pad}
 use Rattle.procap.specs.Facts.{most_terms}
-use Rattle.procap.proofs.ReadSoFar.{none_yet, one_more, rest_is}
+use Rattle.procap.proofs.ReadSoFar.{none_yet, one_more}
 use Rattle.procap.proofs.WithPredicate.{no_fact_with, fact_with}
 use Rattle.text.specs.Reader.{terms}
 use Rattle.text.proofs.Words.{no_word, word_to}

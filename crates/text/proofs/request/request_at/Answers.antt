@@ -1,6 +1,5 @@
 -- The three lines are read one after another, and the first that does not read breaks the form. Each number is at most 65,535, so that it
 -- fits a name.
-use native.Mathlib.Omega.{arith}
 use mathlib.Core.Path.{sym, ◌∙◌}
 use Rattle.text.proofs.Forms.{missing_on}
 use Rattle.text.proofs.Requests.{no_who, no_what, no_right, request_here}
