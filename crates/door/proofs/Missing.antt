@@ -59,7 +59,6 @@ module _ (m : ℕ) (state : List ℕ) (fs : List Spelled) (i : ℕ) (before : Pa
   unfolding each_holds
   all_passed past σ s = rw (before σ s ∙ ap (each_holds m σ i) (drop_of_length-le fs past)) refl
 
-
 -- ── Facts that are given one by one ──
 
 -- The first i hold of whatever facts are given so.
@@ -94,7 +93,9 @@ all_places p w = ap length w.zeros_past ∙ simp (length-append, length-replicat
 pub gives_listed : (p : Procap) → Writable p → (gives : ℕ → Fact → Type 0) → ((i : ℕ) (f : Fact) → i < p.count → gives i f → f ≡ fact_at p i)
     → GivesFacts gives p.count (listed p)
 gives_listed p w gives is =
-    let c = listed_length p (all_places p w) w.few_facts in
-    (c, λ i f h g.
-    drop-cons (listed p) i (spelled beyond) (omega arith)
-    ∙ ap (λ f. f ∷ drop (suc i) (listed p)) (listed_at p i h ∙ ap spelled (sym (is i f h g))))
+    let c = listed_length p (all_places p w) w.few_facts in (
+      c,
+      λ i f h g.
+          drop-cons (listed p) i (spelled beyond) (omega arith)
+          ∙ ap (λ f. f ∷ drop (suc i) (listed p)) (listed_at p i h ∙ ap spelled (sym (is i f h g))),
+    )

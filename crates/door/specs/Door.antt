@@ -4,7 +4,7 @@ use Rattle.std.proofs.Math.Decide.{dec_le}
 use Rattle.procap.specs.Facts.{Spelled, spelled}
 use Rattle.procap.specs.Procaps.{listed, request_of}
 use Rattle.procap.specs.Answers.{number_of, place_of}
-use Rattle.procap.specs.Outcome.{Outcome, go_on, require, answer_of}
+use Rattle.procap.specs.Outcome.{Outcome, go_on, require}
 use Rattle.procap.specs.States.{stated}
 use Rattle.procap.specs.Desk.{read_press}
 use Rattle.procap.specs.Deciding.{writable?, request?, holds_at?}

@@ -21,12 +21,24 @@ pub fn open(procap: Procap, request: Request, moment: u64, state: &[u8]) -> Answ
 }
 
 // What stops a press, or nothing.
-fn opening(procap: &Procap, request: RequestNumbers, moment: u64, state: &[u8]) -> Result<(), Answer>
+fn opening(
+    procap: &Procap,
+    request: RequestNumbers,
+    moment: u64,
+    state: &[u8],
+) -> Result<(), Answer>
     ensures { result ≡ opening procap.now (request_in request) moment state.now }
 {
     if !can_be_written(*procap) {
         return Err(Answer::ProcapMalformed);
     }
-    before_facts(procap.request, procap.from, procap.to, request, moment, state)?;
+    before_facts(
+        procap.request,
+        procap.from,
+        procap.to,
+        request,
+        moment,
+        state,
+    )?;
     first_missing(procap.count, |i| procap.facts[i], moment, state)
 }

@@ -1,5 +1,5 @@
 -- Past the end there is no term, and else its tag says how wide it is.
-use Rattle.std.proofs.Common.{arith, ◌≡◌, ◌<◌, length, get_or, sym, ◌∙◌}
+use Rattle.std.proofs.Common.{arith, ◌≡◌, ◌<◌, length, get_or}
 use Rattle.std.proofs.lemmas.Grind.{common_steps}
 use Rattle.state.proofs.Terms.{no_byte}
 use Rattle.procap.proofs.ReadApart.{not_read}
