@@ -9,10 +9,9 @@ use native.Mathlib.Omega.{arith}
 use Rattle.bl.specs.Questions.{done, misfit, ask, ◌>>=◌, ◌>>◌, Test, need, need_equal}
 use Rattle.bl.specs.Walk.{same}
 use Rattle.ledger.specs.declared.Ledger.{Ledger}
-use Rattle.ledger.specs.declared.Stop.TheVariants.{Going}
 use Rattle.formula.specs.declared.compare.Pair.{Pair}
 use Rattle.formula.specs.declared.compare.Compared.{Compared}
-use Rattle.ledger.specs.Books.{stop_of, book, misfitted}
+use Rattle.ledger.specs.Books.{stop_of, book, misfitted, GoesOn}
 use Rattle.formula.specs.Comparing.{LeadsTo, move, ComparesPair, ComparesAfter}
 use Rattle.ledger.proofs.Giving as giving
 
@@ -54,7 +53,7 @@ leads_as l w v r e f e' f' a b b' h state list s =
     let g = h state list s in (rw a g.0, λ going. ((g.1 going).0 ∙ b, (g.1 going).1 ∙ b'))
 
 -- A ledger that has stopped comes to no ends.
-stopped_ends : (r : Compared) (e e' : ℕ) → (stop_of r.ledger ≡ Going → ⊥) → stop_of r.ledger ≡ Going
+stopped_ends : (r : Compared) (e e' : ℕ) → (GoesOn r.ledger → ⊥) → GoesOn r.ledger
     → (r.left_next ≡ e) × (r.right_next ≡ e')
 stopped_ends r e e' n going = absurd (n going)
 
@@ -62,7 +61,7 @@ stopped_ends r e e' n going = absurd (n going)
 pub differs : (l : Ledger) (q : ℕ) (r : Compared) → r.ledger ≡ misfitted l q → (e e' : ℕ) → LeadsTo l (misfit q) r e e'
 differs l q r is e e' state list s = (rw is (giving.misfits state list l q tt s), stopped_ends r e e' stopped)
   where
-    stopped : stop_of r.ledger ≡ Going → ⊥
+    stopped : GoesOn r.ledger → ⊥
     stopped going =
         let halt = giving.misfitted_stopped l q in
         let z : ◌≡◌ {A = ℕ} 0 1 = cc (halt.1, going, is) in
@@ -73,14 +72,14 @@ pub agrees : (l : Ledger) (r : Compared) → r.ledger ≡ l → LeadsTo l (done 
 agrees l r is state list s = (rw is (giving.idle state (book l list) tt s), λ _. (refl, refl))
 
 -- A walk that has stopped, and another that is not begun.
-halts : (l : Ledger) (w v : Test) (r : Compared) (e e' f f' : ℕ) → (stop_of r.ledger ≡ Going → ⊥) → LeadsTo l w r e e' → LeadsTo l (w >> v) r f f'
+halts : (l : Ledger) (w v : Test) (r : Compared) (e e' f f' : ℕ) → (GoesOn r.ledger → ⊥) → LeadsTo l w r e e' → LeadsTo l (w >> v) r f f'
 halts l w v r e e' f f' n h state list s =
     let halt = giving.not_going (stop_of r.ledger) n in
     let first = (h state list s).0 in
     (giving.halted state (book l list) (book r.ledger list) halt.0 w tt (λ _. v) tt first halt.1, stopped_ends r f f' n)
 
 -- A walk that goes on, and then another from where it came to.
-goes_on : (l : Ledger) (w v : Test) (one r : Compared) (e e' f f' : ℕ) → stop_of one.ledger ≡ Going → LeadsTo l w one e e'
+goes_on : (l : Ledger) (w v : Test) (one r : Compared) (e e' f f' : ℕ) → GoesOn one.ledger → LeadsTo l w one e e'
     → (one.left_next ≡ e → one.right_next ≡ e' → LeadsTo one.ledger v r f f') → LeadsTo l (w >> v) r f f'
 goes_on l w v one r e e' f f' going h k state list s =
     let first = h state list s in
@@ -92,11 +91,11 @@ goes_on l w v one r e e' f f' going h k state list s =
 -- What was compared before, and then the formulas of a pair.
 module _ (left_bytes right_bytes : List ℕ) (before : Compared) (pair : Pair) (levels : ℕ) where
   -- After a walk that has stopped they are not compared.
-  pub stops_before : (stop_of before.ledger ≡ Going → ⊥) → ComparesAfter left_bytes right_bytes before pair levels before
+  pub stops_before : (GoesOn before.ledger → ⊥) → ComparesAfter left_bytes right_bytes before pair levels before
   stops_before stopped l w e e' A A' m n low h = halts l w (same pair.offset A A') before e e' m.end n.end stopped h
 
   -- After a walk that goes on they stand where it came to.
-  pub goes_on_after : (r : Compared) → stop_of before.ledger ≡ Going
+  pub goes_on_after : (r : Compared) → GoesOn before.ledger
       → ComparesPair left_bytes right_bytes (move pair before.left_next before.right_next) before.ledger levels r
       → ComparesAfter left_bytes right_bytes before pair levels r
   goes_on_after r going rest l w e e' A A' m n low h = goes_on l w (same pair.offset A A') before r e e' m.end n.end going h there

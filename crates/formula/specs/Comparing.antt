@@ -7,11 +7,10 @@ use Rattle.bl.specs.Formulas.{most_binders, argument}
 use Rattle.bl.specs.Questions.{Test, ◌>>◌, need_equal}
 use Rattle.bl.specs.Walk.{same_places, same}
 use Rattle.ledger.specs.declared.Ledger.{Ledger}
-use Rattle.ledger.specs.declared.Stop.TheVariants.{Going}
 use Rattle.formula.specs.declared.parts.FormulaAt.{FormulaAt}
 use Rattle.formula.specs.declared.compare.Pair.{Pair}
 use Rattle.formula.specs.declared.compare.Compared.{Compared}
-use Rattle.ledger.specs.Books.{stop_of, book, Sound, Gives}
+use Rattle.ledger.specs.Books.{GoesOn, book, Sound, Gives}
 use Rattle.formula.specs.PutIn.{terms_of, FewTerms, fill_place}
 use Rattle.formula.specs.Meaning.{tag_of, begin, Means, Compares}
 
@@ -20,7 +19,7 @@ abbrev pub LeadsTo : Ledger → Test → Compared → ℕ → ℕ → Type 0
 LeadsTo l w r e e' =
     (state list : List ℕ) → Sound (book l list)
     → Gives state (book l list) w (book r.ledger list) tt
-    × (stop_of r.ledger ≡ Going → (r.left_next ≡ e) × (r.right_next ≡ e'))
+    × (GoesOn r.ledger → (r.left_next ≡ e) × (r.right_next ≡ e'))
 
 -- The pair at other places.
 abbrev pub move : Pair → ℕ → ℕ → Pair

@@ -13,13 +13,12 @@ use Rattle.bl.specs.Formulas.{most_formula_levels, argument, formula}
 use Rattle.bl.specs.Kinds.{as_terms}
 use Rattle.bl.specs.Walk.{same}
 use Rattle.ledger.specs.declared.Ledger.{Ledger}
-use Rattle.ledger.specs.declared.Stop.TheVariants.{Going}
 use Rattle.formula.specs.declared.terms.Terms.{Terms}
 use Rattle.formula.specs.declared.terms.Place as code
 use Rattle.formula.specs.declared.parts.FormulaAt.{FormulaAt}
 use Rattle.formula.specs.declared.parts.Head.{Head}
 use Rattle.formula.specs.declared.parts.Judgement.{Judgement}
-use Rattle.ledger.specs.Books.{stop_of, book, Sound, Gives}
+use Rattle.ledger.specs.Books.{GoesOn, book, Sound, Gives}
 use Rattle.formula.specs.PutIn.{terms_of, FewTerms, fill, place_of, fill_place}
 
 -- The tag at a place.
@@ -79,7 +78,7 @@ abbrev pub Compares : List ℕ → FormulaAt → List ℕ → FormulaAt → ℕ 
 Compares left_bytes left right_bytes right d q l levels r left_next right_next =
     (F G : Formula) (m : Means left_bytes d left F) (n : Means right_bytes d right G) → m.level ≤ levels
     → (state list : List ℕ) → Sound (book l list)
-    → Gives state (book l list) (same q F G) (book r list) tt × (stop_of r ≡ Going → (left_next ≡ m.end) × (right_next ≡ n.end))
+    → Gives state (book l list) (same q F G) (book r list) tt × (GoesOn r → (left_next ≡ m.end) × (right_next ≡ n.end))
 
 -- A fact read from the bytes spells these places, or a variable is left among them, by the flag.
 unfoldable pub SpellsPlaces : ℕ → List Place → Bool → Fact → Type 0

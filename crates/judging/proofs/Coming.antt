@@ -8,18 +8,17 @@ use Rattle.procap.specs.Outcome.{Outcome}
 use Rattle.procap.specs.declared.time.Time.{Time}
 use Rattle.procap.specs.declared.answer.Answer.{Answer}
 use Rattle.procap.specs.declared.answer.Answer.TheVariants.{StepUnfit}
+use Rattle.procap.proofs.Granted.{no_grant}
 use Rattle.bl.specs.Trees.{Formula}
 use Rattle.bl.specs.Questions.{Walk, done, misfit, asks, ◌>>=◌, Test}
 use Rattle.bl.specs.Readings.{run}
 use Rattle.bl.specs.Walk as walk
-use Rattle.ledger.specs.declared.Stop.{Stop}
-use Rattle.ledger.specs.declared.Stop.TheVariants.{Going, Stopped}
 use Rattle.ledger.specs.declared.Ledger.{Ledger}
 use Rattle.formula.specs.declared.parts.Judgement.{Judgement}
 use Rattle.judging.specs.declared.judge.Inferred.{Inferred}
 use Rattle.judging.specs.declared.judge.Application.{Application}
 use Rattle.judging.specs.declared.judge.Checked.{Checked}
-use Rattle.ledger.specs.Books.{stop_of, Book, book, Sound, Gives, misfitted, kept_of, resume, unless_stopped}
+use Rattle.ledger.specs.Books.{stop_of, Book, book, Sound, Gives, misfitted, kept_of, resume, unless_stopped, GoesOn}
 use Rattle.formula.specs.Meaning.{from_of, to_of, On}
 use Rattle.judging.specs.Judging.{and_then, part_of, Takes, takes, unfit, Yields, Passes, Used, used, unused}
 use Rattle.ledger.proofs.Giving.{then, idle, misfits, misfits_any, halted, not_going, misfitted_stopped, stop_going}
@@ -35,12 +34,10 @@ module _ {A : Type 0} {state list : List ℕ} {l : Ledger} {w : Walk A} (s : Sou
   stops {r} {q} {a} e f = rw (e, f) (misfits state list l q a s)
 
 -- What did not fit does not go on.
-misfitted_ends : (l : Ledger) (q : ℕ) {r : Ledger} → r ≡ misfitted l q → stop_of r ≡ Going → ⊥
+misfitted_ends : (l : Ledger) (q : ℕ) {r : Ledger} → r ≡ misfitted l q → GoesOn r → ⊥
 misfitted_ends l q {r} e g =
     let h = misfitted_stopped l q in
-    let f : Stopped h.0 ≡ Going = sym h.1 ∙ ap stop_of (sym e) ∙ g in
-    let z : ◌≡◌ {A = ℕ} 0 1 = cc in
-    omega arith
+    no_grant (sym h.1 ∙ ap stop_of (sym e) ∙ g)
 
 -- ── What a part came to ──
 
@@ -48,11 +45,11 @@ misfitted_ends l q {r} e g =
 pub record Comes {X : Type 0} (state : List ℕ) (b : Book) (w : Walk X) (r : Book) (So : X → Type 0) : Type 0 where
   pub value : X
   pub gives : Gives state b w r value
-  pub so : stop_of r.ledger ≡ Going → So value
+  pub so : GoesOn r.ledger → So value
 
 module _ {X Y : Type 0} (state : List ℕ) (b m : Book) (w : Walk X) {So : X → Type 0} (g : X → Walk Y) {Then : Y → Type 0} (c : Comes state b w m So) where
   -- Where a part has stopped, so has the whole.
-  pub comes_halted : Y → (stop_of m.ledger ≡ Going → ⊥) → Comes state b (and_then w g) m Then
+  pub comes_halted : Y → (GoesOn m.ledger → ⊥) → Comes state b (and_then w g) m Then
   comes_halted y n =
       let s = not_going (stop_of m.ledger) n in
       record { value = y; gives = halted state b m s.0 w c.value g y c.gives s.1; so = λ e. absurd (n e) }
@@ -61,20 +58,20 @@ module _ {X Y : Type 0} (state : List ℕ) (b m : Book) (w : Walk X) {So : X →
   pub comes_on : (r : Book) → Comes state m (g c.value) r Then → Comes state b (and_then w g) r Then
   comes_on r d = record { value = d.value; gives = then state b m r w c.value g d.value c.gives d.gives; so = d.so }
 
-  pub comes_then : (r : Book) → stop_of m.ledger ≡ Going → ((x : X) → So x → Comes state m (g x) r Then) → Comes state b (and_then w g) r Then
+  pub comes_then : (r : Book) → GoesOn m.ledger → ((x : X) → So x → Comes state m (g x) r Then) → Comes state b (and_then w g) r Then
   comes_then r e f = comes_on r (f c.value (c.so e))
 
   -- What is done only where the part goes on, and leaves the book as it is where it has stopped.
-  pub comes_or_stays : (r : Book) → Y → (stop_of m.ledger ≡ Going → (x : X) → So x → Comes state m (g x) r Then) → ((stop_of m.ledger ≡ Going → ⊥) → r ≡ m)
+  pub comes_or_stays : (r : Book) → Y → (GoesOn m.ledger → (x : X) → So x → Comes state m (g x) r Then) → ((GoesOn m.ledger → ⊥) → r ≡ m)
       → Comes state b (and_then w g) r Then
   comes_or_stays r y on stays = by (stop_of m.ledger) refl
     where
-      stopped_ends : (answer : Answer) → stop_of m.ledger ≡ Stopped answer → stop_of m.ledger ≡ Going → ⊥
-      stopped_ends answer e g = let f : Stopped answer ≡ Going = sym e ∙ g in let z : ◌≡◌ {A = ℕ} 0 1 = cc in omega arith
+      stopped_ends : (answer : Answer) → stop_of m.ledger ≡ Err answer → GoesOn m.ledger → ⊥
+      stopped_ends answer e g = no_grant (sym e ∙ g)
 
-      by : (s : Stop) → stop_of m.ledger ≡ s → Comes state b (and_then w g) r Then
-      by Going e = comes_then r e (on e)
-      by (Stopped answer) e = rw (stays (stopped_ends answer e)) (comes_halted y (stopped_ends answer e))
+      by : (s : Outcome (Unit {0})) → stop_of m.ledger ≡ s → Comes state b (and_then w g) r Then
+      by (Ok tt) e = comes_then r e (on e)
+      by (Err answer) e = rw (stays (stopped_ends answer e)) (comes_halted y (stopped_ends answer e))
 
 -- A part whose value does not matter, and then another value.
 pub comes_with : {X Y : Type 0} (state : List ℕ) (b m : Book) (w : Walk X) {So : X → Type 0} {Then : Y → Type 0} → Comes state b w m So → (y : Y) → Then y
@@ -122,10 +119,10 @@ passes_on state bytes j A a b on w k e r list p = rw (← on.from, ← on.to) p
 
 -- A part, and then a test that is passed; where the part has stopped, the end says nothing.
 module _ {X : Type 0} (state : List ℕ) (b : Book) (w : Walk X) {So : X → Type 0} (l : Ledger) (list : List ℕ) (c : Comes state b w (book l list) So) (g : X → Test) (e : ℕ) where
-  pub passes_halted : (stop_of l ≡ Going → ⊥) → (next : ℕ) → Passes state b (and_then w g) e (record { ledger = l; next = next }) list
+  pub passes_halted : (GoesOn l → ⊥) → (next : ℕ) → Passes state b (and_then w g) e (record { ledger = l; next = next }) list
   passes_halted n next = comes_passes state b (and_then w g) e (record { ledger = l; next = next }) list (comes_halted state b (book l list) w g c tt n)
 
-  pub passes_then : stop_of l ≡ Going → (r : Checked) (list' : List ℕ) → (Sound (book l list) → (x : X) → So x → Passes state (book l list) (g x) e r list')
+  pub passes_then : GoesOn l → (r : Checked) (list' : List ℕ) → (Sound (book l list) → (x : X) → So x → Passes state (book l list) (g x) e r list')
       → Passes state b (and_then w g) e r list'
   passes_then going r list' rest =
       comes_passes state b (and_then w g) e r list'
@@ -133,12 +130,12 @@ module _ {X : Type 0} (state : List ℕ) (b : Book) (w : Walk X) {So : X → Typ
       (λ x so. comes_checked state (book l list) (g x) e r list' (rest c.gives.sound x so)))
 
 -- After a misfit no walk goes on.
-never_granted : {A : Type 0} (s : Stop) (answer : Answer) (x : A) → ◌≡◌ {A = Outcome A} (Ok x) (unless_stopped s (Err answer)) → ⊥
+never_granted : {A : Type 0} (s : Outcome (Unit {0})) (answer : Answer) (x : A) → ◌≡◌ {A = Outcome A} (Ok x) (unless_stopped s (Err answer)) → ⊥
 unfolding unless_stopped
-never_granted Going answer x e = let z : ◌≡◌ {A = ℕ} 0 1 = cc in omega arith
-never_granted (Stopped before) answer x e = let z : ◌≡◌ {A = ℕ} 0 1 = cc in omega arith
+never_granted (Ok tt) answer x e = no_grant (sym e)
+never_granted (Err before) answer x e = no_grant (sym e)
 
-misfit_stops : {A : Type 0} (state : List ℕ) (b r : Book) (q : ℕ) (a : A) → Sound b → Gives state b (misfit q) r a → stop_of r.ledger ≡ Going → ⊥
+misfit_stops : {A : Type 0} (state : List ℕ) (b r : Book) (q : ℕ) (a : A) → Sound b → Gives state b (misfit q) r a → GoesOn r.ledger → ⊥
 unfolding resume run asks
 misfit_stops state b r q a s h e =
     let same = h.resumed (λ _. omega (arith, s.few)) in

@@ -1,23 +1,23 @@
 -- What a step takes or yields, put together with the walk before it and after it, stopped ledgers included.
+use Rattle.std.specs.Prelude.{Err}
 use Prim.Native.Nat.{ℕ}
-use mathlib.Core.Path.{◌≡◌, refl, ◌∙◌, ap}
+use mathlib.Core.Path.{◌≡◌, refl, sym, ◌∙◌, ap}
 use mathlib.Core.List.{List}
 use mathlib.Core.Logic.{◌⊎◌, inl, inr}
-use native.Mathlib.Omega.{arith}
 use Rattle.procap.specs.Numbered.{time_numbers}
 use Rattle.procap.proofs.Numbered.{time_back}
 use Rattle.procap.specs.declared.answer.Answer.{Answer}
 use Rattle.procap.specs.declared.time.Time.{Time}
 use Rattle.procap.specs.declared.time.Time.TheVariants.{Ctime}
+use Rattle.procap.proofs.Granted.{no_grant}
 use Rattle.bl.specs.Trees.{Formula, top}
 use Rattle.bl.specs.Questions.{Walk, done, misfit, ◌>>=◌, Test, ask_order}
 use Rattle.bl.specs.Walk as walk
-use Rattle.ledger.specs.declared.Stop.TheVariants.{Going, Stopped}
 use Rattle.ledger.specs.declared.Ledger.{Ledger}
 use Rattle.formula.specs.declared.parts.Judgement.{Judgement}
 use Rattle.judging.specs.declared.judge.Inferred.{Inferred}
 use Rattle.judging.specs.declared.judge.Application.{Application}
-use Rattle.ledger.specs.Books.{stop_of, Book, book, Sound, Gives, misfitted}
+use Rattle.ledger.specs.Books.{stop_of, Book, book, Sound, Gives, misfitted, GoesOn}
 use Rattle.formula.specs.Meaning.{begin, from_of, to_of, Means, On}
 use Rattle.judging.specs.Judging.{and_then, part_of, and_sides, implies_sides, fits_goal, Takes, takes, unfit, Yields, Used, used, unused}
 use Rattle.ledger.proofs.Giving.{then, goes_or_stopped}
@@ -71,7 +71,7 @@ module _ {state buffer list : List ℕ} {l : Ledger} {w : Walk walk.Judgement} {
 module _ {state buffer : List ℕ} {b : Book} {w : Walk walk.Judgement} {e : ℕ} {inferred : Inferred} {list : List ℕ}
     (y : Yields state buffer b w e inferred list) (g : walk.Judgement → Walk walk.Judgement) (r : Inferred) where
   -- A step after one that has stopped.
-  pub halts : (stop_of inferred.ledger ≡ Going → ⊥) → r.ledger ≡ inferred.ledger → Yields state buffer b (and_then w g) e r list
+  pub halts : (GoesOn inferred.ledger → ⊥) → r.ledger ≡ inferred.ledger → Yields state buffer b (and_then w g) e r list
   halts n f =
       comes_yields state buffer b (and_then w g) e r list
       (rw f (comes_halted state b (book inferred.ledger list) w g (comes_inferred state buffer b w e inferred list y) (top, Ctime, Ctime) n))
@@ -89,9 +89,9 @@ module _ {state buffer : List ℕ} {b : Book} {w : Walk walk.Judgement} {e : ℕ
 -- One side of the conjunction that was inferred, by what was taken of it.
 pub one_side : {state buffer : List ℕ} {b : Book} {w : Walk walk.Judgement} {e : ℕ} {inferred : Inferred} {list : List ℕ} (q : ℕ)
     (side : Formula × Formula → Formula) (r : Inferred) → Yields state buffer b w e inferred list
-    → ((F : Formula) → stop_of inferred.ledger ≡ Going → Means buffer 0 inferred.judgement.formula F
+    → ((F : Formula) → GoesOn inferred.ledger → Means buffer 0 inferred.judgement.formula F
     → Takes (and_sides q F) q inferred.ledger r.ledger (λ x. On buffer r.judgement (side x) (from_of inferred.judgement) (to_of inferred.judgement)))
-    → ((stop_of inferred.ledger ≡ Going → ⊥) → r.ledger ≡ inferred.ledger)
+    → ((GoesOn inferred.ledger → ⊥) → r.ledger ≡ inferred.ledger)
     → r.next ≡ inferred.next
     → Yields state buffer b (and_then w (λ j. and_sides q j.0 >>= λ x. done (side x, j.1, j.2))) e r list
 one_side {state} {buffer} {b} {w} {e} {inferred} {list} q side r y going stopped next =
@@ -100,7 +100,7 @@ one_side {state} {buffer} {b} {w} {e} {inferred} {list} q side r y going stopped
     after : walk.Judgement → Walk walk.Judgement
     after j = and_sides q j.0 >>= λ x. done (side x, j.1, j.2)
 
-    by : (stop_of inferred.ledger ≡ Going) ⊎ ((answer : Answer) × (stop_of inferred.ledger ≡ Stopped answer))
+    by : GoesOn inferred.ledger ⊎ ((answer : Answer) × (stop_of inferred.ledger ≡ Err answer))
         → Yields state buffer b (and_then w after) e r list
     by (inl h) =
         let o = y.on h in
@@ -109,7 +109,7 @@ one_side {state} {buffer} {b} {w} {e} {inferred} {list} q side r y going stopped
         (takes_yields r y.gives.sound (next ∙ y.ends h)
         (takes_then (after (y.formula, y.from, y.to)) (λ x. (side x, y.from, y.to)) refl (λ x so. rw (o.from, o.to) at so) both))
     by (inr h) =
-        let ends : stop_of inferred.ledger ≡ Going → ⊥ = λ g. let z : ◌≡◌ {A = ℕ} 0 1 = cc (g, h.1) in omega arith in
+        let ends : GoesOn inferred.ledger → ⊥ = λ g. no_grant (sym h.1 ∙ g) in
         halts y after r ends (stopped ends)
 
 -- 26, before its second step, by what was taken of the implication and by the interval that it covers.

@@ -19,7 +19,6 @@ use Rattle.bl.specs.Rules.{Assumption, plain, claim, no_view, view_of}
 use Rattle.bl.specs.Walk as walk
 use Rattle.bl.specs.Walk.{same, need_cover, need_sort}
 use Rattle.ledger.specs.declared.Ledger.{Ledger}
-use Rattle.ledger.specs.declared.Stop.TheVariants.{Going}
 use Rattle.formula.specs.declared.parts.Judgement.{Judgement}
 use Rattle.judging.specs.declared.judge.View.{View}
 use Rattle.judging.specs.declared.judge.Scope.{Scope}
@@ -31,7 +30,7 @@ use Rattle.judging.specs.declared.rows.Whose.TheVariants.{Plain, Claim}
 use Rattle.judging.specs.declared.judge.Inferred.{Inferred}
 use Rattle.judging.specs.declared.judge.Checked.{Checked}
 use Rattle.judging.specs.declared.judge.Application.{Application}
-use Rattle.ledger.specs.Books.{stop_of, Book, book, Gives, misfitted}
+use Rattle.ledger.specs.Books.{GoesOn, Book, book, Gives, misfitted}
 use Rattle.formula.specs.Meaning.{begin, On}
 use Rattle.formula.specs.PartPromises.{front_on_ctime}
 use Rattle.judging.specs.RowsOf.{most_rows}
@@ -239,13 +238,13 @@ pub record Yields (state buffer : List ℕ) (b : Book) (w : Walk walk.Judgement)
   pub from : Time
   pub to : Time
   pub gives : Gives state b w (book r.ledger list) (formula, from, to)
-  pub on : stop_of r.ledger ≡ Going → On buffer r.judgement formula from to
-  pub ends : stop_of r.ledger ≡ Going → r.next ≡ e
+  pub on : GoesOn r.ledger → On buffer r.judgement formula from to
+  pub ends : GoesOn r.ledger → r.next ≡ e
 
 -- The walk w, from the book b, was passed or stopped, and its step ends at e.
 pub record Passes (state : List ℕ) (b : Book) (w : Test) (e : ℕ) (r : Checked) (list : List ℕ) : Type 0 where
   pub gives : Gives state b w (book r.ledger list) tt
-  pub ends : stop_of r.ledger ≡ Going → r.next ≡ e
+  pub ends : GoesOn r.ledger → r.next ≡ e
 
 -- 26, before its second step: an implication put to use on [t1,t2], or nothing of the kind.
 pub data Used (state buffer : List ℕ) (q : ℕ) (list : List ℕ) (l : Ledger) (F : Formula) (a b t1 t2 : Time) (middle next : ℕ) (r : Application) : Type 0 where

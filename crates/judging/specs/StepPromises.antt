@@ -14,8 +14,7 @@ use Rattle.bl.specs.Steps as steps
 use Rattle.bl.specs.Walk as walk
 use Rattle.strength.specs.Strengths.{StrengthsOf}
 use Rattle.ledger.specs.declared.Ledger.{Ledger}
-use Rattle.ledger.specs.declared.Stop.TheVariants.{Going}
-use Rattle.ledger.specs.Books.{stop_of, Book, book, Sound, Gives, Leads}
+use Rattle.ledger.specs.Books.{GoesOn, Book, book, Sound, Gives, Leads}
 use Rattle.formula.specs.declared.parts.Judgement.{Judgement}
 use Rattle.formula.specs.declared.terms.Terms.{Terms}
 use Rattle.formula.specs.PutIn.{terms_of, FewTerms, fill_place}
@@ -67,11 +66,11 @@ TakesSides bytes q wanted j l r =
 
 -- The same of what was inferred, where the walk goes on.
 abbrev pub TakesSidesInferred : List ℕ → ℕ → FormulaTag → Inferred → Sides → Type 0
-TakesSidesInferred buffer q wanted inferred r = stop_of inferred.ledger ≡ Going → TakesSides buffer q wanted inferred.judgement inferred.ledger r
+TakesSidesInferred buffer q wanted inferred r = GoesOn inferred.ledger → TakesSides buffer q wanted inferred.judgement inferred.ledger r
 
 -- Where it has stopped, the ledger stays.
 abbrev pub StaysStopped : Inferred → Ledger → Type 0
-StaysStopped inferred l = (stop_of inferred.ledger ≡ Going → ⊥) → l ≡ inferred.ledger
+StaysStopped inferred l = (GoesOn inferred.ledger → ⊥) → l ≡ inferred.ledger
 
 -- Two places that are read one after the other, and filled, must be times.
 abbrev pub TakesTimes : List ℕ → ℕ → Terms → ℕ → Ledger → Span → Type 0
@@ -99,7 +98,7 @@ TakesInside bytes q shell j l r =
 
 -- 29, 2B: the same of what was inferred, where the walk goes on.
 abbrev pub TakesInsideInferred : List ℕ → ℕ → Shell → Inferred → Inside → Type 0
-TakesInsideInferred buffer q shell inferred r = stop_of inferred.ledger ≡ Going → TakesInside buffer q shell inferred.judgement inferred.ledger r
+TakesInsideInferred buffer q shell inferred r = GoesOn inferred.ledger → TakesInside buffer q shell inferred.judgement inferred.ledger r
 
 -- 23, 24, 27: what was inferred is gone on with.
 abbrev pub Continues : List ℕ → Inferred → (walk.Judgement → Walk walk.Judgement) → Inferred → Type 0
@@ -111,7 +110,7 @@ Continues buffer inferred g r =
 abbrev pub PutsToUse : List ℕ → List ℕ → ℕ → Inferred → ℕ → Application → Type 0
 PutsToUse buffer proof q inferred second_end r =
     (state list : List ℕ) (F : Formula) (a b t1 t2 : Time) (c e₃ e₄ : ℕ)
-    → stop_of inferred.ledger ≡ Going → Sound (book inferred.ledger list) → On buffer inferred.judgement F a b
+    → GoesOn inferred.ledger → Sound (book inferred.ledger list) → On buffer inferred.judgement F a b
     → steps.time proof c second_end ≡ Some (t1, e₃) → steps.time proof c e₃ ≡ Some (t2, e₄)
     → Used state buffer q list inferred.ledger F a b t1 t2 inferred.next e₄ r
 

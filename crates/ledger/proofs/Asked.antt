@@ -24,9 +24,8 @@ use Rattle.procap.specs.declared.order.Decision.TheVariants.{Holds, Fails, Raise
 use Rattle.bl.specs.Questions.{ask_order}
 use Rattle.bl.specs.Readings.{narrow}
 use Rattle.ledger.specs.declared.Reading.TheVariants.{Office, Press}
-use Rattle.ledger.specs.declared.Stop.TheVariants.{Going}
 use Rattle.ledger.specs.declared.Ledger.{Ledger}
-use Rattle.ledger.specs.Books.{fact_numbers, list_numbers, stop_of, reading_in, keeping, stopped_by, book, facts_in, kept_of, Sound, Gives, Leads}
+use Rattle.ledger.specs.Books.{fact_numbers, list_numbers, stop_of, reading_in, keeping, stopped_by, book, facts_in, kept_of, Sound, Gives, Leads, GoesOn}
 use Rattle.ledger.specs.Putting.{numbers_of_fact}
 use Rattle.ledger.specs.Asking.{narrowed_by, asked_by, order_asked, fact_listed}
 use Rattle.ledger.proofs.Stopping.{going_number, number_going, tells_going, at_office, at_press}
@@ -37,11 +36,11 @@ use Rattle.ledger.proofs.Asking.{narrows, order_fails, order_true, order_false}
 
 module _ {A : Type 0} (l : Ledger) (was office press : A) where
   -- What there was, what the office leaves, and what a press leaves.
-  pub asked_stopped : (stop_of l ≡ Going → ⊥) → was ≡ asked_by l was office press
+  pub asked_stopped : (GoesOn l → ⊥) → was ≡ asked_by l was office press
   unfolding asked_by
   asked_stopped n = rw (ne_eqb l.number 0 (λ e. n (number_going l e)))
 
-  module _ (going : stop_of l ≡ Going) where
+  module _ (going : GoesOn l) where
     pub asked_office : l.press ≡ 0 → office ≡ asked_by l was office press
     unfolding asked_by
     asked_office e = rw (eq-eqb l.number 0 (going_number l going), eq-eqb l.press 0 e)
@@ -51,12 +50,12 @@ module _ {A : Type 0} (l : Ledger) (was office press : A) where
     asked_press n = rw (eq-eqb l.number 0 (going_number l going), ne_eqb l.press 0 n)
 
   -- So what is so in each case is so of what is left.
-  asked_cases : (P : A → Type 0) → ((stop_of l ≡ Going → ⊥) → P was) → (reading_in l ≡ Office → P office)
+  asked_cases : (P : A → Type 0) → ((GoesOn l → ⊥) → P was) → (reading_in l ≡ Office → P office)
       → (reading_in l ≡ Press (l.press - 1) → P press) → P (asked_by l was office press)
   unfolding asked_by
   asked_cases P stopped at_the_office pressed = by (eqb l.number 0) (tells_going l) (eqb l.press 0) refl
     where
-      by : (b : Bool) → Tells b (stop_of l ≡ Going) → (d : Bool) → eqb l.press 0 ≡ d → P (pick b (pick d office press) was)
+      by : (b : Bool) → Tells b (GoesOn l) → (d : Bool) → eqb l.press 0 ≡ d → P (pick b (pick d office press) was)
       by false n d e = stopped n
       by true g true e = at_the_office (at_office l.press (eqb-true l.press 0 e))
       by true g false e = pressed (at_press l.press (eqb-false l.press 0 e))

@@ -13,10 +13,8 @@ use Rattle.bl.specs.Readings as bl
 use Rattle.bl.specs.Readings.{Kept, run, answered}
 use Rattle.bl.proofs.ListGrows.{list_grows, asks_both, asks_first}
 use Rattle.procap.proofs.Granted.{no_grant}
-use Rattle.ledger.specs.declared.Stop.{Stop}
-use Rattle.ledger.specs.declared.Stop.TheVariants.{Going, Stopped}
 use Rattle.ledger.specs.declared.Ledger.{Ledger}
-use Rattle.ledger.specs.Books.{Book, book, Sound, HasRoom, Gives, stop_of, reading_in, misfitted, stopped_by, kept_of, reading_of, resume, unless_stopped}
+use Rattle.ledger.specs.Books.{Book, book, Sound, HasRoom, Gives, stop_of, reading_in, misfitted, stopped_by, kept_of, reading_of, resume, unless_stopped, GoesOn}
 use Rattle.ledger.proofs.Listing.{facts_counted}
 use Rattle.ledger.proofs.Stopping.{Stops, refusal_stops, stopped_now, stopped_before, stopped_reading, stopped_count}
 
@@ -44,18 +42,18 @@ run_then o (ask x q w) g s =
     go_on_alike (answered o x q s) _ _ (λ s'. run_then o w g s') ∙ sym (go_on_twice (answered o x q s) (λ s'. run o w s') _)
 
 -- The same from a stop.
-stop_then : {A B : Type 0} (t : Stop) (o : bl.Reading) (w : Walk A) (g : A → Walk B) (s : Kept)
+stop_then : {A B : Type 0} (t : Outcome (Unit {0})) (o : bl.Reading) (w : Walk A) (g : A → Walk B) (s : Kept)
     → unless_stopped t (run o (w >>= g) s) ≡ go_on (unless_stopped t (run o w s)) (λ r. run o (g r.0) r.1)
 unfolding unless_stopped go_on
-stop_then Going o w g s = run_then o w g s
-stop_then (Stopped answer) o w g s = refl
+stop_then (Ok tt) o w g s = run_then o w g s
+stop_then (Err answer) o w g s = refl
 
 -- Where a walk came to a value, the rest is read from there.
-stop_done : {A B : Type 0} (t : Stop) (o : bl.Reading) (a : A) (g : A → Walk B) (s : Kept)
+stop_done : {A B : Type 0} (t : Outcome (Unit {0})) (o : bl.Reading) (a : A) (g : A → Walk B) (s : Kept)
     → go_on (unless_stopped t (run o (done a) s)) (λ r. run o (g r.0) r.1) ≡ unless_stopped t (run o (g a) s)
 unfolding unless_stopped run go_on
-stop_done Going o a g s = refl
-stop_done (Stopped answer) o a g s = refl
+stop_done (Ok tt) o a g s = refl
+stop_done (Err answer) o a g s = refl
 
 -- Where the work of w led from the book b to m and the value a, the rest goes on from there.
 resume_then : {A B : Type 0} (state : List ℕ) (b m : Book) (w : Walk A) (a : A) (g : A → Walk B)
@@ -68,21 +66,21 @@ resume_then state b m w a g h room =
     ∙ rw h.same_reading (stop_done (stop_of m.ledger) o a g (kept_of m))
 
 -- A stop that is a stop gives its answer.
-pub stop_refused : {A : Type 0} (t : Stop) (answer : Answer) (o : Outcome A) → t ≡ Stopped answer → unless_stopped t o ≡ Err answer
+pub stop_refused : {A : Type 0} (t : Outcome (Unit {0})) (answer : Answer) (o : Outcome A) → t ≡ Err answer → unless_stopped t o ≡ Err answer
 unfolding unless_stopped
 stop_refused t answer o e = rw e
 
 -- A stop that is none gives what goes on.
-pub stop_going : {A : Type 0} (t : Stop) (o : Outcome A) → t ≡ Going → unless_stopped t o ≡ o
+pub stop_going : {A : Type 0} (t : Outcome (Unit {0})) (o : Outcome A) → t ≡ Ok tt → unless_stopped t o ≡ o
 unfolding unless_stopped
 stop_going t o e = rw e
 
 -- Where a book goes on with a grant, it went on before, and the walk was granted.
-from_going : {A : Type 0} (t t' : Stop) (x y : Outcome A) → t' ≡ Going → unless_stopped t' x ≡ unless_stopped t y → (r : A) → x ≡ Ok r
-    → (t ≡ Going) × (y ≡ Ok r)
+from_going : {A : Type 0} (t t' : Outcome (Unit {0})) (x y : Outcome A) → t' ≡ Ok tt → unless_stopped t' x ≡ unless_stopped t y → (r : A) → x ≡ Ok r
+    → (t ≡ Ok tt) × (y ≡ Ok r)
 unfolding unless_stopped
-from_going Going t' x y e same r h = (refl, sym same ∙ stop_going t' x e ∙ h)
-from_going (Stopped answer) t' x y e same r h = no_grant (sym same ∙ stop_going t' x e ∙ h)
+from_going (Ok tt) t' x y e same r h = (refl, sym same ∙ stop_going t' x e ∙ h)
+from_going (Err answer) t' x y e same r h = no_grant (sym same ∙ stop_going t' x e ∙ h)
 
 -- ── Room ──
 
@@ -121,9 +119,9 @@ pub same_sound : (list : List ℕ) (l r : Ledger) → r.count ≡ l.count → So
 same_sound list l r e s = record { room = s.room; few = rw e s.few; in_form = λ i h. s.in_form i (rw e at h) }
 
 -- A book goes on, or has stopped.
-pub goes_or_stopped : (s : Stop) → (s ≡ Going) ⊎ ((answer : Answer) × (s ≡ Stopped answer))
-goes_or_stopped Going = inl refl
-goes_or_stopped (Stopped answer) = inr (answer, refl)
+pub goes_or_stopped : (s : Outcome (Unit {0})) → (s ≡ Ok tt) ⊎ ((answer : Answer) × (s ≡ Err answer))
+goes_or_stopped (Ok tt) = inl refl
+goes_or_stopped (Err answer) = inr (answer, refl)
 
 -- A walk that comes to an answer stops the book with it, unless the book had stopped before.
 pub refuses : {A : Type 0} (state list : List ℕ) (l : Ledger) (answer : Answer) (w : Walk A) (a : A) → Stops answer → Sound (book l list)
@@ -136,10 +134,10 @@ refuses state list l answer w a k s h = record {
   resumed = λ _. ⊎_elim now before (goes_or_stopped (stop_of l));
 }
   where
-    now : stop_of l ≡ Going → resume state (book (stopped_by answer l) list) (done a) ≡ resume state (book l list) w
+    now : GoesOn l → resume state (book (stopped_by answer l) list) (done a) ≡ resume state (book l list) w
     now e = stop_refused _ answer _ (stopped_now l answer k e) ∙ sym (stop_going (stop_of l) _ e ∙ h)
 
-    before : (first : Answer) × (stop_of l ≡ Stopped first) → resume state (book (stopped_by answer l) list) (done a) ≡ resume state (book l list) w
+    before : (first : Answer) × (stop_of l ≡ Err first) → resume state (book (stopped_by answer l) list) (done a) ≡ resume state (book l list) w
     before e = stop_refused _ e.0 _ (stopped_before l answer e.0 e.1) ∙ sym (stop_refused (stop_of l) e.0 _ e.1)
 
 -- A step that does not fit.
@@ -154,7 +152,7 @@ unfolding ◌>>=◌
 misfits_any state b r q a x h = then state b r r (misfit q) a (λ _. done x) x h (idle state r x h.sound)
 
 -- A book that has stopped stays as it is, whatever the walk.
-pub stays : {A : Type 0} (state : List ℕ) (b : Book) (answer : Answer) (w : Walk A) (a : A) → stop_of b.ledger ≡ Stopped answer → Sound b → Gives state b w b a
+pub stays : {A : Type 0} (state : List ℕ) (b : Book) (answer : Answer) (w : Walk A) (a : A) → stop_of b.ledger ≡ Err answer → Sound b → Gives state b w b a
 unfolding resume
 stays state b answer w a e s = record {
   same_reading = refl;
@@ -164,16 +162,16 @@ stays state b answer w a e s = record {
 
 -- What has stopped after one line is what the whole comes to.
 pub halted : {A B : Type 0} (state : List ℕ) (b r : Book) (answer : Answer) (w : Walk A) (a : A) (g : A → Walk B) (x : B)
-    → Gives state b w r a → stop_of r.ledger ≡ Stopped answer → Gives state b (w >>= g) r x
+    → Gives state b w r a → stop_of r.ledger ≡ Err answer → Gives state b (w >>= g) r x
 halted state b r answer w a g x h e = then state b r r w a g x h (stays state r answer (g a) x e h.sound)
 
 -- What does not go on has stopped.
-pub not_going : (s : Stop) → (s ≡ Going → ⊥) → (answer : Answer) × (s ≡ Stopped answer)
-not_going Going n = absurd (n refl)
-not_going (Stopped answer) n = (answer, refl)
+pub not_going : (s : Outcome (Unit {0})) → (s ≡ Ok tt → ⊥) → (answer : Answer) × (s ≡ Err answer)
+not_going (Ok tt) n = absurd (n refl)
+not_going (Err answer) n = (answer, refl)
 
 -- After a misfit a ledger has stopped.
-pub misfitted_stopped : (l : Ledger) (q : ℕ) → (answer : Answer) × (stop_of (misfitted l q) ≡ Stopped answer)
+pub misfitted_stopped : (l : Ledger) (q : ℕ) → (answer : Answer) × (stop_of (misfitted l q) ≡ Err answer)
 misfitted_stopped l q = ⊎_elim
     (λ e. (StepUnfit q, stopped_now l (StepUnfit q) (refusal_stops (StepUnfit q) (omega arith)) e))
     (λ e. (e.0, stopped_before l (StepUnfit q) e.0 e.1))

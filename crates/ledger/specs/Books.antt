@@ -1,5 +1,5 @@
 -- A walk that goes on from a ledger and the list of facts beside it.
-use Rattle.std.specs.Prelude.{ℕ, zero, suc, ◌+◌, ◌-◌, ◌*◌, ◌%◌, ◌≤◌, ◌<◌, ◌≡◌, List, [], ◌∷◌, ◌++◌, length, get_or, leb, eqb, Err, None, Option, Some}
+use Rattle.std.specs.Prelude.{ℕ, zero, suc, ◌+◌, ◌-◌, ◌*◌, ◌%◌, ◌≤◌, ◌<◌, ◌≡◌, List, [], ◌∷◌, ◌++◌, length, get_or, leb, eqb, Err, None, Option, Some, Ok}
 use Rattle.procap.specs.Tells.{pick}
 use Rattle.procap.specs.Times.{earliest, latest}
 use Rattle.procap.specs.Answers.{number_of, place_of, answer_with}
@@ -17,8 +17,6 @@ use Rattle.bl.specs.Readings as bl
 use Rattle.bl.specs.Readings.{Kept, office, press, run}
 use Rattle.ledger.specs.declared.Reading.{Reading}
 use Rattle.ledger.specs.declared.Reading.TheVariants.{Office, Press}
-use Rattle.ledger.specs.declared.Stop.{Stop}
-use Rattle.ledger.specs.declared.Stop.TheVariants.{Going, Stopped}
 use Rattle.ledger.specs.declared.Ledger.{Ledger}
 
 -- How many numbers a listed fact takes: its predicate, its count, and two for each of four terms.
@@ -50,13 +48,17 @@ unfoldable pub begun : Reading → Ledger
 begun Office = opened 0
 begun (Press m) = pick (leb m latest) (opened (m + 1)) (stopped_by MomentAboveLatest (opened 0))
 
--- What stopped a walk, by the number and the place of the answer; 0 while it goes on.
-unfoldable pub stop_by : ℕ → ℕ → Stop
-stop_by n p = pick (eqb n 0) Going (Stopped (answer_with n p))
+-- Whether a walk goes on, or the answer that stopped it, by the answer's number and place; 0 while it goes on.
+unfoldable pub stop_by : ℕ → ℕ → Outcome (Unit {0})
+stop_by n p = pick (eqb n 0) (Ok tt) (Err (answer_with n p))
 
 -- The same of a ledger.
-abbrev pub stop_of : Ledger → Stop
+abbrev pub stop_of : Ledger → Outcome (Unit {0})
 stop_of l = stop_by l.number l.place
+
+-- The walk has not stopped.
+abbrev pub GoesOn : Ledger → Type 0
+GoesOn l = stop_of l ≡ Ok tt
 
 -- How a ledger's walk is read: 0 is the office, and any other number the moment after the press's.
 unfoldable pub reading_by : ℕ → Reading
@@ -113,9 +115,9 @@ reading_of state Office = office
 reading_of state (Press m) = press m (facts_said (stated state))
 
 -- Where a walk has stopped, its answer stays.
-unfoldable pub unless_stopped : {A : Type 0} → Stop → Outcome A → Outcome A
-unless_stopped Going o = o
-unless_stopped (Stopped answer) o = Err answer
+unfoldable pub unless_stopped : {A : Type 0} → Outcome (Unit {0}) → Outcome A → Outcome A
+unless_stopped (Ok tt) o = o
+unless_stopped (Err answer) o = Err answer
 
 -- A walk read on from a book.
 unfoldable pub resume : {A : Type 0} → List ℕ → Book → Walk A → Outcome (A × Kept)
@@ -123,7 +125,7 @@ resume state b w = unless_stopped (stop_of b.ledger) (run (reading_of state (rea
 
 -- While the walk w goes on from the book b, the facts listed and those that it still asks for are at most 16.
 abbrev pub HasRoom : {A : Type 0} → Book → Walk A → Type 0
-HasRoom b w = stop_of b.ledger ≡ Going → b.ledger.count + asks w ≤ most_facts
+HasRoom b w = GoesOn b.ledger → b.ledger.count + asks w ≤ most_facts
 
 -- The work of the walk w, from the book b, led to the book b' and the value a: with room for its facts, what is left to read is what was to be read.
 pub record Gives {A : Type 0} (state : List ℕ) (b : Book) (w : Walk A) (b' : Book) (a : A) : Type 0 where

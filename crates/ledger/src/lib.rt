@@ -8,7 +8,7 @@ ghost use Rattle.procap.specs.Tells.{Tells};
 ghost use Rattle.procap.specs.Facts.{spelled, argument_of};
 ghost use Rattle.procap.specs.Numbered.{kind_of, value_of};
 ghost use Rattle.procap.specs.Procaps.{most_facts};
-ghost use Rattle.ledger.specs.Books.{begun, opened, keeping, stop_of, book, list_numbers, fact_numbers, argument_in, facts_in, fact_in, stopped_by, misfitted};
+ghost use Rattle.ledger.specs.Books.{begun, opened, keeping, stop_of, GoesOn, book, list_numbers, fact_numbers, argument_in, facts_in, fact_in, stopped_by, misfitted};
 ghost use Rattle.ledger.specs.Asking.{narrowed_by, order_asked, fact_listed, fact_asked, AsksFact, ListsFact, held_procap};
 ghost use Rattle.ledger.specs.Putting.{argument_numbers, numbers_of_fact, ArgumentsPut, KeptBefore};
 
@@ -29,13 +29,6 @@ pub const LIST_NUMBERS: usize = 160;
 pub enum Reading {
     Office,
     Press(u64),
-}
-
-// Whether a walk goes on, or the answer that stopped it.
-#[derive(Clone, Copy)]
-pub enum Stop {
-    Going,
-    Stopped(Answer),
 }
 
 // What a walk has come to, in plain numbers, which are handed on faster than enums: the number and the place of the answer that stopped it, zeros while it goes on; 0 where it is read at the office, and else the moment of the press plus one; the moments that are left; and how many facts are listed.
@@ -82,19 +75,19 @@ impl Ledger {
 
     // Whether the walk goes on.
     pub fn goes_on(self) -> bool
-        ensures { Tells result (stop_of self ≡ Stop.Going) }
+        ensures { Tells result (GoesOn self) }
     {
         self.number == 0
     }
 
     // Whether the walk goes on, or the answer that stopped it.
-    pub fn stop(self) -> Stop
+    pub fn stop(self) -> Result<(), Answer>
         ensures { result ≡ stop_of self }
     {
         if self.number == 0 {
-            return Stop::Going;
+            return Ok(());
         }
-        Stop::Stopped(Answer::of(self.number, self.place))
+        Err(Answer::of(self.number, self.place))
     }
 
     // The ledger, stopped by this answer unless it was before.

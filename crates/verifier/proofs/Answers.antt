@@ -20,8 +20,8 @@ use Rattle.procap.proofs.Granted.{goes_on, is_so, is_not_so, reads_press}
 use Rattle.state.specs.Standing.{WellFormed}
 use Rattle.bl.specs.declared.Certificate.{Certificate}
 use Rattle.bl.specs.Trees.{Check}
-use Rattle.bl.specs.Certificates.{statements}
-use Rattle.bl.specs.Strength.{pairs_in}
+use Rattle.bl.specs.Certificates.{Statement, statements}
+use Rattle.bl.specs.Strength.{Pair, pairs_in}
 use Rattle.bl.specs.Policy.{Policy, policy_in}
 use Rattle.bl.specs.Questions.{done}
 use Rattle.bl.specs.Steps.{proof_in}
@@ -31,13 +31,11 @@ use Rattle.bl.specs.Calls.{read_case, issue, verified, directly}
 use Rattle.bl.proofs.Called.{policy_from, case_read}
 use Rattle.ledger.specs.declared.Reading.{Reading}
 use Rattle.ledger.specs.declared.Reading.TheVariants.{Office, Press}
-use Rattle.ledger.specs.declared.Stop.{Stop}
-use Rattle.ledger.specs.declared.Stop.TheVariants.{Going, Stopped}
 use Rattle.ledger.specs.declared.Ledger.{Ledger}
 use Rattle.verifier.specs.declared.verify.Verified.{Verified}
-use Rattle.ledger.specs.Books.{begun, stop_of, Book, book, list_numbers, Sound, facts_in, kept_of, facts_said, resume}
+use Rattle.ledger.specs.Books.{begun, stop_of, Book, book, list_numbers, Sound, facts_in, kept_of, facts_said, resume, GoesOn}
 use Rattle.ledger.proofs.Giving.{stop_refused, stop_going}
-use Rattle.verifier.specs.Verifying.{Taken, Walked, Stops, first_of, PolicyRead, CaseReads, verified_case, checked_case, HandsOver}
+use Rattle.verifier.specs.Verifying.{Taken, Walked, Stops, PolicyRead, CaseReads, verified_case, checked_case, HandsOver}
 use Rattle.steps.specs.Ends.{ToldChecking}
 use Rattle.verifier.proofs.CertificateLaws.{statements_count}
 use Rattle.verifier.proofs.WalkBegins.{office_begins, press_begins}
@@ -60,14 +58,11 @@ unfolding go_on
 refused_on o f answer e = rw e refl
 
 -- What a stop says of its outcome.
-pub stopped_with : {A : Type 0} (o : Outcome A) (s : Stop) (answer : Answer) → s ≡ Stopped answer → Stops o s → o ≡ Err answer
+pub stopped_with : {A : Type 0} (o : Outcome A) (s : Outcome (Unit {0})) (answer : Answer) → s ≡ Err answer → Stops o s → o ≡ Err answer
 stopped_with o s answer e h = rw e at h
 
-pub went_with : {A : Type 0} (o : Outcome A) (s : Stop) → s ≡ Going → Stops o s → (a : A) × (o ≡ Ok a)
+pub went_with : {A : Type 0} (o : Outcome A) (s : Outcome (Unit {0})) → s ≡ Ok tt → Stops o s → (a : A) × (o ≡ Ok a)
 went_with o s e h = rw e at h
-
-pub stopped_not_going : {answer : Answer} → Stopped answer ≡ Going → ⊥
-stopped_not_going e = let z : ◌≡◌ {A = ℕ} 0 1 = cc in omega arith
 
 -- ── The end ──
 
@@ -97,12 +92,20 @@ unfolding or_else
 a_proof c proof N e = rw e refl
 
 module _ (records : List Certificate) (buffer pairs : List ℕ) where
-  -- What stops the certificates stops the policy, and then what stops the pairs.
-  pub policy_stops : (stop other : Stop) → Stops (statements buffer records) stop → Stops (pairs_in pairs) other → Stops (policy_in records buffer pairs) (first_of stop other)
+  -- What refuses the certificates refuses the policy,
+  pub records_refuse : (answer : Answer) → statements buffer records ≡ Err answer → policy_in records buffer pairs ≡ Err answer
   unfolding policy_in
-  policy_stops Going Going (cs, e) (ps, f) = (_, goes_on _ _ cs e ∙ goes_on _ _ ps f)
-  policy_stops Going (Stopped answer) (cs, e) f = goes_on _ _ cs e ∙ refused_on _ _ answer f
-  policy_stops (Stopped answer) other e f = refused_on _ _ answer e
+  records_refuse answer e = refused_on _ _ answer e
+
+  module _ (read : (cs : List Statement) × (statements buffer records ≡ Ok cs)) where
+    -- and then what refuses the pairs.
+    pub pairs_refuse : (answer : Answer) → pairs_in pairs ≡ Err answer → policy_in records buffer pairs ≡ Err answer
+    unfolding policy_in
+    pairs_refuse answer e = goes_on _ _ read.0 read.1 ∙ refused_on _ _ answer e
+
+    pub both_read : (ps : List Pair) × (pairs_in pairs ≡ Ok ps) → (π : Policy) × (policy_in records buffer pairs ≡ Ok π)
+    unfolding policy_in
+    both_read (ps, e) = (_, goes_on _ _ read.0 read.1 ∙ goes_on _ _ ps e)
 
 module _ (records : List Certificate) (buffer pairs proof : List ℕ) where
   -- What stops the policy stops the case; where nothing does, the proof decides.
@@ -110,15 +113,15 @@ module _ (records : List Certificate) (buffer pairs proof : List ℕ) where
   unfolding read_case
   case_stops answer e = refused_on _ _ answer e
 
-  pub proof_decides : (π : Policy) (c : ℕ) (s : Stop) → policy_in records buffer pairs ≡ Ok π → length records ≡ c
+  pub proof_decides : (π : Policy) (c : ℕ) (s : Outcome (Unit {0})) → policy_in records buffer pairs ≡ Ok π → length records ≡ c
       → Stops (or_else ProofMalformed (proof_in c proof)) s → Stops (read_case records buffer pairs proof) s
   unfolding read_case
-  proof_decides π c Going e l (N, h) = ((π, N), goes_on _ _ π e ∙ goes_on _ _ N (rw (← l) at h))
-  proof_decides π c (Stopped answer) e l h = goes_on _ _ π e ∙ refused_on _ _ answer (rw (← l) at h)
+  proof_decides π c (Ok tt) e l (N, h) = ((π, N), goes_on _ _ π e ∙ goes_on _ _ N (rw (← l) at h))
+  proof_decides π c (Err answer) e l h = goes_on _ _ π e ∙ refused_on _ _ answer (rw (← l) at h)
 
 -- ── The calls ──
 
-module _ (r : Request) (records : List Certificate) (buffer pairs proof : List ℕ) {stop : Stop} {rows : List ℕ} (taken : Taken records buffer stop rows) where
+module _ (r : Request) (records : List Certificate) (buffer pairs proof : List ℕ) {stop : Outcome (Unit {0})} {rows : List ℕ} (taken : Taken records buffer stop rows) where
   -- What the table has, where the proof reads over the records.
   abbrev TellsEnds : List ℕ → Type 0
   TellsEnds ends = (N : Check) → proof_in (length records) proof ≡ Some N → ToldChecking ends N
@@ -164,11 +167,11 @@ module _ (r : Request) (records : List Certificate) (buffer pairs proof : List �
 -- ── The walk's end ──
 
 -- A book that has stopped is refused with its answer, one that goes on is granted what it keeps.
-resume_stopped : (state : List ℕ) (b : Book) (answer : Answer) → stop_of b.ledger ≡ Stopped answer → resume state b (done (tt {0})) ≡ Err answer
+resume_stopped : (state : List ℕ) (b : Book) (answer : Answer) → stop_of b.ledger ≡ Err answer → resume state b (done (tt {0})) ≡ Err answer
 unfolding resume
 resume_stopped state b answer e = stop_refused _ answer _ e
 
-resume_going : (state : List ℕ) (b : Book) → stop_of b.ledger ≡ Going → resume state b (done (tt {0})) ≡ Ok (tt, kept_of b)
+resume_going : (state : List ℕ) (b : Book) → GoesOn b.ledger → resume state b (done (tt {0})) ≡ Ok (tt, kept_of b)
 unfolding resume run
 resume_going state b e = stop_going _ _ e
 
@@ -182,21 +185,21 @@ module _ (r : Request) {IsPolicy : Policy → Type 0} (proof state ends : List �
   came : Sound (book l list') × (resume state (book l list') (done (tt {0})) ≡ begins)
   came = walked π N room reads
 
-  walk_stopped : (answer : Answer) → stop_of l ≡ Stopped answer → begins ≡ Err answer
+  walk_stopped : (answer : Answer) → stop_of l ≡ Err answer → begins ≡ Err answer
   walk_stopped answer e = sym came.1 ∙ resume_stopped state (book l list') answer e
 
-  walk_done : stop_of l ≡ Going → begins ≡ Ok (tt, kept_of (book l list'))
+  walk_done : GoesOn l → begins ≡ Ok (tt, kept_of (book l list'))
   walk_done e = sym came.1 ∙ resume_going state (book l list') e
 
   module _ (at_office : reading ≡ Office) (v : Verified) where
     office_run : begins ≡ run office (walk r π N) start
     office_run = rw at_office (office_begins state list (walk r π N))
 
-    pub verify_stopped : (answer : Answer) → stop_of l ≡ Stopped answer → v ≡ record { answer = answer; procap = empty_procap } → HandsOver (verified_case r π N) v
+    pub verify_stopped : (answer : Answer) → stop_of l ≡ Err answer → v ≡ record { answer = answer; procap = empty_procap } → HandsOver (verified_case r π N) v
     unfolding verified_case
     verify_stopped answer e f = hands_refusal _ answer v (refused_on _ _ answer (sym office_run ∙ walk_stopped answer e)) f
 
-    pub verify_issued : stop_of l ≡ Going → (Sound (book l list') → HandsOver (issue r (kept_of (book l list'))) v) → HandsOver (verified_case r π N) v
+    pub verify_issued : GoesOn l → (Sound (book l list') → HandsOver (issue r (kept_of (book l list'))) v) → HandsOver (verified_case r π N) v
     unfolding verified_case
     verify_issued e k =
         rw (goes_on (run office (walk r π N) start) (λ w. issue r w.1) (tt, kept_of (book l list')) (sym office_run ∙ walk_done e)) (k came.0)
@@ -209,13 +212,13 @@ module _ (r : Request) {IsPolicy : Policy → Type 0} (proof state ends : List �
     press_reads : read_press m state ≡ Ok σ
     press_reads = reads_press m state σ in_range says
 
-    pub check_stopped : (a : Answer) → stop_of l ≡ Stopped a → a ≡ answer_of (checked_case r π N m state)
+    pub check_stopped : (a : Answer) → stop_of l ≡ Err a → a ≡ answer_of (checked_case r π N m state)
     unfolding checked_case answer_of
     check_stopped a e =
         sym (ap answer_of (goes_on (read_press m state) (λ σ'. go_on (run (press m σ') (walk r π N) start) (λ w. Ok w.0)) σ press_reads
         ∙ refused_on (run (press m σ) (walk r π N) start) (λ w. Ok w.0) a (sym press_run ∙ walk_stopped a e)))
 
-    pub check_accepted : stop_of l ≡ Going → Granted ≡ answer_of (checked_case r π N m state)
+    pub check_accepted : GoesOn l → Granted ≡ answer_of (checked_case r π N m state)
     unfolding checked_case answer_of
     check_accepted e =
         sym (ap answer_of (goes_on (read_press m state) (λ σ'. go_on (run (press m σ') (walk r π N) start) (λ w. Ok w.0)) σ press_reads

@@ -7,7 +7,6 @@ use Rattle.std.proofs.lemmas.Option.{none-some}
 use Rattle.std.specs.Prelude.{Err, None, Ok, Option, Some}
 use native.Mathlib.Nat.{add-zero, zero-add, add-suc, suc-add}
 use native.Mathlib.Omega.{arith}
-use native.Mathlib.Decide.{dec_le}
 use borrow.Author.Tests.{leb-true, le-leb, lt-leb, not-true, not-false}
 use borrow.Author.Count.{below_more}
 use lib.ListN.{length, get_or, take, drop}
@@ -24,11 +23,9 @@ use Rattle.bl.specs.declared.Certificate.{Certificate}
 use Rattle.bl.specs.Trees.{Formula}
 use Rattle.bl.specs.Formulas.{most_formula_levels, formula_in}
 use Rattle.bl.specs.Certificates.{Statement, most_certificates, most_part_bytes, fixed_time, part_of, formula_of, statement_by, statement_of, and_then, statements_from, statements}
-use Rattle.ledger.specs.declared.Stop.{Stop}
-use Rattle.ledger.specs.declared.Stop.TheVariants.{Going, Stopped}
 use Rattle.formula.specs.PutIn.{terms_of, stack}
 use Rattle.judging.specs.RowsOf.{row_in, Certifies, Certified}
-use Rattle.verifier.specs.Verifying.{no_record, row_of, WellFormedRecord, TakenTo, SoFar, Taken}
+use Rattle.verifier.specs.Verifying.{no_record, row_of, WellFormedRecord, TakenTo, Taken}
 use Rattle.formula.proofs.Filling.{fill_nothing}
 use Rattle.formula.proofs.Shifted.{formula_in_shifted}
 
@@ -236,38 +233,24 @@ statements_count buffer cs ss e = granted_few buffer cs ss e λ few e₁. (each_
 -- ── Taking them ──
 
 module _ (records : List Certificate) (buffer : List ℕ) (rows : List ℕ) where
-  -- Nothing is taken yet, or they are too many.
-  pub none_taken : (stop : Stop) → (length records ≤ most_certificates → stop ≡ Going)
-      → (most_certificates < length records → stop ≡ Stopped (CertificateMalformed 0)) → SoFar records buffer 0 stop rows
-  none_taken stop few many =
-      elim (dec_le (length records) most_certificates) [
-        | yes l ↦ rw (few l) (record { few = l; well_formed = λ k h. absurd (omega arith); put = λ k h. absurd (omega arith) })
-        | no n ↦ rw (many (omega arith)) (many_refused buffer records (omega arith))
-      ]
+  -- None is taken yet.
+  pub none_taken : length records ≤ most_certificates → TakenTo records buffer 0 rows
+  none_taken few = record { few = few; well_formed = λ k h. absurd (omega arith); put = λ k h. absurd (omega arith) }
 
-  module _ (i : ℕ) (l : i < length records) where
-    -- What was refused stays so.
-    pub stays_refused : (answer : Answer) (stop : Stop) → stop ≡ Stopped answer → SoFar records buffer i stop rows → statements buffer records ≡ Err answer
-    stays_refused answer stop e h = rw e at h
+  module _ (i : ℕ) (l : i < length records) (h : TakenTo records buffer i rows) where
+    -- A malformed record refuses them.
+    pub taken_malformed : (WellFormedRecord buffer (get_or records i no_record) → ⊥) → statements buffer records ≡ Err (CertificateMalformed i)
+    taken_malformed bad = malformed_at buffer records h.few i l h.well_formed bad
 
-    -- Where nothing has stopped it, those before are taken.
-    pub taken_going : (stop : Stop) → stop ≡ Going → SoFar records buffer i stop rows → TakenTo records buffer i rows
-    taken_going stop e h = rw e at h
-
-    module _ (h : TakenTo records buffer i rows) where
-      -- A malformed record refuses them.
-      pub taken_malformed : (WellFormedRecord buffer (get_or records i no_record) → ⊥) → statements buffer records ≡ Err (CertificateMalformed i)
-      taken_malformed bad = malformed_at buffer records h.few i l h.well_formed bad
-
-      -- A well formed one is taken, once its row is put.
-      pub one_taken : {after : List ℕ} → WellFormedRecord buffer (get_or records i no_record)
-          → row_in after i ≡ row_of (get_or records i no_record) → ((k : ℕ) → (k ≡ i → ⊥) → row_in after k ≡ row_in rows k)
-          → TakenTo records buffer (i + 1) after
-      one_taken w there others = record {
-        few = h.few;
-        well_formed = below_more _ i h.well_formed w;
-        put = below_more _ i (λ k b. others k (omega arith) ∙ h.put k b) there;
-      }
+    -- A well formed one is taken, once its row is put.
+    pub one_taken : {after : List ℕ} → WellFormedRecord buffer (get_or records i no_record)
+        → row_in after i ≡ row_of (get_or records i no_record) → ((k : ℕ) → (k ≡ i → ⊥) → row_in after k ≡ row_in rows k)
+        → TakenTo records buffer (i + 1) after
+    one_taken w there others = record {
+      few = h.few;
+      well_formed = below_more _ i h.well_formed w;
+      put = below_more _ i (λ k b. others k (omega arith) ∙ h.put k b) there;
+    }
 
 -- The rows of records that are granted are what they state.
 rows_certified : (records : List Certificate) (buffer rows : List ℕ) → TakenTo records buffer (length records) rows
@@ -282,10 +265,15 @@ rows_certified records buffer rows h ss e =
           rw (h.put k inside) (row_certifies buffer (get_or records k no_record) s states);
     }
 
--- Once all are taken, the stop is what they come to, and the rows are what they state.
-pub all_taken : (records : List Certificate) (buffer : List ℕ) (stop : Stop) (rows : List ℕ) (i : ℕ)
-    → (length records ≤ most_certificates → i ≡ length records) → SoFar records buffer i stop rows → Taken records buffer stop rows
-all_taken records buffer Going rows i all h =
-    let taken : TakenTo records buffer (length records) rows = rw (all h.few) at h in
-    record { stops = none_malformed buffer records h.few taken.well_formed; rows_are = rows_certified records buffer rows taken }
-all_taken records buffer (Stopped answer) rows i all h = record { stops = h; rows_are = λ ss e. no_grant (sym h ∙ e) }
+module _ (records : List Certificate) (buffer rows : List ℕ) where
+  -- Once all are taken, the rows are what they state.
+  pub all_taken : TakenTo records buffer (length records) rows → Taken records buffer (Ok tt) rows
+  all_taken h = record { stops = none_malformed buffer records h.few h.well_formed; rows_are = rows_certified records buffer rows h }
+
+  -- Where they are refused, no rows are asked for,
+  pub none_stated : (answer : Answer) → statements buffer records ≡ Err answer → Taken records buffer (Err answer) rows
+  none_stated answer h = record { stops = h; rows_are = λ ss e. no_grant (sym h ∙ e) }
+
+  -- as where they are too many.
+  pub too_many : most_certificates < length records → Taken records buffer (Err (CertificateMalformed 0)) rows
+  too_many many = none_stated (CertificateMalformed 0) (many_refused buffer records many)

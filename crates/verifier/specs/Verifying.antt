@@ -19,8 +19,6 @@ use Rattle.bl.specs.Steps.{proof_in}
 use Rattle.bl.specs.Readings.{start, office, press, run}
 use Rattle.bl.specs.Walk.{walk}
 use Rattle.bl.specs.Calls.{read_case, issue, verified, directly}
-use Rattle.ledger.specs.declared.Stop.{Stop}
-use Rattle.ledger.specs.declared.Stop.TheVariants.{Going, Stopped}
 use Rattle.verifier.specs.declared.verify.Verified.{Verified}
 use Rattle.verifier.specs.declared.verify.Asked.{Asked}
 use Rattle.steps.specs.Ends.{ToldChecking, EndsTold}
@@ -77,15 +75,10 @@ abbrev pub WalkedBy : Asked → Lent → Lent → Lent → Lent → Lent → Len
 WalkedBy asked buffer proof state rows strengths ends facts r =
     Walked asked (PolicyLent buffer.entry.now rows.entry.now strengths.entry.now) proof.entry.now state.entry.now ends.entry.now facts.entry.now r facts.exit.now
 
--- An outcome goes on with a value, or is stopped by its answer.
-abbrev pub Stops : {A : Type 0} → Outcome A → Stop → Type 0
-Stops {A} o Going = (a : A) × (o ≡ Ok a)
-Stops o (Stopped answer) = o ≡ Err answer
-
--- The first of two stops.
-abbrev pub first_of : Stop → Stop → Stop
-first_of Going other = other
-first_of (Stopped answer) other = Stopped answer
+-- What is tested of an outcome: it goes on with a value, or is refused with its answer.
+abbrev pub Stops : {A : Type 0} → Outcome A → Outcome (Unit {0}) → Type 0
+Stops {A} o (Ok tt) = (a : A) × (o ≡ Ok a)
+Stops o (Err answer) = o ≡ Err answer
 
 -- What is so of whatever policy was read, with the proof that reads over it.
 abbrev pub OnceRead : Lent → Lent → Lent → Lent → Lent → (Policy → Check → Type 0) → Type 0
@@ -93,13 +86,13 @@ OnceRead rows ends buffer pairs proof P =
     (π : Policy) (N : Check) → CaseReads (PolicyRead buffer.entry.now rows.entry.now pairs.entry.now) ends.entry.now proof.entry.now π N → P π N
 
 -- Where nothing stopped, the table has where the second part of each 26 ends.
-abbrev pub ToldUnlessStopped : Lent → ℕ → LentToWrite → Stop → Type 0
-ToldUnlessStopped proof n ends r = r ≡ Going → EndsTold proof n ends
+abbrev pub ToldUnlessStopped : Lent → ℕ → LentToWrite → Outcome (Unit {0}) → Type 0
+ToldUnlessStopped proof n ends r = r ≡ Ok tt → EndsTold proof n ends
 
--- Where `stop` is what so many records come to, r is what they, the pairs and the proof come to.
-abbrev pub CaseStops : Stop → Lent → Lent → ℕ → Stop → Type 0
-CaseStops stop pairs proof n r =
-    (records : List Certificate) (buffer : List ℕ) → length records ≡ n → Stops (statements buffer records) stop
+-- Where `taken` is what so many records come to, r is what they, the pairs and the proof come to.
+abbrev pub CaseStops : Outcome (Unit {0}) → Lent → Lent → ℕ → Outcome (Unit {0}) → Type 0
+CaseStops taken pairs proof n r =
+    (records : List Certificate) (buffer : List ℕ) → length records ≡ n → Stops (statements buffer records) taken
     → Stops (read_case records buffer pairs.entry.now proof.entry.now) r
 
 -- The records before the i-th are taken: there are not too many in all, each is well formed, and its row is put.
@@ -109,28 +102,28 @@ pub record TakenTo (records : List Certificate) (buffer : List ℕ) (i : ℕ) (r
   pub put : (k : ℕ) → k < i → row_in rows k ≡ row_of (get_or records k no_record)
 
 -- They are taken, or the records are refused.
-abbrev pub SoFar : List Certificate → List ℕ → ℕ → Stop → List ℕ → Type 0
-SoFar records buffer i Going rows = TakenTo records buffer i rows
-SoFar records buffer i (Stopped answer) rows = statements buffer records ≡ Err answer
+abbrev pub SoFar : List Certificate → List ℕ → ℕ → Outcome (Unit {0}) → List ℕ → Type 0
+SoFar records buffer i (Ok tt) rows = TakenTo records buffer i rows
+SoFar records buffer i (Err answer) rows = statements buffer records ≡ Err answer
 
--- The i-th record c is taken too.
-abbrev pub Takes : List ℕ → Certificate → ℕ → Stop → List ℕ → Stop → List ℕ → Type 0
-Takes buffer c i stop rows stop' rows' =
+-- Once those before it are taken, the i-th record c is taken too, or the records are refused.
+abbrev pub Takes : List ℕ → Certificate → ℕ → List ℕ → Outcome (Unit {0}) → List ℕ → Type 0
+Takes buffer c i rows r rows' =
     (records : List Certificate) → i < length records → get_or records i no_record ≡ c → length rows ≡ all_numbers
-    → SoFar records buffer i stop rows → SoFar records buffer (i + 1) stop' rows'
+    → TakenTo records buffer i rows → SoFar records buffer (i + 1) r rows'
 
--- All are taken: the stop is what the records come to, and where they are granted, the rows are what they state.
-pub record Taken (records : List Certificate) (buffer : List ℕ) (stop : Stop) (rows : List ℕ) : Type 0 where
-  pub stops : Stops (statements buffer records) stop
+-- All are taken: r is what the records come to, and where they are granted, the rows are what they state.
+pub record Taken (records : List Certificate) (buffer : List ℕ) (r : Outcome (Unit {0})) (rows : List ℕ) : Type 0 where
+  pub stops : Stops (statements buffer records) r
   pub rows_are : (cs : List Statement) → statements buffer records ≡ Ok cs → Certified buffer rows cs
 
 -- The same of what is lent.
-abbrev pub TakenFrom : Records → Lent → Stop → List ℕ → Type 0
-TakenFrom certificates buffer stop rows = Taken certificates.entry.now buffer.entry.now stop rows
+abbrev pub TakenFrom : Records → Lent → Outcome (Unit {0}) → List ℕ → Type 0
+TakenFrom certificates buffer r rows = Taken certificates.entry.now buffer.entry.now r rows
 
 -- What is so of whatever records are so many and are taken.
-abbrev pub OnceTaken : Stop → ℕ → Lent → Lent → (List Certificate → Type 0) → Type 0
-OnceTaken stop n rows buffer P = (records : List Certificate) → length records ≡ n → Taken records buffer.entry.now stop rows.entry.now → P records
+abbrev pub OnceTaken : Outcome (Unit {0}) → ℕ → Lent → Lent → (List Certificate → Type 0) → Type 0
+OnceTaken taken n rows buffer P = (records : List Certificate) → length records ≡ n → Taken records buffer.entry.now taken rows.entry.now → P records
 
 -- What verify and the direct check come to for some records, over what is lent.
 abbrev pub verified_over : Request → List Certificate → Lent → Lent → Lent → Outcome Procap

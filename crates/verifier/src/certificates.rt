@@ -1,7 +1,7 @@
 // The lent certificate records: whether each is well formed, and their rows.
-ghost use Rattle.std.specs.Prelude.{◌≡◌, ◌≤◌, ◌<◌, length};
+ghost use Rattle.std.specs.Prelude.{◌≡◌, length};
 ghost use Rattle.procap.specs.Tells.{Tells};
-ghost use Rattle.bl.specs.Certificates.{fixed_time, most_certificates};
+ghost use Rattle.bl.specs.Certificates.{fixed_time};
 ghost use Rattle.judging.specs.RowsOf.{all_numbers};
 ghost use Rattle.verifier.specs.Verifying.{row_of, WellFormedRecord, TakenFrom, Takes};
 
@@ -10,7 +10,6 @@ use formula::ends::holds_formula;
 use formula::parts::{FormulaAt, Judgement};
 use formula::terms::Terms;
 use judging::rows::{Row, Whose, put_row};
-use ledger::Stop;
 use procap::answer::Answer;
 use procap::time::{LATEST_SECOND, Time};
 
@@ -19,59 +18,37 @@ pub const MOST_CERTIFICATES: usize = 32;
 // How many bytes a part may have.
 pub const MOST_PART_BYTES: usize = 256;
 
-// Whether to go on, from the lent records: too many of them stop, and so does the first malformed one. The rows of those before it are put.
-pub(crate) fn take_records(certificates: &[Certificate], buffer: &[u8], rows: &mut [u64]) -> Stop
+// The rows of the lent records are put. Too many records are refused, and so is the first malformed one.
+pub(crate) fn take_records(
+    certificates: &[Certificate],
+    buffer: &[u8],
+    rows: &mut [u64],
+) -> Result<(), Answer>
     ensures { length rows.old ≡ all_numbers → TakenFrom certificates buffer result rows.new }
 {
-    let count = certificates.len();
-    let all = how_many(count);
-    let mut stop = begun(count);
-    let mut i: usize = 0;
-    while i < all {
-        stop = take_record(certificates[i], i, buffer, rows, stop);
-        i = i + 1;
+    if MOST_CERTIFICATES < certificates.len() {
+        return Err(Answer::CertificateMalformed(0));
     }
-    stop
-}
-
-// How many of so many records are looked at: all, or none where they are too many.
-fn how_many(count: usize) -> usize
-    ensures few { count ≤ most_certificates → result ≡ count }
-    ensures many { most_certificates < count → result ≡ 0 }
-{
-    if count <= MOST_CERTIFICATES { count } else { 0 }
-}
-
-// Whether to go on with so many records.
-fn begun(count: usize) -> Stop
-    ensures few { count ≤ most_certificates → result ≡ Stop.Going }
-    ensures many { most_certificates < count → result ≡ Stop.Stopped (Answer.CertificateMalformed 0) }
-{
-    if count <= MOST_CERTIFICATES {
-        Stop::Going
-    } else {
-        Stop::Stopped(Answer::CertificateMalformed(0))
+    for (index, certificate) in certificates.iter().enumerate() {
+        take_record(*certificate, index, buffer, rows)?;
     }
+    Ok(())
 }
 
-// Whether to go on after one more record: a malformed one stops, and the row of any other is put at its index.
+// The row of one more record is put at its index; a malformed record is refused.
 fn take_record(
     certificate: Certificate,
     index: usize,
     buffer: &[u8],
     rows: &mut [u64],
-    stop: Stop,
-) -> Stop
-    ensures { Takes buffer.now certificate index stop rows.old result rows.new }
+) -> Result<(), Answer>
+    ensures { Takes buffer.now certificate index rows.old result rows.new }
 {
-    if let Stop::Stopped(answer) = stop {
-        return Stop::Stopped(answer);
-    }
     if !well_formed(certificate, buffer) {
-        return Stop::Stopped(Answer::CertificateMalformed(index));
+        return Err(Answer::CertificateMalformed(index));
     }
     put_row(rows, index, row_of(certificate));
-    Stop::Going
+    Ok(())
 }
 
 // Whether a record is well formed.

@@ -10,14 +10,14 @@ ghost use Rattle.ledger.specs.Books.{book, Sound, kept_of};
 ghost use Rattle.formula.specs.PutIn.{no_terms};
 ghost use Rattle.formula.specs.Meaning.{Means};
 ghost use Rattle.steps.specs.Ends.{EndsTold};
-ghost use Rattle.verifier.specs.Verifying.{WalkedOver, WalkedBy, Stops, first_of, CaseStops, OnceRead, OnceTaken, HandsOver, verified_over, directly_over, verified_case, checked_case, ToldUnlessStopped};
+ghost use Rattle.verifier.specs.Verifying.{WalkedOver, WalkedBy, Stops, CaseStops, OnceRead, OnceTaken, HandsOver, verified_over, directly_over, verified_case, checked_case, ToldUnlessStopped};
 
 use crate::certificates::take_records;
 use bl::Certificate;
 use formula::parts::Judgement;
 use judging::judge::Scope;
 use judging::rows::ALL_NUMBERS;
-use ledger::{LIST_NUMBERS, Ledger, Reading, Stop, procap_of};
+use ledger::{LIST_NUMBERS, Ledger, Reading, procap_of};
 use procap::answer::Answer;
 use procap::procap::{Procap, Request};
 use procap::time::LATEST_SECOND;
@@ -57,10 +57,10 @@ pub fn verify(
     ensures procap { result.procap ≡ procap_handed (verified_over request certificates.now buffer pairs proof) }
 {
     let mut rows = [0u64; ALL_NUMBERS];
-    let stop = take_records(certificates, buffer, &mut rows);
+    let taken = take_records(certificates, buffer, &mut rows);
     verify_taken(
         request,
-        stop,
+        taken,
         certificates.len(),
         &rows,
         buffer,
@@ -72,19 +72,19 @@ pub fn verify(
 // What verify answers once so many records are taken.
 fn verify_taken(
     request: Request,
-    stop: Stop,
+    taken: Result<(), Answer>,
     certificates: usize,
     rows: &[u64],
     buffer: &[u8],
     pairs: &[u32],
     proof: &[u8],
 ) -> Verified
-    ensures { OnceTaken stop certificates rows buffer (λ records. HandsOver (verified_over request records buffer pairs proof) result) }
+    ensures { OnceTaken taken certificates rows buffer (λ records. HandsOver (verified_over request records buffer pairs proof) result) }
 {
     let mut ends = [0u16; MOST_ENDS];
-    match malformed(stop, pairs, proof, certificates, &mut ends) {
-        Stop::Stopped(answer) => refused(answer),
-        Stop::Going => verify_case(request, rows, &ends, buffer, pairs, proof),
+    match malformed(taken, pairs, proof, certificates, &mut ends) {
+        Err(answer) => refused(answer),
+        Ok(()) => verify_case(request, rows, &ends, buffer, pairs, proof),
     }
 }
 
@@ -105,10 +105,9 @@ fn verify_case(
         reading: Reading::Office,
     };
     let ledger = walked(asked, buffer, pairs, proof, b"", rows, ends, &mut facts);
-    let stop = ledger.stop();
-    match stop {
-        Stop::Stopped(answer) => refused(answer),
-        Stop::Going => issued(request, ledger, &facts),
+    match ledger.stop() {
+        Err(answer) => refused(answer),
+        Ok(()) => issued(request, ledger, &facts),
     }
 }
 
@@ -148,10 +147,10 @@ pub fn direct(
     ensures { result ≡ answer_of (directly_over request certificates.now buffer pairs proof moment state) }
 {
     let mut rows = [0u64; ALL_NUMBERS];
-    let stop = take_records(certificates, buffer, &mut rows);
+    let taken = take_records(certificates, buffer, &mut rows);
     direct_taken(
         request,
-        stop,
+        taken,
         certificates.len(),
         &rows,
         buffer,
@@ -165,7 +164,7 @@ pub fn direct(
 // What the direct check answers once so many records are taken.
 fn direct_taken(
     request: Request,
-    stop: Stop,
+    taken: Result<(), Answer>,
     certificates: usize,
     rows: &[u64],
     buffer: &[u8],
@@ -174,12 +173,12 @@ fn direct_taken(
     moment: u64,
     state: &[u8],
 ) -> Answer
-    ensures { OnceTaken stop certificates rows buffer (λ rs. result ≡ answer_of (directly_over request rs buffer pairs proof moment state)) }
+    ensures { OnceTaken taken certificates rows buffer (λ rs. result ≡ answer_of (directly_over request rs buffer pairs proof moment state)) }
 {
     let mut ends = [0u16; MOST_ENDS];
-    match malformed(stop, pairs, proof, certificates, &mut ends) {
-        Stop::Stopped(answer) => answer,
-        Stop::Going => check_case(request, rows, &ends, buffer, pairs, proof, moment, state),
+    match malformed(taken, pairs, proof, certificates, &mut ends) {
+        Err(answer) => answer,
+        Ok(()) => check_case(request, rows, &ends, buffer, pairs, proof, moment, state),
     }
 }
 
@@ -208,56 +207,49 @@ fn check_case(
         reading: Reading::Press(moment),
     };
     let ledger = walked(asked, buffer, pairs, proof, state, rows, ends, &mut facts);
-    let stop = ledger.stop();
-    match stop {
-        Stop::Stopped(answer) => answer,
-        Stop::Going => Answer::Granted,
+    match ledger.stop() {
+        Err(answer) => answer,
+        Ok(()) => Answer::Granted,
     }
 }
 
-// Whether to go on: what is malformed stops, the records, of which there are so many, before the pairs, and these before the
-// proof. Where nothing does, the table has where the second part of each 26 ends.
-fn malformed(stop: Stop, pairs: &[u32], proof: &[u8], certificates: usize, ends: &mut [u16]) -> Stop
-    ensures stops { CaseStops stop pairs proof certificates result }
+// What is malformed is refused, the records, of which there are so many, before the pairs, and these before the proof. Where
+// nothing is, the table has where the second part of each 26 ends.
+fn malformed(
+    taken: Result<(), Answer>,
+    pairs: &[u32],
+    proof: &[u8],
+    certificates: usize,
+    ends: &mut [u16],
+) -> Result<(), Answer>
+    ensures stops { CaseStops taken pairs proof certificates result }
     ensures told { ToldUnlessStopped proof certificates ends result }
 {
-    let policy = first_of(stop, pairs_taken(pairs));
-    match policy {
-        Stop::Stopped(answer) => Stop::Stopped(answer),
-        Stop::Going => proof_malformed(proof, certificates, ends),
-    }
+    taken?;
+    pairs_taken(pairs)?;
+    proof_malformed(proof, certificates, ends)
 }
 
-// The first of two stops, in their order.
-fn first_of(one: Stop, other: Stop) -> Stop
-    ensures { result ≡ first_of one other }
-{
-    match one {
-        Stop::Stopped(answer) => Stop::Stopped(answer),
-        Stop::Going => other,
-    }
-}
-
-// Whether to go on: too many pairs stop.
-fn pairs_taken(pairs: &[u32]) -> Stop
+// Too many pairs are refused.
+fn pairs_taken(pairs: &[u32]) -> Result<(), Answer>
     ensures { Stops (pairs_in pairs.now) result }
 {
     if pairs.len() <= MOST_PAIRS {
-        Stop::Going
+        Ok(())
     } else {
-        Stop::Stopped(Answer::TooManyPairs)
+        Err(Answer::TooManyPairs)
     }
 }
 
-// Whether to go on: a malformed proof stops.
-fn proof_malformed(proof: &[u8], certificates: usize, ends: &mut [u16]) -> Stop
+// A malformed proof is refused.
+fn proof_malformed(proof: &[u8], certificates: usize, ends: &mut [u16]) -> Result<(), Answer>
     ensures stops { Stops (or_else Answer.ProofMalformed (proof_in certificates proof.now)) result }
     ensures told { EndsTold proof certificates ends }
 {
     if well_formed(proof, certificates, ends) {
-        Stop::Going
+        Ok(())
     } else {
-        Stop::Stopped(Answer::ProofMalformed)
+        Err(Answer::ProofMalformed)
     }
 }
 

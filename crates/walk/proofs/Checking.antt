@@ -20,7 +20,6 @@ use Rattle.bl.specs.Steps.{infer_step, check_step, check_by}
 use Rattle.bl.specs.Walk as walk
 use Rattle.bl.specs.Walk.{infer, check}
 use Rattle.steps.specs.Ends.{Told, ToldChecking}
-use Rattle.ledger.specs.declared.Stop.TheVariants.{Going}
 use Rattle.ledger.specs.declared.Ledger.{Ledger}
 use Rattle.formula.specs.declared.parts.Judgement.{Judgement}
 use Rattle.judging.specs.declared.judge.Scope.{Scope}
@@ -30,7 +29,7 @@ use Rattle.judging.specs.declared.judge.Shell.{Shell}
 use Rattle.judging.specs.declared.judge.Shell.TheVariants.{AtShell, SaysShell, LeftShell, RightShell}
 use Rattle.judging.specs.declared.judge.Sides.{Sides}
 use Rattle.judging.specs.declared.judge.Inside.{Inside}
-use Rattle.ledger.specs.Books.{stop_of, book, Sound, Gives}
+use Rattle.ledger.specs.Books.{GoesOn, book, Sound, Gives}
 use Rattle.formula.specs.Meaning.{from_of, to_of, Means, On}
 use Rattle.judging.specs.RowsOf.{RowIs, is_plain, is_claim, is_shut}
 use Rattle.judging.specs.RowNumbers.{rows_with}
@@ -248,13 +247,13 @@ module _ (S : Sources) (rows : List ℕ) (scope : Scope) (ledger : Ledger) (list
       unfolding sides TwoSided
       sides_come sound G means = comes_taken S.state list (and_sides at G) at ledger parts.ledger _ (G, G) sound (splits G tt means)
 
-      pub check_pair_unfit : (stop_of parts.ledger ≡ Going → ⊥) → {next : ℕ} → By PairTag (record { ledger = parts.ledger; next = next }) list
+      pub check_pair_unfit : (GoesOn parts.ledger → ⊥) → {next : ℕ} → By PairTag (record { ledger = parts.ledger; next = next }) list
       check_pair_unfit n {next} π Γ N e sound around reads told G means =
           let found = pair_read S.proof (length π.statements) left scope.count at NoInferTag N e reads in
           rw (found.is, pair_walk π Γ view at G (from_of goal) (to_of goal) found.one found.other)
           (passes_halted S.state (book ledger list) (and_sides at G) parts.ledger list (sides_come sound G means) _ e n next)
 
-      module _ (going : stop_of parts.ledger ≡ Going) {begin : ℕ} (begins : at < length S.proof → begin ≡ at + 1) {one : Checked} {list₁ : List ℕ}
+      module _ (going : GoesOn parts.ledger) {begin : ℕ} (begins : at < length S.proof → begin ≡ at + 1) {one : Checked} {list₁ : List ℕ}
           (checks : ChecksAt S rows scope parts.ledger list left goal_bytes (part_of goal parts.first) begin one list₁) where
         one_comes : (π : Policy) (Γ : List Assumption) (N : Check) (e : ℕ) → Sound (book parts.ledger list) → Around S rows scope (suc left) π Γ
             → check_step S.proof (length π.statements) left scope.count (at + 1) ≡ Some (N, e) → ToldChecking S.ends N
@@ -266,7 +265,7 @@ module _ (S : Sources) (rows : List ℕ) (scope : Scope) (ledger : Ledger) (list
             (passes_on S.state goal_bytes (part_of goal parts.first) A (from_of goal) (to_of goal) on (check π Γ view N A) (book parts.ledger list) e one list₁
             (checks π Γ N e sound (around_part S rows scope left π Γ around) (rw (begins (omega arith)) reads) told A on.means))
 
-        pub check_pair_stopped : (stop_of one.ledger ≡ Going → ⊥) → By PairTag one list₁
+        pub check_pair_stopped : (GoesOn one.ledger → ⊥) → By PairTag one list₁
         unfolding ToldChecking
         check_pair_stopped n π Γ N e sound around reads told G means =
             let found = pair_read S.proof (length π.statements) left scope.count at NoInferTag N e reads in
@@ -276,7 +275,7 @@ module _ (S : Sources) (rows : List ℕ) (scope : Scope) (ledger : Ledger) (list
             (λ sound x on. passes_halted S.state (book parts.ledger list) _ one.ledger list₁
             (one_comes π Γ found.one found.middle sound around found.one_reads both.0 x.0 on.0) _ e n one.next))
 
-        pub check_pair : stop_of one.ledger ≡ Going → {other : Checked} {list₂ : List ℕ}
+        pub check_pair : GoesOn one.ledger → {other : Checked} {list₂ : List ℕ}
             → ChecksAt S rows scope one.ledger list₁ left goal_bytes (part_of goal parts.second) one.next other list₂
             → By PairTag other list₂
         unfolding ToldChecking
@@ -297,7 +296,7 @@ module _ (S : Sources) (rows : List ℕ) (scope : Scope) (ledger : Ledger) (list
             → Comes S.state (book ledger list) (inside shell at (G, from_of goal, to_of goal)) (book held.ledger list) (RowIs goal_bytes held.row 0 0)
         held_comes sound G means = comes_taken S.state list _ at ledger held.ledger _ shut sound (has G means)
 
-        pub check_put_unfit : (stop_of held.ledger ≡ Going → ⊥) → {next : ℕ} → (tag : CheckTag) → Puts tag shell → By tag (record { ledger = held.ledger; next = next }) list
+        pub check_put_unfit : (GoesOn held.ledger → ⊥) → {next : ℕ} → (tag : CheckTag) → Puts tag shell → By tag (record { ledger = held.ledger; next = next }) list
         check_put_unfit n {next} tag is π Γ N e sound around reads told G means =
             let found = put_read S.proof S.ends (length π.statements) left scope.count at tag shell N e is reads told in
             rw (found.walks π Γ view (G, from_of goal, to_of goal))
@@ -319,7 +318,7 @@ module _ (S : Sources) (rows : List ℕ) (scope : Scope) (ledger : Ledger) (list
             ((rw claimed at checks) π (map shut_out Γ) N e sound (around_said S rows scope left π Γ around (view_on k held.row.judgement)) reads told A on.means)
         part_passes π Γ N e sound around begin reads told checks x (is_shut plain-Row lower) = absurd (omega arith)
 
-        pub check_put : stop_of held.ledger ≡ Going → {begin : ℕ} → (at < length S.proof → begin ≡ at + 1) → {r : Checked} {list' : List ℕ}
+        pub check_put : GoesOn held.ledger → {begin : ℕ} → (at < length S.proof → begin ≡ at + 1) → {r : Checked} {list' : List ℕ}
             → ChecksAt S rows (scope_inside scope held.row) held.ledger list left goal_bytes held.row.judgement begin r list'
             → (tag : CheckTag) → Puts tag shell → By tag r list'
         check_put going begins {r} {list'} checks tag is π Γ N e sound around reads told G means =
@@ -346,14 +345,14 @@ module _ (S : Sources) (rows : List ℕ) (scope : Scope) (ledger : Ledger) (list
             (takes_so (λ x row. (row, so.1)) (rw (so.0.from, so.0.to) at (has going j.0 so.0.means))))
             (λ n. ap (λ l. book l list₁) (stays n))
 
-        pub check_take_stopped : (stop_of held.ledger ≡ Going → ⊥) → {next : ℕ} → (tag : CheckTag) → TakesOut tag shell → By tag (record { ledger = held.ledger; next = next }) list₁
+        pub check_take_stopped : (GoesOn held.ledger → ⊥) → {next : ℕ} → (tag : CheckTag) → TakesOut tag shell → By tag (record { ledger = held.ledger; next = next }) list₁
         check_take_stopped n {next} tag is π Γ N e sound around reads told G means =
             let found = take_read S.proof S.ends (length π.statements) left scope.count at tag shell N e is reads told in
             rw (found.walks π Γ view (G, from_of goal, to_of goal))
             (passes_halted S.state (book ledger list) _ held.ledger list₁ (taken_comes π Γ N e sound around found) _ e n next)
 
         -- The row is the assumption more.
-        pub check_take : stop_of held.ledger ≡ Going → {between more : List ℕ} → Keeps scope.count rows between
+        pub check_take : GoesOn held.ledger → {between more : List ℕ} → Keeps scope.count rows between
             → more ≡ rows_with between scope.count held.row → length more ≡ length between
             → {r : Checked} {list₂ : List ℕ}
             → ChecksAt S more (scope_with scope) held.ledger list₁ left goal_bytes goal inferred.next r list₂

@@ -13,9 +13,8 @@ use Rattle.bl.specs.Policy.{Policy}
 use Rattle.bl.specs.Rules.{Assumption, plain, shut, View}
 use Rattle.bl.specs.Walk.{infer, check}
 use Rattle.steps.specs.Ends.{ToldChecking}
-use Rattle.ledger.specs.declared.Stop.TheVariants.{Going}
 use Rattle.ledger.specs.declared.Ledger.{Ledger}
-use Rattle.ledger.specs.Books.{stop_of, book, Sound}
+use Rattle.ledger.specs.Books.{GoesOn, book, Sound}
 use Rattle.formula.specs.declared.parts.Judgement.{Judgement}
 use Rattle.formula.specs.Meaning.{from_of, to_of, Means}
 use Rattle.judging.specs.declared.rows.Row.{Row}
@@ -92,14 +91,14 @@ module _ (S : Sources) (rows : List ℕ) (scope : Scope) (ledger : Ledger) (list
           (λ n. ap (λ l. book l list₁) (stays n))
 
       -- Where it is no "or", or the walk has stopped before.
-      pub check_cases_unfit : (stop_of parts.ledger ≡ Going → ⊥) → {next : ℕ} → By OrOutTag (record { ledger = parts.ledger; next = next }) list₁
+      pub check_cases_unfit : (GoesOn parts.ledger → ⊥) → {next : ℕ} → By OrOutTag (record { ledger = parts.ledger; next = next }) list₁
       check_cases_unfit n {next} π Γ N e sound around reads told G means =
           let found = or_out_read S.proof (length π.statements) left scope.count at NoInferTag N e reads in
           rw (found.is, or_out_walk π Γ view at G (from_of goal) (to_of goal) found.part found.one found.other)
           (passes_halted S.state (book ledger list) _ parts.ledger list₁ (branches_come π Γ N e sound around found told) _ e n next)
 
       -- The first branch, with the left side assumed.
-      module _ (going : stop_of parts.ledger ≡ Going) {between more : List ℕ} (kept : Keeps scope.count rows between)
+      module _ (going : GoesOn parts.ledger) {between more : List ℕ} (kept : Keeps scope.count rows between)
           (put : more ≡ rows_with between scope.count (side_row parts.first)) (all : length more ≡ length between) {one : Checked} {list₂ : List ℕ}
           (checks : ChecksAt S more (scope_with scope) parts.ledger list₁ left goal_bytes goal inferred.next one list₂) where
         one_comes : (π : Policy) (Γ : List Assumption) (N : Check) (e : ℕ) → Sound (book parts.ledger list₁) → Around S rows scope (suc left) π Γ
@@ -112,7 +111,7 @@ module _ (S : Sources) (rows : List ℕ) (scope : Scope) (ledger : Ledger) (list
             (part_assuming S rows scope left goal_bytes goal (side_row parts.first) kept put all parts.ledger list₁ inferred.next checks
             π Γ found.one found.later sound around (rw begins found.one_reads) (told_is S.ends found.is told).1 x is G means)
 
-        pub check_cases_stopped : (stop_of one.ledger ≡ Going → ⊥) → By OrOutTag one list₂
+        pub check_cases_stopped : (GoesOn one.ledger → ⊥) → By OrOutTag one list₂
         check_cases_stopped n π Γ N e sound around reads told G means =
             let found = or_out_read S.proof (length π.statements) left scope.count at NoInferTag N e reads in
             rw (found.is, or_out_walk π Γ view at G (from_of goal) (to_of goal) found.part found.one found.other)
@@ -121,7 +120,7 @@ module _ (S : Sources) (rows : List ℕ) (scope : Scope) (ledger : Ledger) (list
             (one_comes π Γ N e sound around found told so.2 x.0 so.0 G means) _ e n one.next))
 
         -- And then the second, with the right side assumed.
-        pub check_cases : stop_of one.ledger ≡ Going → {between₂ more₂ : List ℕ} → Keeps scope.count rows between₂
+        pub check_cases : GoesOn one.ledger → {between₂ more₂ : List ℕ} → Keeps scope.count rows between₂
             → more₂ ≡ rows_with between₂ scope.count (side_row parts.second) → length more₂ ≡ length between₂ → {other : Checked} {list₃ : List ℕ}
             → ChecksAt S more₂ (scope_with scope) one.ledger list₂ left goal_bytes goal one.next other list₃
             → By OrOutTag other list₃

@@ -16,14 +16,13 @@ use Rattle.bl.specs.Rules.{Assumption, View}
 use Rattle.bl.specs.Steps.{infer_step}
 use Rattle.bl.specs.Walk.{infer, check}
 use Rattle.steps.specs.Ends.{slot, Told}
-use Rattle.ledger.specs.declared.Stop.TheVariants.{Going}
 use Rattle.ledger.specs.declared.Ledger.{Ledger}
 use Rattle.formula.specs.declared.parts.Judgement.{Judgement}
 use Rattle.judging.specs.declared.judge.Scope.{Scope}
 use Rattle.judging.specs.declared.judge.Inferred.{Inferred}
 use Rattle.judging.specs.declared.judge.Application.{Application}
 use Rattle.judging.specs.declared.judge.Checked.{Checked}
-use Rattle.ledger.specs.Books.{stop_of, book, Sound}
+use Rattle.ledger.specs.Books.{GoesOn, book, Sound}
 use Rattle.formula.specs.Meaning.{On}
 use Rattle.judging.specs.Judging.{view_in, part_of, and_then, first_side, second_side, put_in, Yields}
 use Rattle.judging.specs.StepPromises.{UsesLocal, UsesCertificate, Continues, PutsToUse, StaysStopped}
@@ -160,7 +159,7 @@ module _ (S : Sources) (rows : List ℕ) (scope : Scope) (ledger : Ledger) (list
               (λ n. ap (λ l. book l list₁) (stays n))
 
           -- Where the walk has stopped.
-          pub infer_apply_stopped : {r : Inferred} → r.ledger ≡ application.ledger → (stop_of application.ledger ≡ Going → ⊥) → By ApplyTag r list₁
+          pub infer_apply_stopped : {r : Inferred} → r.ledger ≡ application.ledger → (GoesOn application.ledger → ⊥) → By ApplyTag r list₁
           infer_apply_stopped {r} same n π Γ M e sound around reads told =
               let found = apply_read S.proof (length π.statements) left scope.count at M e reads in
               rw (found.is, apply_walk π Γ view at found.part found.other found.from found.to)
@@ -169,7 +168,7 @@ module _ (S : Sources) (rows : List ℕ) (scope : Scope) (ledger : Ledger) (list
               (comes_halted S.state (book ledger list) (book application.ledger list₁) _ _ (applied_comes π Γ M e sound around found told) (top, found.from, found.to) n)))
 
           -- And with its second step checked.
-          pub infer_apply : stop_of application.ledger ≡ Going → {conclusion : Judgement} → conclusion ≡ part_of application.premise application.conclusion
+          pub infer_apply : GoesOn application.ledger → {conclusion : Judgement} → conclusion ≡ part_of application.premise application.conclusion
               → {checked : Checked} {list₂ : List ℕ}
               → ChecksAt S rows scope application.ledger list₁ left S.buffer application.premise application.middle checked list₂
               → By ApplyTag (record { ledger = checked.ledger; judgement = conclusion; next = application.next }) list₂

@@ -1,10 +1,12 @@
--- At first nothing is taken, or there are too many records; at the end all are looked at.
-use Rattle.std.proofs.Common.{refl, arith}
-use Rattle.verifier.proofs.CertificateLaws.{none_taken, all_taken}
+-- Too many records are refused; at the end of the loop all are taken.
+use Rattle.std.proofs.Common.{◌≡◌, length, arith}
+use Rattle.verifier.proofs.CertificateLaws.{all_taken, too_many}
 use Rattle.verifier.proofs.certificates.take_records.Goals as goal
 
-pub loop-i-init : goal.loop-i-init
-loop-i-init c = (omega arith, refl, λ full. none_taken c.args.certificates.now c.args.buffer.now c.args.rows.now _ c.begun-stop.ensures.few c.begun-stop.ensures.many)
+pub returns-then-certificates-gt-MOST_CERTIFICATES : goal.returns-then-certificates-gt-MOST_CERTIFICATES
+returns-then-certificates-gt-MOST_CERTIFICATES c = λ full. too_many _ _ _ c.if-certificates-gt-MOST_CERTIFICATES.true
 
 pub returns : goal.returns
-returns c = λ full. all_taken c.args.certificates.now c.args.buffer.now _ _ c.loop-i.i (λ few. omega (arith, c.how_many-all.ensures.few few)) (c.loop-i.invariant.2 full)
+returns c =
+    let all : c.loop-index.index ≡ length c.args.certificates.now = omega arith in
+    λ full. all_taken _ _ _ (rw all at (c.loop-index.invariant.1 full))

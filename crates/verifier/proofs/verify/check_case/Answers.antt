@@ -16,20 +16,20 @@ returns-then-not-well_formed c =
     λ π N reads.
     state_says_nothing _ π N _ _ c.if-moment-gt-LATEST_SECOND.false (fails_where told.result {P = WellFormed state} c.if-not-well_formed.true-raw told.ensures)
 
-pub returns-in-Stopped : goal.returns-in-Stopped
-returns-in-Stopped c =
+pub returns-in-Err : goal.returns-in-Err
+returns-in-Err c =
     let told = c.well_formed-2 in
     let state = c.args.state.now in
     let says : WellFormed state = holds_else told.result c.if-not-well_formed.false-raw told.ensures in
     λ π N reads.
     check_stopped _ _ _ _ _ (replicate 160 0) _ _ refl c.walked-ledger.ensures π N reads _ refl c.if-moment-gt-LATEST_SECOND.false
-    says.0 says.1 _ (sym c.stop-stop.ensures ∙ c.in-Stopped.is)
+    says.0 says.1 _ (sym c.stop.ensures ∙ c.in-Err.is)
 
-pub returns-in-Going : goal.returns-in-Going
-returns-in-Going c =
+pub returns-in-Ok : goal.returns-in-Ok
+returns-in-Ok c =
     let told = c.well_formed-2 in
     let state = c.args.state.now in
     let says : WellFormed state = holds_else told.result c.if-not-well_formed.false-raw told.ensures in
     λ π N reads.
     check_accepted _ _ _ _ _ (replicate 160 0) _ _ refl c.walked-ledger.ensures π N reads _ refl c.if-moment-gt-LATEST_SECOND.false
-    says.0 says.1 (sym c.stop-stop.ensures ∙ c.in-Going.is)
+    says.0 says.1 (sym c.stop.ensures ∙ c.in-Ok.is)

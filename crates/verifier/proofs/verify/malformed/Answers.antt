@@ -1,31 +1,24 @@
--- What stops the records and then the pairs stops the case; where nothing does, the proof decides.
-use Prim.Native.Nat.{ℕ}
-use mathlib.Core.List.{List}
-use Rattle.bl.specs.declared.Certificate.{Certificate}
-use Rattle.bl.specs.Certificates.{statements}
-use Rattle.bl.specs.Policy.{policy_in}
-use Rattle.verifier.specs.Verifying.{Stops}
-use Rattle.verifier.proofs.Answers.{stopped_with, went_with, stopped_not_going, policy_stops, case_stops, proof_decides}
+-- What refuses the records and then the pairs refuses the case; where nothing does, the proof decides.
+use Rattle.std.proofs.lemmas.Result.{err_from_is_err_and}
+use Rattle.verifier.proofs.Answers.{stopped_with, went_with, records_refuse, pairs_refuse, both_read, case_stops, proof_decides}
 use Rattle.verifier.proofs.verify.malformed.Goals as goal
-use Rattle.verifier.proofs.verify.malformed.Goals.{After-first_of-policy}
 
--- The stop of the policy, where the pairs were looked at.
-policy : (c : After-first_of-policy) (records : List Certificate) (buffer : List ℕ) → Stops (statements buffer records) c.args.stop
-    → Stops (policy_in records buffer c.args.pairs.now) c.first_of-policy.result
-policy c records buffer stops =
-    rw c.first_of-policy.ensures (policy_stops records buffer c.args.pairs.now c.args.stop c.pairs_taken.result stops c.pairs_taken.ensures)
+pub returns-in_err-taken-clause-stops : goal.returns-in_err-taken-clause-stops
+returns-in_err-taken-clause-stops c =
+    let p = err_from_is_err_and c.from_residual.result c.from_residual.ensures.1 in
+    rw (p.1, p.2)
+    (λ records buffer many stops. case_stops records buffer _ _ _ (records_refuse records buffer _ _ (stopped_with _ _ _ c.in_err-taken.was stops)))
 
-pub returns-in-Stopped : goal.returns-in-Stopped
-returns-in-Stopped c = record {
-  stops = λ records buffer many stops.
-      case_stops records buffer _ _ _ (stopped_with _ _ _ c.in-Stopped.is (policy (goal.at.returns-in-Stopped c).After-first_of-policy records buffer stops));
-  told = λ going. absurd (stopped_not_going going);
-}
+pub returns-in_err-pairs_taken-clause-stops : goal.returns-in_err-pairs_taken-clause-stops
+returns-in_err-pairs_taken-clause-stops c =
+    let failed = c.from_residual-in_err-pairs_taken in
+    let p = err_from_is_err_and failed.result failed.ensures.1 in
+    rw (p.1, p.2)
+    (λ records buffer many stops.
+    case_stops records buffer _ _ _ (pairs_refuse records buffer _ (went_with _ _ c.in_ok-taken.was stops) _ c.in_err-pairs_taken.ensures))
 
-pub returns-in-Going : goal.returns-in-Going
-returns-in-Going c = record {
-  stops = λ records buffer many stops.
-      let went = went_with _ _ c.in-Going.is (policy (goal.at.returns-in-Going c).After-first_of-policy records buffer stops) in
-      proof_decides records buffer _ _ went.0 _ c.proof_malformed.result went.1 many c.proof_malformed.ensures.stops;
-  told = λ going. c.proof_malformed.ensures.told;
-}
+pub returns-clause-stops : goal.returns-clause-stops
+returns-clause-stops c =
+    λ records buffer many stops.
+    let read = both_read records buffer _ (went_with _ _ c.in_ok-taken.was stops) c.in_ok-pairs_taken.ensures in
+    proof_decides records buffer _ _ read.0 _ c.proof_malformed.result read.1 many c.proof_malformed.ensures.stops

@@ -4,14 +4,14 @@ use mathlib.Core.Path.{refl, sym, ◌∙◌}
 use lib.ListN.{replicate}
 use Rattle.verifier.proofs.verify.verify_case.Goals as goal
 
-pub returns-in-Stopped : goal.returns-in-Stopped
-returns-in-Stopped c =
+pub returns-in-Err : goal.returns-in-Err
+returns-in-Err c =
     λ π N reads.
     verify_stopped _ _ _ _ _ (replicate 160 0) _ _ refl c.walked-ledger.ensures π N reads refl _ _
-    (sym c.stop-stop.ensures ∙ c.in-Stopped.is) c.refused.ensures
+    (sym c.stop.ensures ∙ c.in-Err.is) c.refused.ensures
 
-pub returns-in-Going : goal.returns-in-Going
-returns-in-Going c =
+pub returns-in-Ok : goal.returns-in-Ok
+returns-in-Ok c =
     λ π N reads.
     verify_issued _ _ _ _ _ (replicate 160 0) _ _ refl c.walked-ledger.ensures π N reads refl _
-    (sym c.stop-stop.ensures ∙ c.in-Going.is) c.issued.ensures
+    (sym c.stop.ensures ∙ c.in-Ok.is) c.issued.ensures

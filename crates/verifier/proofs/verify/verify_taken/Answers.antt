@@ -3,15 +3,15 @@ use native.Mathlib.Omega.{arith}
 use Rattle.verifier.proofs.Answers.{stopped_with, went_with, verify_stops, verify_goes_on}
 use Rattle.verifier.proofs.verify.verify_taken.Goals as goal
 
-pub returns-in-Stopped : goal.returns-in-Stopped
-returns-in-Stopped c =
+pub returns-in-Err : goal.returns-in-Err
+returns-in-Err c =
     let tested = c.malformed.ensures in
     λ records many taken.
-    verify_stops _ records _ _ _ taken _ _ (stopped_with _ _ _ c.in-Stopped.is (tested.stops records _ many taken.stops)) c.refused.ensures
+    verify_stops _ records _ _ _ taken _ _ (stopped_with _ _ _ c.in-Err.is (tested.stops records _ many taken.stops)) c.refused.ensures
 
-pub returns-in-Going : goal.returns-in-Going
-returns-in-Going c =
-    let going = c.in-Going.is in
+pub returns-in-Ok : goal.returns-in-Ok
+returns-in-Ok c =
+    let going = c.in-Ok.is in
     let tested = c.malformed.ensures in
     λ records many taken.
     let case = went_with _ _ going (tested.stops records _ many taken.stops) in
