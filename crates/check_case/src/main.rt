@@ -13,8 +13,7 @@ fn main(rt: HostRuntime) {
     let count = read_full(&mut rt.stdin(), &mut input);
     let mut out = [0u8; MOST_TEXT];
     let written = answer_case(&input[..count], &mut out);
-    let length = written.length;
-    if rt.stdout().write_all(&out[..length]).is_err() {
+    if rt.stdout().write_all(&out[..written.length]).is_err() {
         let _ = rt
             .stderr()
             .write_all(b"check: the answer could not be written\n");
@@ -22,18 +21,16 @@ fn main(rt: HostRuntime) {
 }
 
 // Reads until the buffer is full, the input ends or a read fails, and answers how many bytes it put at the front.
+// A loop: `read_to_end` of the library reads into a Vec, which needs a heap, and `read_exact` does not tell how many bytes came.
 fn read_full<R: Read>(reader: &mut R, buffer: &mut [u8]) -> usize
     ensures { result ≤ length buffer.new }
 {
     let mut done: usize = 0;
     while done < buffer.len() {
-        let Ok(count) = reader.read(&mut buffer[done..]) else {
-            return done;
-        };
-        if count == 0 {
-            return done;
+        match reader.read(&mut buffer[done..]) {
+            Ok(0) | Err(_) => break,
+            Ok(count) => done += count,
         }
-        done += count;
     }
     done
 }

@@ -1,4 +1,4 @@
--- What a call that writes hands back to C, and how the number of an answer tells whether it goes on: 0 is that of a grant, and no refusal has it.
+-- What a call that writes hands back to C, and how an answer tells whether it goes on: no refusal has the answer of a grant.
 use Prim.Native.Nat.{ℕ}
 use mathlib.Core.Path.{◌≡◌, refl, sym, ap, ◌∙◌}
 use mathlib.Core.List.{List}
@@ -7,6 +7,7 @@ use Rattle.procap.specs.Answers.{number_of}
 use Rattle.std.specs.Prelude.{Err, Ok}
 use Rattle.procap.specs.Outcome.{Outcome, go_on, answer_of, procap_handed}
 use Rattle.procap.specs.declared.answer.Answer.{Answer}
+use Rattle.procap.specs.declared.answer.Answer.TheVariants.{Granted}
 use Rattle.procap.specs.declared.procap.Procap.{Procap}
 use Rattle.procap.proofs.Refused.{IfRefused}
 use Rattle.text.specs.Calls.{length_given, buffer_left, Wrote}
@@ -31,20 +32,20 @@ module _ (o : Outcome (List ℕ)) (before : List ℕ) (number : ℕ) where
   hands_back_refused answer packs refuses = rw refuses (packs, refl)
 
 module _ (o : Outcome Procap) (answer : Answer) (given : answer ≡ answer_of o) (f : Procap → Outcome (List ℕ)) where
-  -- With another number than 0 the outcome is a refusal, and nothing goes on from it.
-  pub stops_there : (number_of answer ≡ 0 → ⊥) → go_on o f ≡ Err answer
+  -- What is not granted is a refusal, and nothing goes on from it.
+  pub stops_there : (answer ≡ Granted → ⊥) → go_on o f ≡ Err answer
   unfolding answer_of go_on
   stops_there other = by o given
     where
       by : (x : Outcome Procap) → answer ≡ answer_of x → go_on x f ≡ Err answer
-      by (Ok p) same = absurd (other (ap number_of same))
+      by (Ok p) same = absurd (other same)
       by (Err a) same = ap Err (sym same)
 
-  -- With the number 0 it goes on with the procap that is handed over.
-  pub goes_on_with : IfRefused Refuses o → number_of answer ≡ 0 → (p : Procap) → p ≡ procap_handed o → go_on o f ≡ f p
+  -- From what is granted it goes on with the procap that is handed over.
+  pub goes_on_with : IfRefused Refuses o → answer ≡ Granted → (p : Procap) → p ≡ procap_handed o → go_on o f ≡ f p
   unfolding answer_of go_on procap_handed
-  goes_on_with refuses zero p handed = by o given refuses handed
+  goes_on_with refuses granted p handed = by o given refuses handed
     where
       by : (x : Outcome Procap) → answer ≡ answer_of x → IfRefused Refuses x → p ≡ procap_handed x → go_on x f ≡ f p
-      by (Ok q) same no_zero is = ap f (sym is)
-      by (Err a) same no_zero is = let numbers = ap number_of same in absurd (omega (arith, no_zero))
+      by (Ok q) same no_grant is = ap f (sym is)
+      by (Err a) same no_grant is = let numbers = ap number_of (sym same ∙ granted) in absurd (omega (arith, no_grant))

@@ -1,6 +1,5 @@
 -- Laws that the crate's proofs cite.
 pub mod RowLaws
-pub mod RecordLaws
 pub mod TooMany
 pub mod ValuesRead
 pub mod Presses

@@ -3,11 +3,10 @@ use Prim.Native.Nat.{ℕ}
 use mathlib.Core.Path.{◌≡◌, sym, ap, ◌∙◌}
 use mathlib.Core.List.{List}
 use lib.ListN.{length, take}
-use Rattle.procap.specs.Answers.{number_of}
 use Rattle.std.specs.Prelude.{Err}
 use Rattle.procap.specs.Outcome.{answer_of, procap_handed}
 use Rattle.procap.specs.declared.answer.Answer.{Answer}
-use Rattle.procap.specs.declared.answer.Answer.TheVariants.{ProcapMalformed}
+use Rattle.procap.specs.declared.answer.Answer.TheVariants.{Granted, ProcapMalformed}
 use Rattle.procap.specs.declared.procap.Request.{Request}
 use Rattle.procap.specs.declared.procap.Procap.{Procap}
 use Rattle.bl.specs.declared.Certificate.{Certificate}
@@ -46,26 +45,26 @@ module _ (r : Request) (bytes buffer pairs proof : List ℕ) (lent : List Certif
 module _ (r : Request) (bytes buffer pairs proof : List ℕ) (room : ℕ) (v : Verified)
     (hands : HandsOver (verified r (records_in bytes) buffer (pair_numbers pairs) proof) v) where
   -- Verify refuses, and no text is written.
-  pub verifying_stops : (number_of v.answer ≡ 0 → ⊥) → verifying r bytes buffer pairs proof room ≡ Err v.answer
+  pub verifying_stops : (v.answer ≡ Granted → ⊥) → verifying r bytes buffer pairs proof room ≡ Err v.answer
   unfolding verifying
   verifying_stops other = stops_there _ v.answer hands.answer _ other
 
   -- Verify issues a procap, and its text is written.
-  pub verifying_writes : number_of v.answer ≡ 0 → verifying r bytes buffer pairs proof room ≡ writing v.procap room
+  pub verifying_writes : v.answer ≡ Granted → verifying r bytes buffer pairs proof room ≡ writing v.procap room
   unfolding verifying
-  verifying_writes zero =
-      goes_on_with _ v.answer hands.answer (λ p. writing p room) (verified_refuses r (records_in bytes) buffer (pair_numbers pairs) proof) zero v.procap hands.procap
+  verifying_writes granted =
+      goes_on_with _ v.answer hands.answer (λ p. writing p room) (verified_refuses r (records_in bytes) buffer (pair_numbers pairs) proof) granted v.procap hands.procap
 
 module _ (text : List ℕ) (room : ℕ) (answer : Answer) (given : answer ≡ answer_of (reading text)) where
   -- Bytes that are no text: nothing is written.
-  pub rewriting_stops : (number_of answer ≡ 0 → ⊥) → rewriting text room ≡ Err answer
+  pub rewriting_stops : (answer ≡ Granted → ⊥) → rewriting text room ≡ Err answer
   unfolding rewriting
   rewriting_stops other = stops_there _ answer given _ other
 
   -- The procap that the text says is written.
-  pub rewriting_writes : number_of answer ≡ 0 → (p : Procap) → p ≡ procap_handed (reading text) → rewriting text room ≡ writing p room
+  pub rewriting_writes : answer ≡ Granted → (p : Procap) → p ≡ procap_handed (reading text) → rewriting text room ≡ writing p room
   unfolding rewriting
-  rewriting_writes zero p handed = goes_on_with _ answer given (λ q. writing q room) (reading_refuses text) zero p handed
+  rewriting_writes granted p handed = goes_on_with _ answer given (λ q. writing q room) (reading_refuses text) granted p handed
 
 module _ (bytes : List ℕ) (room : ℕ) where
   -- Bytes that are no value: nothing is written.

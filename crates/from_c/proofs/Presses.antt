@@ -7,6 +7,7 @@ use Rattle.procap.specs.Answers.{number_of}
 use Rattle.std.specs.Prelude.{Err, Ok}
 use Rattle.procap.specs.Outcome.{Outcome, answer_of, procap_handed}
 use Rattle.procap.specs.declared.answer.Answer.{Answer}
+use Rattle.procap.specs.declared.answer.Answer.TheVariants.{Granted}
 use Rattle.procap.specs.declared.procap.Request.{Request}
 use Rattle.procap.specs.declared.procap.Procap.{Procap}
 use Rattle.procap.proofs.AnswerNumbers.{zero_exactly_when_granted}
@@ -32,7 +33,7 @@ one_more : (o : Outcome (Unit {0})) (n : ℕ) → o ≡ Ok tt → opened_of o n 
 unfolding opened_of
 one_more o n e = rw e refl
 
-no_more : (o : Outcome (Unit {0})) (n m : ℕ) → (number_of (answer_of o) ≡ 0 → ⊥) → opened_of o n ≡ opened_of o m
+no_more : (o : Outcome (Unit {0})) (n m : ℕ) → (answer_of o ≡ Granted → ⊥) → opened_of o n ≡ opened_of o m
 unfolding opened_of answer_of
 no_more (Ok u) n m k = absurd (k refl)
 no_more (Err answer) n m k = refl
@@ -40,27 +41,24 @@ no_more (Err answer) n m k = refl
 -- What the reader answers to a text, and presses with that text.
 module _ (text : List ℕ) (answer : Answer) (given : answer ≡ answer_of (reading text)) (r : Request) (m : ℕ) (state : List ℕ) where
   -- With a text that does not read none goes through.
-  pub unread_presses : (number_of answer ≡ 0 → ⊥) → (n : ℕ) → 0 ≡ opened_of (opening_text text r m state) n
+  pub unread_presses : (answer ≡ Granted → ⊥) → (n : ℕ) → 0 ≡ opened_of (opening_text text r m state) n
   unread_presses k n =
-      let same = unread text answer given r m state k in
-      none_pressed _ ∙ no_more (opening_text text r m state) 0 n (λ e. k (ap number_of same ∙ e))
+      let same = unread text answer given r m state (λ zero. k ((zero_exactly_when_granted answer).0 zero)) in
+      none_pressed _ ∙ no_more (opening_text text r m state) 0 n (λ e. k (same ∙ e))
 
   -- With one that does, each press comes to what the door answers to the procap that it says.
-  module _ (p : Procap) (handed : p ≡ procap_handed (reading text)) (zero : number_of answer ≡ 0)
+  module _ (p : Procap) (handed : p ≡ procap_handed (reading text)) (granted : answer ≡ Granted)
       (pressed : Answer) (told : pressed ≡ answer_of (opening p r m state)) (n opened : ℕ)
       (so_far : opened ≡ opened_of (opening_text text r m state) n) where
     same : pressed ≡ answer_of (opening_text text r m state)
-    same = told ∙ ap answer_of (sym (read_opens text answer given p handed zero r m state))
+    same = told ∙ ap answer_of (sym (read_opens text answer given p handed (ap number_of granted) r m state))
 
-    press_opens : number_of pressed ≡ 0 → opened + 1 ≡ opened_of (opening_text text r m state) (n + 1)
+    -- So a press that is granted is one more that goes through,
+    pub press_opens : pressed ≡ Granted → opened + 1 ≡ opened_of (opening_text text r m state) (n + 1)
     press_opens e =
-        let opens = (zero_exactly_when_open text r m state).0 (ap packed (sym same ∙ (zero_exactly_when_granted pressed).0 e)) in
+        let opens = (zero_exactly_when_open text r m state).0 (ap packed (sym same ∙ e)) in
         ap (λ k. k + 1) so_far ∙ one_more (opening_text text r m state) n opens
 
-    press_refused : (number_of pressed ≡ 0 → ⊥) → opened ≡ opened_of (opening_text text r m state) (n + 1)
-    press_refused k = so_far ∙ no_more (opening_text text r m state) n (n + 1) (λ e. k (ap number_of same ∙ e))
-
-    -- So a press that has the answer 0 is one more that goes through, and any other is none.
-    pub press_counts : (number_of pressed ≡ 0 → opened + 1 ≡ opened_of (opening_text text r m state) (n + 1))
-        × ((number_of pressed ≡ 0 → ⊥) → opened ≡ opened_of (opening_text text r m state) (n + 1))
-    press_counts = (press_opens, press_refused)
+    -- and any other is none.
+    pub press_refused : (pressed ≡ Granted → ⊥) → opened ≡ opened_of (opening_text text r m state) (n + 1)
+    press_refused k = so_far ∙ no_more (opening_text text r m state) n (n + 1) (λ e. k (same ∙ e))

@@ -9,7 +9,10 @@ use native.Mathlib.Omega.{arith}
 use native.Mathlib.Decide.{dec_le}
 use lib.ListN.{length, take, set, length-set}
 use lib.Seq.{take_all, take-suc-set}
-use Rattle.from_c.specs.InARow.{in_a_row}
+use Rattle.from_c.specs.InARow.{in_a_row, how_many}
+use borrow.Author.Tests.{eq-eqb, ne_eqb}
+use Rattle.std.specs.Prelude.{min, ◌%◌}
+use Rattle.std.specs.Int.{div_ceil}
 
 module _ {A : Type 0} (value : ℕ → A) (step : ℕ) where
   -- There are so many.
@@ -35,23 +38,26 @@ module _ {A : Type 0} (value : ℕ → A) (step : ℕ) where
   first_in_a_row (suc k) zero at l = absurd (omega arith)
   first_in_a_row (suc k) (suc n) at l = ap (λ xs. value at ∷ xs) (first_in_a_row k n (at + step) (omega arith))
 
--- Of all things, those that are lent on: as many as there are, or as many as may be at the most.
-pub record LentOn (all most lent : ℕ) : Type 0 where
-  pub few : all ≤ most → lent ≡ all
-  pub many : most ≤ all → lent ≡ most
+-- How many there are is the quotient, rounded up.
+how_many_up : (each n : ℕ) → how_many each n ≡ div_ceil n each
+how_many_up each n = elim (dec_le (n % each) 0) [ yes e ↦ rw (eq-eqb (n % each) 0 (omega (arith, e))) (omega (arith, e)) | no k ↦ rw (ne_eqb (n % each) 0 (omega (arith, k))) (omega (arith, k)) ]
 
-pub few_lent : (all most lent : ℕ) → LentOn all most lent → lent ≤ most
-few_lent all most lent on = elim (dec_le all most) [ yes l ↦ omega (arith, on.few l) | no n ↦ omega (arith, on.many (omega arith)) ]
+module _ {A : Type 0} (value : ℕ → A) (each : ℕ) where
+  -- As many as there are, but no more than so many, are the first of all of them.
+  first_of_all : (all most : ℕ) → in_a_row value each (min all most) 0 ≡ take most (in_a_row value each all 0)
+  first_of_all all most = by (dec_le all most)
+    where
+      by : Dec (all ≤ most) → in_a_row value each (min all most) 0 ≡ take most (in_a_row value each all 0)
+      by (yes l) =
+          let same : min all most ≡ all = omega arith in
+          ap (λ k. in_a_row value each k 0) same ∙ sym (take_all most (in_a_row value each all 0) (omega (arith, row_length value each all 0)))
+      by (no l) =
+          let same : min all most ≡ most = omega arith in
+          ap (λ k. in_a_row value each k 0) same ∙ sym (first_in_a_row value each most all 0 (omega arith))
 
-row_lent : {A : Type 0} (value : ℕ → A) (step all most lent : ℕ) → LentOn all most lent
-    → in_a_row value step lent 0 ≡ take most (in_a_row value step all 0)
-row_lent value step all most lent on = elim (dec_le all most) [ yes l ↦ all_lent l | no n ↦ most_lent (omega arith) ]
-  where
-    all_lent : all ≤ most → in_a_row value step lent 0 ≡ take most (in_a_row value step all 0)
-    all_lent l = ap (λ n. in_a_row value step n 0) (on.few l) ∙ sym (take_all most (in_a_row value step all 0) (omega (arith, row_length value step all 0)))
-
-    most_lent : most ≤ all → in_a_row value step lent 0 ≡ take most (in_a_row value step all 0)
-    most_lent l = ap (λ n. in_a_row value step n 0) (on.many l) ∙ sym (first_in_a_row value step most all 0 l)
+  pub first_lent : (n most count : ℕ) → count ≡ min (div_ceil n each) most
+      → in_a_row value each count 0 ≡ take most (in_a_row value each (how_many each n) 0)
+  first_lent n most count e = rw (e, ← how_many_up each n) (first_of_all (how_many each n) most)
 
 -- The first i of an array of n are the values in a row from a place on.
 pub record Filled {A : Type 0} (value : ℕ → A) (step n at : ℕ) (array : List A) (i : ℕ) : Type 0 where
@@ -75,19 +81,9 @@ module _ {A : Type 0} {value : ℕ → A} {step n at : ℕ} {array : List A} whe
             ∙ ap₂ (λ xs y. xs ++ (y ∷ [])) h.front e
             ∙ sym (row_more value step i at)
 
-    -- The same from the front of the bytes, where the next place is told.
-    pub next_filled : at ≡ 0 → (x : A) (place : ℕ) → i < n → place ≡ step * i → x ≡ value place → Filled value step n at (set array i x) (i + 1)
-    next_filled front x place l e f = one_filled x l (f ∙ ap value (omega (arith, front, e)))
-
     -- All of them.
     pub all_filled : n ≤ i → array ≡ in_a_row value step n at
     all_filled l = all ∙ ap (λ k. in_a_row value step k at) (sym (row_length value step i at) ∙ ap length (sym all) ∙ h.whole)
       where
         all : array ≡ in_a_row value step i at
         all = sym (take_all i array (omega (arith, h.whole))) ∙ h.front
-
--- Where as many are filled as are lent on, these are the first of all.
-pub lent_filled : {A : Type 0} (value : ℕ → A) (step all most lent i : ℕ) (array : List A) → LentOn all most lent → i ≡ lent
-    → Filled value step most 0 array i → take lent array ≡ take most (in_a_row value step all 0)
-lent_filled value step all most lent i array on e filled =
-    ap (λ k. take k array) (sym e) ∙ filled.front ∙ ap (λ k. in_a_row value step k 0) e ∙ row_lent value step all most lent on

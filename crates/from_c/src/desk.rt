@@ -44,20 +44,15 @@ pub fn desk_presses(
     ensures { result ≡ opened_of (opening_text text.now (request_of who what right) moment state.now) presses }
 {
     let read = read_text(text);
-    let answer = read.answer;
-    if answer.number() != 0 {
+    let Answer::Granted = read.answer else {
         return 0;
-    }
+    };
+    let request = Request::of(who, what, right);
     let mut opened: u64 = 0;
-    let mut i: u64 = 0;
-    while i < presses {
-        let request = Request::of(who, what, right);
-        let procap = read.procap;
-        let pressed = open(procap, request, moment, state);
-        if pressed.number() == 0 {
+    for press in 0..presses {
+        if let Answer::Granted = open(read.procap, request, moment, state) {
             opened += 1;
         }
-        i += 1;
     }
     opened
 }

@@ -1,5 +1,5 @@
 // Numbers and terms of a fixed width, at a place of some bytes. Where the bytes end before, they are zeros.
-ghost use Rattle.std.specs.Prelude.{◌≡◌, ◌+◌, ◌<◌, length};
+ghost use Rattle.std.specs.Prelude.{◌≡◌, ◌+◌, ◌<◌};
 ghost use Rattle.from_c.specs.Numbers.{one, two, eight, wide_term};
 
 use procap::bytes::{NumberRead, byte_at, eight_bytes_at, two_bytes_at};
@@ -37,7 +37,7 @@ pub(crate) fn eight_at(bytes: &[u8], at: usize) -> u64
 
 // The term of nine bytes: its kind, and the number that it holds.
 pub(crate) fn term_at(bytes: &[u8], at: usize) -> Term
-    requires { at < length bytes.now }
+    requires { at < usize.MAX }
     ensures { result ≡ wide_term bytes.now at }
 {
     Term::of_numbers(one_at(bytes, at) as u64, eight_at(bytes, at + 1))

@@ -6,7 +6,6 @@ ghost use Rattle.cases.specs.Calls.{answering};
 ghost use Rattle.from_c.specs.Packing.{packed, packed_text};
 ghost use Rattle.from_c.specs.Calls.{verifying_over, checking_over, rewriting, value_writing_over};
 
-use crate::lending::{direct_lent, verify_lent};
 use crate::packing::as_number;
 use crate::pairs::pair_numbers;
 use crate::records::records_in;
@@ -16,6 +15,7 @@ use procap::answer::Answer;
 use procap::procap::Request;
 use text::reader::read_text;
 use text::writer::write_text;
+use verifier::verify::{direct, verify};
 
 // Verifies, and puts the text of the procap at the front of the buffer that is lent for it: 13 where it is shorter. The answer comes as one number.
 pub fn office_verify(
@@ -32,21 +32,14 @@ pub fn office_verify(
     ensures buffer { out.new ≡ buffer_left (verifying_over who what right records buffer pairs proof out) out.old }
 {
     let request = Request::of(who, what, right);
-    let table = records_in(records);
-    let count = table.count;
-    let lent = table.records;
-    let given = pair_numbers(pairs);
-    let many = given.count;
-    let numbers = given.numbers;
-    let verified = verify_lent(request, lent, count, buffer, &numbers[..many], proof);
-    let answer = verified.answer;
-    if answer.number() != 0 {
-        return as_number(answer, 0);
-    }
-    let procap = verified.procap;
-    let written = write_text(procap, out);
-    let last = written.answer;
-    as_number(last, written.length)
+    let records = records_in(records);
+    let pairs = pair_numbers(pairs);
+    let verified = verify(request, records.lent(), buffer, pairs.lent(), proof);
+    let Answer::Granted = verified.answer else {
+        return as_number(verified.answer, 0);
+    };
+    let written = write_text(verified.procap, out);
+    as_number(written.answer, written.length)
 }
 
 // Checks the proof directly, at a moment in a state. The answer comes as one number.
@@ -64,18 +57,13 @@ pub fn office_direct(
     ensures { result ≡ packed (answer_of (checking_over who what right records buffer pairs proof moment state)) 0 }
 {
     let request = Request::of(who, what, right);
-    let table = records_in(records);
-    let count = table.count;
-    let lent = table.records;
-    let given = pair_numbers(pairs);
-    let many = given.count;
-    let numbers = given.numbers;
-    let answer = direct_lent(
+    let records = records_in(records);
+    let pairs = pair_numbers(pairs);
+    let answer = direct(
         request,
-        lent,
-        count,
+        records.lent(),
         buffer,
-        &numbers[..many],
+        pairs.lent(),
         proof,
         moment,
         state,
@@ -89,8 +77,7 @@ pub fn office_answer_case(input: &[u8], out: &mut [u8]) -> u64
     ensures buffer { out.new ≡ buffer_left (answering input.now (length out.old)) out.old }
 {
     let printed = answer_case(input, out);
-    let answer = printed.answer;
-    as_number(answer, printed.length)
+    as_number(printed.answer, printed.length)
 }
 
 // Reads a text, and writes the procap that it says again: 12 for bytes that are no text, then 13.
@@ -99,14 +86,11 @@ pub fn office_rewrite(text: &[u8], out: &mut [u8]) -> u64
     ensures buffer { out.new ≡ buffer_left (rewriting text.now (length out.old)) out.old }
 {
     let read = read_text(text);
-    let answer = read.answer;
-    if answer.number() != 0 {
-        return as_number(answer, 0);
-    }
-    let procap = read.procap;
-    let rewritten = write_text(procap, out);
-    let last = rewritten.answer;
-    as_number(last, rewritten.length)
+    let Answer::Granted = read.answer else {
+        return as_number(read.answer, 0);
+    };
+    let rewritten = write_text(read.procap, out);
+    as_number(rewritten.answer, rewritten.length)
 }
 
 // Writes the text of a value: 12 for bytes that are no value and for a value that cannot be written, then 13.
@@ -118,6 +102,5 @@ pub fn office_write(value: &[u8], out: &mut [u8]) -> u64
         return as_number(Answer::ProcapMalformed, 0);
     }
     let written = write_text(value_of(value), out);
-    let answer = written.answer;
-    as_number(answer, written.length)
+    as_number(written.answer, written.length)
 }

@@ -10,6 +10,7 @@ const LENGTHS: u64 = 65_536;
 const PLACES: u64 = 4_294_967_296;
 
 // An answer with a length, as one number: the number, the length in 16 bits, the place in 32 bits.
+#[tactic(auto, using(procap::proofs::AnswerNumbers::numbers_are_small))]
 pub(crate) fn as_number(answer: Answer, length: usize) -> u64
     ensures { result ≡ packed answer length }
 {

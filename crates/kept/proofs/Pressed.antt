@@ -1,10 +1,11 @@
 -- What verify, the direct check and the door hand back for three names and for bytes is what the theorems in numbers are about: their
 -- hypotheses are met by every `u16` and every `&[u8]`.
 use Prim.Native.Nat.{ℕ, ◌<◌}
-use mathlib.Core.Bool.{true, not}
-use mathlib.Core.Path.{◌≡◌, sym, ap, ◌∙◌}
+use mathlib.Core.Bool.{true, not, beq}
+use mathlib.Core.Path.{◌≡◌, refl, sym, ap, ◌∙◌}
 use mathlib.Core.List.{List}
 use mathlib.Core.Logic.{◌↔◌}
+use native.Mathlib.Decide.{dec_le}
 use native.Mathlib.Omega.{arith}
 use borrow.Author.Tests.{eq-eqb, ne_eqb}
 use mir.Syntax.{w8, w16}
@@ -52,8 +53,13 @@ module _ {who what right : ℕ} {records buffer pairs proof : List ℕ} {moment 
         opens_with_0_exactly_where_direct_has_0 _ _ _ _ _ c.names c.buffer_is_bytes c.proof_is_bytes blank room _ _ c.verifies zero moment state
         pressed opens checked c.checks
 
-    pub opened_is_accepted : pressed ≡ 0 → eqb found 0 ≡ true
-    opened_is_accepted opened = eq-eqb found 0 (c.is_found ∙ alike.0 opened)
-
-    pub shut_is_not_accepted : (pressed ≡ 0 → ⊥) → not (eqb found 0) ≡ true
-    shut_is_not_accepted shut = ap not (ne_eqb found 0 (λ e. shut (alike.1 (sym c.is_found ∙ e))))
+    pub both_or_neither : beq (eqb found 0) (eqb pressed 0) ≡ true
+    both_or_neither =
+        elim (dec_le pressed 0) [
+          | yes h ↦
+              let opened : pressed ≡ 0 = omega arith in
+              rw (eq-eqb pressed 0 opened, eq-eqb found 0 (c.is_found ∙ alike.0 opened)) refl
+          | no n ↦
+              let shut : pressed ≡ 0 → ⊥ = λ e. omega (arith, n, e) in
+              rw (ne_eqb pressed 0 shut, ne_eqb found 0 (λ e. shut (alike.1 (sym c.is_found ∙ e)))) refl
+        ]

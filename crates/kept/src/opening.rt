@@ -39,5 +39,5 @@ pub extern "C" fn kept_demand_3(
         moment,
         state,
     );
-    if pressed == 0 { accepted } else { !accepted }
+    accepted == (pressed == 0)
 }

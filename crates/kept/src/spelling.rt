@@ -1,6 +1,5 @@
 // Demand 2: a text has one spelling.
-ghost use Rattle.std.specs.Prelude.{Bool, ◌≡◌, ◌≤◌, length, take};
-ghost use Rattle.procap.specs.Tells.{Tells};
+ghost use Rattle.std.specs.Prelude.{Bool, ◌≡◌};
 
 use from_c::office::{office_rewrite, office_write};
 use from_c::packing::{length_in, number_in};
@@ -16,7 +15,7 @@ pub extern "C" fn kept_demand_2_reading(text: &[u8]) -> bool
     if number_in(rewritten) != 0 {
         return true;
     }
-    is_front(&again, length_in(rewritten), text)
+    &again[..length_in(rewritten)] == text
 }
 
 // Whether what is written of a value reads back, and is written again as it was: always.
@@ -35,23 +34,5 @@ pub extern "C" fn kept_demand_2_writing(value: &[u8]) -> bool
     if number_in(rewritten) != 0 {
         return false;
     }
-    is_front(&again, length_in(rewritten), &text[..length])
-}
-
-// Whether the first so many bytes of a buffer are these.
-fn is_front(buffer: &[u8], count: usize, bytes: &[u8]) -> bool
-    requires { count ≤ length buffer.now }
-    ensures { Tells result (take count buffer.now ≡ bytes.now) }
-{
-    if count != bytes.len() {
-        return false;
-    }
-    let mut i: usize = 0;
-    while i < count {
-        if buffer[i] != bytes[i] {
-            return false;
-        }
-        i += 1;
-    }
-    true
+    &again[..length_in(rewritten)] == &text[..length]
 }

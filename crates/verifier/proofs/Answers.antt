@@ -1,4 +1,5 @@
--- What verify and the direct check answer, test by test: what is malformed stops before the walk, and the walk's own stop is the answer.
+-- What verify and the direct check come to, test by test: what is malformed refuses the case before the walk, and what the walk has come to
+-- is the rest.
 use Prim.Native.Nat.{ℕ, ◌≤◌, ◌<◌}
 use native.Mathlib.Omega.{arith}
 use native.Mathlib.Decide.{dec_le}
@@ -8,161 +9,151 @@ use Rattle.std.specs.Prelude.{Err, None, Ok, Option, Some}
 use lib.ListN.{length}
 use Rattle.procap.specs.Times.{latest}
 use Rattle.procap.specs.Facts.{Spelled}
-use Rattle.procap.specs.Procaps.{empty_procap, procap_of}
+use Rattle.procap.specs.Procaps.{procap_of}
 use Rattle.procap.specs.States.{stated}
 use Rattle.procap.specs.Desk.{read_press}
-use Rattle.procap.specs.Outcome.{Outcome, go_on, or_else, answer_of, procap_handed}
+use Rattle.procap.specs.Outcome.{Outcome, go_on, or_else}
 use Rattle.procap.specs.declared.answer.Answer.{Answer}
-use Rattle.procap.specs.declared.answer.Answer.TheVariants.{Granted, ProofMalformed, NoMomentLeft, StateMalformed, MomentAboveLatest}
+use Rattle.procap.specs.declared.answer.Answer.TheVariants.{ProofMalformed, NoMomentLeft, StateMalformed, MomentAboveLatest, TooManyPairs}
 use Rattle.procap.specs.declared.procap.Request.{Request}
 use Rattle.procap.specs.declared.procap.Procap.{Procap}
-use Rattle.procap.proofs.Granted.{goes_on, is_so, is_not_so, reads_press}
+use Rattle.procap.proofs.Granted.{goes_on, is_so, is_not_so, no_grant, reads_press}
 use Rattle.state.specs.Standing.{WellFormed}
 use Rattle.bl.specs.declared.Certificate.{Certificate}
 use Rattle.bl.specs.Trees.{Check}
 use Rattle.bl.specs.Certificates.{Statement, statements}
-use Rattle.bl.specs.Strength.{Pair, pairs_in}
+use Rattle.bl.specs.Strength.{most_pairs, pairs_of}
 use Rattle.bl.specs.Policy.{Policy, policy_in}
-use Rattle.bl.specs.Questions.{done}
+use Rattle.bl.specs.Questions.{Walk, done}
 use Rattle.bl.specs.Steps.{proof_in}
 use Rattle.bl.specs.Walk.{walk}
 use Rattle.bl.specs.Readings.{Kept, start, office, press, run}
-use Rattle.bl.specs.Calls.{read_case, issue, verified, directly}
-use Rattle.bl.proofs.Called.{policy_from, case_read}
+use Rattle.bl.specs.Calls.{Case, read_case, issue, verified, directly}
+use Rattle.bl.proofs.Called.{few_pairs, too_many_pairs, policy_from, case_read}
 use Rattle.ledger.specs.declared.Reading.{Reading}
 use Rattle.ledger.specs.declared.Reading.TheVariants.{Office, Press}
 use Rattle.ledger.specs.declared.Ledger.{Ledger}
-use Rattle.verifier.specs.declared.verify.Verified.{Verified}
-use Rattle.ledger.specs.Books.{begun, stop_of, Book, book, list_numbers, Sound, facts_in, kept_of, facts_said, resume, GoesOn}
+use Rattle.ledger.specs.Books.{begun, stop_of, GoesOn, Book, book, list_numbers, Sound, facts_in, kept_of, facts_said, resume}
 use Rattle.ledger.proofs.Giving.{stop_refused, stop_going}
-use Rattle.verifier.specs.Verifying.{Taken, Walked, Stops, PolicyRead, CaseReads, verified_case, checked_case, HandsOver}
+use Rattle.verifier.specs.Verifying.{Taken, Walked, PolicyRead, CaseReads, CaseRead}
 use Rattle.steps.specs.Ends.{ToldChecking}
 use Rattle.verifier.proofs.CertificateLaws.{statements_count}
 use Rattle.verifier.proofs.WalkBegins.{office_begins, press_begins}
-
--- ── Outcomes that are handed over ──
-
--- A refusal.
-hands_refusal : (o : Outcome Procap) (answer : Answer) (r : Verified) → o ≡ Err answer → r ≡ record { answer = answer; procap = empty_procap } → HandsOver o r
-unfolding answer_of procap_handed
-hands_refusal o answer r e f = rw e (record { answer = ap (λ x. x.answer) f; procap = ap (λ x. x.procap) f })
-
--- A grant.
-hands_grant : (o : Outcome Procap) (p : Procap) (r : Verified) → o ≡ Ok p → r.answer ≡ Granted → r.procap ≡ p → HandsOver o r
-unfolding answer_of procap_handed
-hands_grant o p r e f g = rw e (record { answer = f; procap = g })
 
 -- What goes on from a refusal is that refusal.
 refused_on : {A B : Type 0} (o : Outcome A) (f : A → Outcome B) (answer : Answer) → o ≡ Err answer → go_on o f ≡ Err answer
 unfolding go_on
 refused_on o f answer e = rw e refl
 
--- What a stop says of its outcome.
-pub stopped_with : {A : Type 0} (o : Outcome A) (s : Outcome (Unit {0})) (answer : Answer) → s ≡ Err answer → Stops o s → o ≡ Err answer
-stopped_with o s answer e h = rw e at h
-
-pub went_with : {A : Type 0} (o : Outcome A) (s : Outcome (Unit {0})) → s ≡ Ok tt → Stops o s → (a : A) × (o ≡ Ok a)
-went_with o s e h = rw e at h
-
 -- ── The end ──
 
-module _ (r : Request) (l : Ledger) (list : List ℕ) (v : Verified) where
-  pub none_left : l.to < l.from → v ≡ record { answer = NoMomentLeft; procap = empty_procap } → HandsOver (issue r (kept_of (book l list))) v
+module _ (r : Request) (l : Ledger) (list : List ℕ) where
+  pub none_left : l.to < l.from → Err NoMomentLeft ≡ issue r (kept_of (book l list))
   unfolding issue kept_of
-  none_left e f = hands_refusal _ NoMomentLeft v (refused_on _ _ NoMomentLeft (is_not_so NoMomentLeft (dec_le l.from l.to) (λ h. omega arith))) f
+  none_left e = sym (refused_on _ _ NoMomentLeft (is_not_so NoMomentLeft (dec_le l.from l.to) (λ h. omega arith)))
 
-  pub some_left : l.from ≤ l.to → v.answer ≡ Granted → v.procap ≡ procap_of r l.from l.to (facts_in list l.count)
-      → HandsOver (issue r (kept_of (book l list))) v
+  pub some_left : l.from ≤ l.to → (p : Procap) → p ≡ procap_of r l.from l.to (facts_in list l.count) → Ok p ≡ issue r (kept_of (book l list))
   unfolding issue kept_of
-  some_left h e f = hands_grant _ _ v (goes_on _ _ tt (is_so NoMomentLeft (dec_le l.from l.to) h)) e f
+  some_left h p is = ap Ok is ∙ sym (goes_on _ _ tt (is_so NoMomentLeft (dec_le l.from l.to) h))
 
 -- ── What is malformed ──
 
--- A proof that does not read, and one that does.
-pub no_proof : (c : ℕ) (proof : List ℕ) → ((N : Check) × (proof_in c proof ≡ Some N) → ⊥) → or_else ProofMalformed (proof_in c proof) ≡ Err ProofMalformed
-unfolding or_else
-no_proof c proof n = by (proof_in c proof) refl
-  where
-    by : (o : Option Check) → proof_in c proof ≡ o → or_else ProofMalformed o ≡ Err ProofMalformed
-    by None e = refl
-    by (Some N) e = absurd (n (N, e))
+module _ (records : List Certificate) (buffer pairs proof rows ends : List ℕ) where
+  -- What the case comes to.
+  abbrev ReadWith : Outcome (Unit {0}) → Type 0
+  ReadWith = CaseRead records buffer pairs proof rows ends
 
-pub a_proof : (c : ℕ) (proof : List ℕ) (N : Check) → proof_in c proof ≡ Some N → or_else ProofMalformed (proof_in c proof) ≡ Ok N
-unfolding or_else
-a_proof c proof N e = rw e refl
+  -- It is refused.
+  refuses : (answer : Answer) → read_case records buffer pairs proof ≡ Err answer → ReadWith (Err answer)
+  refuses answer e = record { stops = e; reads = λ x f. no_grant (sym e ∙ f) }
 
-module _ (records : List Certificate) (buffer pairs : List ℕ) where
-  -- What refuses the certificates refuses the policy,
-  pub records_refuse : (answer : Answer) → statements buffer records ≡ Err answer → policy_in records buffer pairs ≡ Err answer
+  policy_refuses : (answer : Answer) → policy_in records buffer pairs ≡ Err answer → ReadWith (Err answer)
+  unfolding read_case
+  policy_refuses answer e = refuses answer (refused_on _ _ answer e)
+
+  -- What refuses the certificates refuses the case,
+  pub records_refuse : (answer : Answer) → Taken records buffer (Err answer) rows → ReadWith (Err answer)
   unfolding policy_in
-  records_refuse answer e = refused_on _ _ answer e
+  records_refuse answer taken = policy_refuses answer (refused_on _ _ answer taken.stops)
 
-  module _ (read : (cs : List Statement) × (statements buffer records ≡ Ok cs)) where
-    -- and then what refuses the pairs.
-    pub pairs_refuse : (answer : Answer) → pairs_in pairs ≡ Err answer → policy_in records buffer pairs ≡ Err answer
+  module _ (taken : Taken records buffer (Ok tt) rows) where
+    -- then too many pairs,
+    pub pairs_refuse : most_pairs < length pairs → ReadWith (Err TooManyPairs)
     unfolding policy_in
-    pairs_refuse answer e = goes_on _ _ read.0 read.1 ∙ refused_on _ _ answer e
+    pairs_refuse many = policy_refuses TooManyPairs (goes_on _ _ taken.stops.0 taken.stops.1 ∙ refused_on _ _ TooManyPairs (too_many_pairs pairs many))
 
-    pub both_read : (ps : List Pair) × (pairs_in pairs ≡ Ok ps) → (π : Policy) × (policy_in records buffer pairs ≡ Ok π)
-    unfolding policy_in
-    both_read (ps, e) = (_, goes_on _ _ read.0 read.1 ∙ goes_on _ _ ps e)
+    module _ (few : length pairs ≤ most_pairs) where
+      policy : Policy
+      policy = record { statements = taken.stops.0; pairs = pairs_of pairs }
 
-module _ (records : List Certificate) (buffer pairs proof : List ℕ) where
-  -- What stops the policy stops the case; where nothing does, the proof decides.
-  pub case_stops : (answer : Answer) → policy_in records buffer pairs ≡ Err answer → read_case records buffer pairs proof ≡ Err answer
-  unfolding read_case
-  case_stops answer e = refused_on _ _ answer e
+      policy_reads : policy_in records buffer pairs ≡ Ok policy
+      unfolding policy_in policy
+      policy_reads = goes_on _ _ taken.stops.0 taken.stops.1 ∙ goes_on _ _ _ (few_pairs pairs few)
 
-  pub proof_decides : (π : Policy) (c : ℕ) (s : Outcome (Unit {0})) → policy_in records buffer pairs ≡ Ok π → length records ≡ c
-      → Stops (or_else ProofMalformed (proof_in c proof)) s → Stops (read_case records buffer pairs proof) s
-  unfolding read_case
-  proof_decides π c (Ok tt) e l (N, h) = ((π, N), goes_on _ _ π e ∙ goes_on _ _ N (rw (← l) at h))
-  proof_decides π c (Err answer) e l h = goes_on _ _ π e ∙ refused_on _ _ answer (rw (← l) at h)
+      -- and then bytes that are no proof.
+      pub proof_refuses : ((N : Check) × (proof_in (length records) proof ≡ Some N) → ⊥) → ReadWith (Err ProofMalformed)
+      unfolding read_case or_else go_on
+      proof_refuses none = refuses ProofMalformed (goes_on _ _ policy policy_reads ∙ by (proof_in (length records) proof) refl)
+        where
+          by : (o : Option Check) → proof_in (length records) proof ≡ o
+              → go_on {B = Case} (or_else ProofMalformed o) (λ N. Ok (policy, N)) ≡ Err ProofMalformed
+          by None e = refl
+          by (Some N) e = absurd (none (N, e))
 
--- ── The calls ──
-
-module _ (r : Request) (records : List Certificate) (buffer pairs proof : List ℕ) {stop : Outcome (Unit {0})} {rows : List ℕ} (taken : Taken records buffer stop rows) where
-  -- What the table has, where the proof reads over the records.
-  abbrev TellsEnds : List ℕ → Type 0
-  TellsEnds ends = (N : Check) → proof_in (length records) proof ≡ Some N → ToldChecking ends N
-
-  -- A case that reads, once its records are taken.
-  abbrev ReadsSo : List ℕ → Policy → Check → Type 0
-  ReadsSo ends = CaseReads (PolicyRead buffer rows pairs) ends proof
-
-  reads_so : (ends : List ℕ) → TellsEnds ends → (x : Policy × Check) → read_case records buffer pairs proof ≡ Ok x → ReadsSo ends x.0 x.1
-  reads_so ends told (π, N) e =
-      case_read r records buffer pairs proof π N e λ e₁ e₂.
-      policy_from records buffer pairs π e₁ λ e₃ e₄.
-      record {
-        policy = record { certified = taken.rows_are π.statements e₃; paired = e₄ };
-        proof_reads = rw (statements_count buffer records π.statements e₃) e₂;
-        told = told N e₂;
+      -- Where nothing is malformed it reads, with the rows and the table.
+      pub case_reads : (N : Check) → proof_in (length records) proof ≡ Some N → ((M : Check) → proof_in (length records) proof ≡ Some M → ToldChecking ends M)
+          → ReadWith (Ok tt)
+      unfolding read_case or_else
+      case_reads N e told = record {
+        stops = ((policy, N), goes_on _ _ policy policy_reads ∙ goes_on _ _ N (rw e refl));
+        reads = λ (π, M) read.
+            case_read (record { who = 0; what = 0; right = 0 }) records buffer pairs proof π M read λ e₁ e₂.
+            policy_from records buffer pairs π e₁ λ e₃ e₄.
+            record {
+              policy = record { certified = taken.rows_are π.statements e₃; paired = e₄ };
+              proof_reads = rw (statements_count buffer records π.statements e₃) e₂;
+              told = told M e₂;
+            };
       }
 
-  module _ (v : Verified) where
-    abbrev Answered : Type 0
-    Answered = HandsOver (verified r records buffer pairs proof) v
+-- ── What the calls come to once the case is read ──
 
-    pub verify_stops : (answer : Answer) → read_case records buffer pairs proof ≡ Err answer → v ≡ record { answer = answer; procap = empty_procap } → Answered
+module _ (r : Request) (records : List Certificate) (buffer pairs proof : List ℕ) where
+  -- A malformed case refuses both.
+  pub verify_refused : (answer : Answer) → read_case records buffer pairs proof ≡ Err answer → Err answer ≡ verified r records buffer pairs proof
+  unfolding verified
+  verify_refused answer e = sym (refused_on _ _ answer e)
+
+  pub direct_refused : (m : ℕ) (state : List ℕ) (answer : Answer) → read_case records buffer pairs proof ≡ Err answer
+      → Err answer ≡ directly r records buffer pairs proof m state
+  unfolding directly
+  direct_refused m state answer e = sym (refused_on _ _ answer e)
+
+  -- Else they go on with it.
+  module _ (x : Case) (read : read_case records buffer pairs proof ≡ Ok x) where
+    verify_from : verified r records buffer pairs proof ≡ go_on (run office (walk r x.0 x.1) start) (λ w. issue r w.1)
     unfolding verified
-    verify_stops answer e f = hands_refusal _ answer v (refused_on _ _ answer e) f
+    verify_from = goes_on _ _ x read
 
-    pub verify_goes_on : {ends : List ℕ} → TellsEnds ends → (x : Policy × Check) → read_case records buffer pairs proof ≡ Ok x
-        → ((π : Policy) (N : Check) → ReadsSo ends π N → HandsOver (verified_case r π N) v) → Answered
-    unfolding verified verified_case
-    verify_goes_on {ends} told x e k = rw (goes_on (read_case records buffer pairs proof) (λ y. verified_case r y.0 y.1) x e) (k x.0 x.1 (reads_so ends told x e))
+    direct_from : (m : ℕ) (state : List ℕ)
+        → directly r records buffer pairs proof m state ≡ go_on (read_press m state) (λ σ. go_on (run (press m σ) (walk r x.0 x.1) start) (λ w. Ok w.0))
+    unfolding directly
+    direct_from m state = goes_on _ _ x read
 
-  module _ (m : ℕ) (state : List ℕ) (a : Answer) where
-    pub direct_stops : read_case records buffer pairs proof ≡ Err a → a ≡ answer_of (directly r records buffer pairs proof m state)
-    unfolding directly checked_case answer_of
-    direct_stops e = sym (ap answer_of (refused_on (read_case records buffer pairs proof) (λ y. checked_case r y.0 y.1 m state) a e))
+    -- The direct check refuses a moment above the latest, and then a malformed state.
+    pub moment_above : (m : ℕ) (state : List ℕ) → latest < m → Err MomentAboveLatest ≡ directly r records buffer pairs proof m state
+    unfolding read_press
+    moment_above m state h =
+        sym (direct_from m state ∙ refused_on _ _ _ (refused_on _ _ _ (is_not_so MomentAboveLatest (dec_le m latest) (λ k. omega arith))))
 
-    pub direct_goes_on : {ends : List ℕ} → TellsEnds ends → (x : Policy × Check) → read_case records buffer pairs proof ≡ Ok x
-        → ((π : Policy) (N : Check) → ReadsSo ends π N → a ≡ answer_of (checked_case r π N m state))
-        → a ≡ answer_of (directly r records buffer pairs proof m state)
-    unfolding directly checked_case
-    direct_goes_on {ends} told x e k = k x.0 x.1 (reads_so ends told x e) ∙ sym (ap answer_of (goes_on (read_case records buffer pairs proof) (λ y. checked_case r y.0 y.1 m state) x e))
+    pub state_says_nothing : (m : ℕ) (state : List ℕ) → m ≤ latest → (WellFormed state → ⊥) → Err StateMalformed ≡ directly r records buffer pairs proof m state
+    unfolding read_press or_else
+    state_says_nothing m state h n =
+        sym (direct_from m state ∙ refused_on _ _ _ (goes_on _ _ tt (is_so MomentAboveLatest (dec_le m latest) h) ∙ by (stated state) refl))
+      where
+        by : (o : Option (List Spelled)) → stated state ≡ o → or_else StateMalformed o ≡ Err StateMalformed
+        by None e = refl
+        by (Some σ) e = absurd (n (σ, e))
 
 -- ── The walk's end ──
 
@@ -175,15 +166,22 @@ resume_going : (state : List ℕ) (b : Book) → GoesOn b.ledger → resume stat
 unfolding resume run
 resume_going state b e = stop_going _ _ e
 
-module _ (r : Request) {IsPolicy : Policy → Type 0} (proof state ends : List ℕ) (reading : Reading) (list : List ℕ) (l : Ledger) (list' : List ℕ)
-    (room : length list ≡ list_numbers) (walked : Walked (record { request = r; reading = reading }) IsPolicy proof state ends list l list')
-    (π : Policy) (N : Check) (reads : CaseReads IsPolicy ends proof π N) where
+module _ (r : Request) (records : List Certificate) (buffer pairs proof : List ℕ) {rows ends : List ℕ} (case : CaseRead records buffer pairs proof rows ends (Ok tt))
+    (state : List ℕ) (reading : Reading) (list : List ℕ) (l : Ledger) (list' : List ℕ) (room : length list ≡ list_numbers)
+    (walked : Walked (record { request = r; reading = reading }) (PolicyRead buffer rows pairs) proof state ends list l list') where
+  -- The case that was read.
+  abbrev the_case : Case
+  the_case = case.stops.0
+
+  abbrev the_walk : Walk (Unit {0})
+  the_walk = walk r the_case.0 the_case.1
+
   -- What the walk comes to, from the ledger at its start.
   abbrev begins : Outcome (Unit {0} × Kept)
-  begins = resume state (book (begun reading) list) (walk r π N)
+  begins = resume state (book (begun reading) list) the_walk
 
   came : Sound (book l list') × (resume state (book l list') (done (tt {0})) ≡ begins)
-  came = walked π N room reads
+  came = walked the_case.0 the_case.1 room (case.reads the_case case.stops.1)
 
   walk_stopped : (answer : Answer) → stop_of l ≡ Err answer → begins ≡ Err answer
   walk_stopped answer e = sym came.1 ∙ resume_stopped state (book l list') answer e
@@ -191,49 +189,29 @@ module _ (r : Request) {IsPolicy : Policy → Type 0} (proof state ends : List �
   walk_done : GoesOn l → begins ≡ Ok (tt, kept_of (book l list'))
   walk_done e = sym came.1 ∙ resume_going state (book l list') e
 
-  module _ (at_office : reading ≡ Office) (v : Verified) where
-    office_run : begins ≡ run office (walk r π N) start
-    office_run = rw at_office (office_begins state list (walk r π N))
+  -- At the office its answer refuses; else what its ledger keeps is issued.
+  module _ (at_office : reading ≡ Office) where
+    office_run : begins ≡ run office the_walk start
+    office_run = rw at_office (office_begins state list the_walk)
 
-    pub verify_stopped : (answer : Answer) → stop_of l ≡ Err answer → v ≡ record { answer = answer; procap = empty_procap } → HandsOver (verified_case r π N) v
-    unfolding verified_case
-    verify_stopped answer e f = hands_refusal _ answer v (refused_on _ _ answer (sym office_run ∙ walk_stopped answer e)) f
+    pub verify_stopped : (answer : Answer) → stop_of l ≡ Err answer → Err answer ≡ verified r records buffer pairs proof
+    verify_stopped answer e =
+        sym (verify_from r records buffer pairs proof the_case case.stops.1 ∙ refused_on _ _ answer (sym office_run ∙ walk_stopped answer e))
 
-    pub verify_issued : GoesOn l → (Sound (book l list') → HandsOver (issue r (kept_of (book l list'))) v) → HandsOver (verified_case r π N) v
-    unfolding verified_case
-    verify_issued e k =
-        rw (goes_on (run office (walk r π N) start) (λ w. issue r w.1) (tt, kept_of (book l list')) (sym office_run ∙ walk_done e)) (k came.0)
+    pub verify_issued : GoesOn l → (o : Outcome Procap) → (Sound (book l list') → o ≡ issue r (kept_of (book l list'))) → o ≡ verified r records buffer pairs proof
+    verify_issued e o issues =
+        issues came.0
+        ∙ sym (verify_from r records buffer pairs proof the_case case.stops.1 ∙ goes_on _ _ (tt, kept_of (book l list')) (sym office_run ∙ walk_done e))
 
-  module _ (m : ℕ) (at_press : reading ≡ Press m) (in_range : m ≤ latest) (σ : List Spelled) (says : stated state ≡ Some σ) where
-    press_run : begins ≡ run (press m σ) (walk r π N) start
+  -- At a press in range, in a state that says something, what it has come to is the answer.
+  module _ (m : ℕ) (at_press : reading ≡ Press m) (in_range : m ≤ latest) (says : WellFormed state) where
+    press_run : begins ≡ run (press m says.0) the_walk start
     unfolding facts_said
-    press_run = rw at_press (press_begins state list (walk r π N) m in_range ∙ rw says)
+    press_run = rw at_press (press_begins state list the_walk m in_range ∙ rw says.1)
 
-    press_reads : read_press m state ≡ Ok σ
-    press_reads = reads_press m state σ in_range says
+    check_from : directly r records buffer pairs proof m state ≡ go_on (run (press m says.0) the_walk start) (λ w. Ok w.0)
+    check_from = direct_from r records buffer pairs proof the_case case.stops.1 m state ∙ goes_on _ _ says.0 (reads_press m state says.0 in_range says.1)
 
-    pub check_stopped : (a : Answer) → stop_of l ≡ Err a → a ≡ answer_of (checked_case r π N m state)
-    unfolding checked_case answer_of
-    check_stopped a e =
-        sym (ap answer_of (goes_on (read_press m state) (λ σ'. go_on (run (press m σ') (walk r π N) start) (λ w. Ok w.0)) σ press_reads
-        ∙ refused_on (run (press m σ) (walk r π N) start) (λ w. Ok w.0) a (sym press_run ∙ walk_stopped a e)))
-
-    pub check_accepted : GoesOn l → Granted ≡ answer_of (checked_case r π N m state)
-    unfolding checked_case answer_of
-    check_accepted e =
-        sym (ap answer_of (goes_on (read_press m state) (λ σ'. go_on (run (press m σ') (walk r π N) start) (λ w. Ok w.0)) σ press_reads
-        ∙ goes_on (run (press m σ) (walk r π N) start) (λ w. Ok w.0) (tt, kept_of (book l list')) (sym press_run ∙ walk_done e)))
-
-module _ (r : Request) (π : Policy) (N : Check) (m : ℕ) (state : List ℕ) where
-  pub moment_above : latest < m → MomentAboveLatest ≡ answer_of (checked_case r π N m state)
-  unfolding checked_case read_press go_on answer_of
-  moment_above h = rw (is_not_so MomentAboveLatest (dec_le m latest) (λ k. omega arith)) refl
-
-  pub state_says_nothing : m ≤ latest → (WellFormed state → ⊥) → StateMalformed ≡ answer_of (checked_case r π N m state)
-  unfolding checked_case read_press go_on or_else answer_of
-  state_says_nothing h n = rw (is_so MomentAboveLatest (dec_le m latest) h) (by (stated state) refl)
-    where
-      by : (o : Option (List Spelled)) → stated state ≡ o
-          → StateMalformed ≡ answer_of (go_on (or_else StateMalformed o) (λ σ. go_on (run (press m σ) (walk r π N) start) (λ w. Ok w.0)))
-      by None e = refl
-      by (Some σ) e = absurd (n (σ, e))
+    pub check_answers : (o : Outcome (Unit {0})) → o ≡ stop_of l → o ≡ directly r records buffer pairs proof m state
+    check_answers (Ok tt) e = sym (check_from ∙ goes_on _ _ (tt, kept_of (book l list')) (sym press_run ∙ walk_done (sym e)))
+    check_answers (Err a) e = sym (check_from ∙ refused_on _ _ a (sym press_run ∙ walk_stopped a (sym e)))

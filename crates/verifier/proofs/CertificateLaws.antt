@@ -25,7 +25,7 @@ use Rattle.bl.specs.Formulas.{most_formula_levels, formula_in}
 use Rattle.bl.specs.Certificates.{Statement, most_certificates, most_part_bytes, fixed_time, part_of, formula_of, statement_by, statement_of, and_then, statements_from, statements}
 use Rattle.formula.specs.PutIn.{terms_of, stack}
 use Rattle.judging.specs.RowsOf.{row_in, Certifies, Certified}
-use Rattle.verifier.specs.Verifying.{no_record, row_of, WellFormedRecord, TakenTo, Taken}
+use Rattle.verifier.specs.Verifying.{no_record, row_of, WellFormedRecord, Taken}
 use Rattle.formula.proofs.Filling.{fill_nothing}
 use Rattle.formula.proofs.Shifted.{formula_in_shifted}
 
@@ -231,6 +231,12 @@ pub statements_count : (buffer : List ℕ) (cs : List Certificate) (ss : List St
 statements_count buffer cs ss e = granted_few buffer cs ss e λ few e₁. (each_granted buffer 0 cs ss e₁).as_many
 
 -- ── Taking them ──
+
+-- The records before the i-th are taken: there are not too many in all, each is well formed, and its row is put.
+pub record TakenTo (records : List Certificate) (buffer : List ℕ) (i : ℕ) (rows : List ℕ) : Type 0 where
+  pub few : length records ≤ most_certificates
+  pub well_formed : (k : ℕ) → k < i → WellFormedRecord buffer (get_or records k no_record)
+  pub put : (k : ℕ) → k < i → row_in rows k ≡ row_of (get_or records k no_record)
 
 module _ (records : List Certificate) (buffer : List ℕ) (rows : List ℕ) where
   -- None is taken yet.

@@ -1,9 +1,6 @@
 -- What the parts of verify and of the direct check promise.
 use Rattle.std.specs.Prelude.{ℕ, ◌+◌, ◌≤◌, ◌<◌, ◌≡◌, List, length, get_or, Err, Ok, Some}
-use Rattle.std.specs.Borrow.{Bor}
-use denote.Triple.Both.{Both}
 use Rattle.procap.specs.Lent.{Lent, LentToWrite}
-use Rattle.procap.specs.Desk.{read_press}
 use Rattle.procap.specs.Numbered.{time_numbers}
 use Rattle.procap.specs.Outcome.{Outcome, go_on, answer_of, procap_handed}
 use Rattle.procap.specs.declared.time.Time.TheVariants.{Moment}
@@ -20,7 +17,7 @@ use Rattle.bl.specs.Questions.{done}
 use Rattle.bl.specs.Steps.{proof_in}
 use Rattle.bl.specs.Readings.{start, office, press, run}
 use Rattle.bl.specs.Walk.{walk}
-use Rattle.bl.specs.Calls.{read_case, issue, verified, directly}
+use Rattle.bl.specs.Calls.{Case, read_case, verified, directly}
 use Rattle.verifier.specs.declared.verify.Verified.{Verified}
 use Rattle.verifier.specs.declared.verify.Asked.{Asked}
 use Rattle.steps.specs.Ends.{ToldChecking, EndsTold}
@@ -30,10 +27,6 @@ use Rattle.judging.specs.declared.rows.Row.{Row}
 use Rattle.formula.specs.PutIn.{no_terms}
 use Rattle.judging.specs.RowsOf.{row_in, all_numbers, Certified}
 use Rattle.walk.specs.Walking.{PolicyLent}
-
--- Lent records, as a contract names them: on entry and at the exit.
-abbrev pub Records : Type 0
-Records = Both (Bor (List Certificate)) (Bor (List Certificate))
 
 -- A record of zeros, which stands past the end of a list of records.
 abbrev pub no_record : Certificate
@@ -81,50 +74,15 @@ abbrev pub Stops : {A : Type 0} → Outcome A → Outcome (Unit {0}) → Type 0
 Stops {A} o (Ok tt) = (a : A) × (o ≡ Ok a)
 Stops o (Err answer) = o ≡ Err answer
 
--- What is so of whatever policy was read, with the proof that reads over it.
-abbrev pub OnceRead : Lent → Lent → Lent → Lent → Lent → (Policy → Check → Type 0) → Type 0
-OnceRead rows ends buffer pairs proof P =
-    (π : Policy) (N : Check) → CaseReads (PolicyRead buffer.entry.now rows.entry.now pairs.entry.now) ends.entry.now proof.entry.now π N → P π N
-
--- Where nothing stopped, the table has where the second part of each 26 ends.
-abbrev pub ToldUnlessStopped : Lent → ℕ → LentToWrite → Outcome (Unit {0}) → Type 0
-ToldUnlessStopped proof n ends r = r ≡ Ok tt → EndsTold proof n ends
-
--- Where `taken` is what so many records come to, r is what they, the pairs and the proof come to.
-abbrev pub CaseStops : Outcome (Unit {0}) → Lent → Lent → ℕ → Outcome (Unit {0}) → Type 0
-CaseStops taken pairs proof n r =
-    (records : List Certificate) (buffer : List ℕ) → length records ≡ n → Stops (statements buffer records) taken
-    → Stops (read_case records buffer pairs.entry.now proof.entry.now) r
-
--- The records before the i-th are taken: there are not too many in all, each is well formed, and its row is put.
-pub record TakenTo (records : List Certificate) (buffer : List ℕ) (i : ℕ) (rows : List ℕ) : Type 0 where
-  pub few : length records ≤ most_certificates
-  pub well_formed : (k : ℕ) → k < i → WellFormedRecord buffer (get_or records k no_record)
-  pub put : (k : ℕ) → k < i → row_in rows k ≡ row_of (get_or records k no_record)
-
--- They are taken, or the records are refused.
-abbrev pub SoFar : List Certificate → List ℕ → ℕ → Outcome (Unit {0}) → List ℕ → Type 0
-SoFar records buffer i (Ok tt) rows = TakenTo records buffer i rows
-SoFar records buffer i (Err answer) rows = statements buffer records ≡ Err answer
-
--- Once those before it are taken, the i-th record c is taken too, or the records are refused.
-abbrev pub Takes : List ℕ → Certificate → ℕ → List ℕ → Outcome (Unit {0}) → List ℕ → Type 0
-Takes buffer c i rows r rows' =
-    (records : List Certificate) → i < length records → get_or records i no_record ≡ c → length rows ≡ all_numbers
-    → TakenTo records buffer i rows → SoFar records buffer (i + 1) r rows'
-
 -- All are taken: r is what the records come to, and where they are granted, the rows are what they state.
 pub record Taken (records : List Certificate) (buffer : List ℕ) (r : Outcome (Unit {0})) (rows : List ℕ) : Type 0 where
   pub stops : Stops (statements buffer records) r
   pub rows_are : (cs : List Statement) → statements buffer records ≡ Ok cs → Certified buffer rows cs
 
--- The same of what is lent.
-abbrev pub TakenFrom : Records → Lent → Outcome (Unit {0}) → List ℕ → Type 0
-TakenFrom certificates buffer r rows = Taken certificates.entry.now buffer.entry.now r rows
-
--- What is so of whatever records are so many and are taken.
-abbrev pub OnceTaken : Outcome (Unit {0}) → ℕ → Lent → Lent → (List Certificate → Type 0) → Type 0
-OnceTaken taken n rows buffer P = (records : List Certificate) → length records ≡ n → Taken records buffer.entry.now taken rows.entry.now → P records
+-- The case was read: r is what it comes to, and where nothing is malformed, it reads with the rows and the table.
+pub record CaseRead (records : List Certificate) (buffer pairs proof rows ends : List ℕ) (r : Outcome (Unit {0})) : Type 0 where
+  pub stops : Stops (read_case records buffer pairs proof) r
+  pub reads : (x : Case) → read_case records buffer pairs proof ≡ Ok x → CaseReads (PolicyRead buffer rows pairs) ends proof x.0 x.1
 
 -- What verify and the direct check come to for some records, over what is lent.
 abbrev pub verified_over : Request → List Certificate → Lent → Lent → Lent → Outcome Procap
@@ -133,14 +91,6 @@ verified_over request records buffer pairs proof = verified request records buff
 abbrev pub directly_over : Request → List Certificate → Lent → Lent → Lent → ℕ → Lent → Outcome (Unit {0})
 directly_over request records buffer pairs proof moment state =
     directly request records buffer.entry.now pairs.entry.now proof.entry.now moment state.entry.now
-
--- What verify comes to from there on.
-unfoldable pub verified_case : Request → Policy → Check → Outcome Procap
-verified_case r π N = go_on (run office (walk r π N) start) λ w. issue r w.1
-
--- What the direct check comes to from there on.
-unfoldable pub checked_case : Request → Policy → Check → ℕ → List ℕ → Outcome (Unit {0})
-checked_case r π N m state = go_on (read_press m state) λ σ. go_on (run (press m σ) (walk r π N) start) λ w. Ok w.0
 
 -- What is handed over is the outcome's answer and procap.
 pub record HandsOver (o : Outcome Procap) (r : Verified) : Type 0 where

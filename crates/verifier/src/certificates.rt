@@ -3,7 +3,7 @@ ghost use Rattle.std.specs.Prelude.{◌≡◌, length};
 ghost use Rattle.procap.specs.Tells.{Tells};
 ghost use Rattle.bl.specs.Certificates.{fixed_time};
 ghost use Rattle.judging.specs.RowsOf.{all_numbers};
-ghost use Rattle.verifier.specs.Verifying.{row_of, WellFormedRecord, TakenFrom, Takes};
+ghost use Rattle.verifier.specs.Verifying.{row_of, WellFormedRecord, Taken};
 
 use bl::Certificate;
 use formula::ends::holds_formula;
@@ -18,36 +18,24 @@ pub const MOST_CERTIFICATES: usize = 32;
 // How many bytes a part may have.
 pub const MOST_PART_BYTES: usize = 256;
 
-// The rows of the lent records are put. Too many records are refused, and so is the first malformed one.
+// Takes the lent records: too many of them are refused, and so is the first malformed one. The rows of those before it are put.
 pub(crate) fn take_records(
     certificates: &[Certificate],
     buffer: &[u8],
     rows: &mut [u64],
 ) -> Result<(), Answer>
-    ensures { length rows.old ≡ all_numbers → TakenFrom certificates buffer result rows.new }
+    requires { length rows.old ≡ all_numbers }
+    ensures { Taken certificates.now buffer.now result rows.new }
 {
     if MOST_CERTIFICATES < certificates.len() {
         return Err(Answer::CertificateMalformed(0));
     }
     for (index, certificate) in certificates.iter().enumerate() {
-        take_record(*certificate, index, buffer, rows)?;
+        if !well_formed(*certificate, buffer) {
+            return Err(Answer::CertificateMalformed(index));
+        }
+        put_row(rows, index, row_of(*certificate));
     }
-    Ok(())
-}
-
-// The row of one more record is put at its index; a malformed record is refused.
-fn take_record(
-    certificate: Certificate,
-    index: usize,
-    buffer: &[u8],
-    rows: &mut [u64],
-) -> Result<(), Answer>
-    ensures { Takes buffer.now certificate index rows.old result rows.new }
-{
-    if !well_formed(certificate, buffer) {
-        return Err(Answer::CertificateMalformed(index));
-    }
-    put_row(rows, index, row_of(certificate));
     Ok(())
 }
 
@@ -55,12 +43,10 @@ fn take_record(
 fn well_formed(certificate: Certificate, buffer: &[u8]) -> bool
     ensures { Tells result (WellFormedRecord buffer.now certificate) }
 {
-    let from = certificate.from;
-    let to = certificate.to;
-    if !may_stand(from) {
+    if !may_stand(certificate.from) {
         return false;
     }
-    if !may_stand(to) {
+    if !may_stand(certificate.to) {
         return false;
     }
     let start = certificate.start;
@@ -78,13 +64,13 @@ fn well_formed(certificate: Certificate, buffer: &[u8]) -> bool
 }
 
 // Whether a time may stand in a record: no ctime, no moment above the latest.
+#[tactic(auto, unfolding(bl::specs::Certificates::fixed_time))]
 fn may_stand(time: Time) -> bool
     ensures { result ≡ fixed_time time }
 {
     match time {
         Time::Moment(second) => second <= LATEST_SECOND,
-        Time::MinusInfinity => true,
-        Time::PlusInfinity => true,
+        Time::MinusInfinity | Time::PlusInfinity => true,
         Time::Ctime => false,
     }
 }
@@ -93,20 +79,15 @@ fn may_stand(time: Time) -> bool
 fn row_of(certificate: Certificate) -> Row
     ensures { result ≡ row_of certificate }
 {
-    let from = certificate.from;
-    let to = certificate.to;
-    let terms = Terms::none();
-    let formula = FormulaAt {
-        at: certificate.start,
-        terms: terms,
-    };
-    let judgement = Judgement {
-        formula: formula,
-        from: from.numbers(),
-        to: to.numbers(),
-    };
     Row {
-        whose: Some(certificate.principal as u64),
-        judgement: judgement,
+        whose: Some(u64::from(certificate.principal)),
+        judgement: Judgement {
+            formula: FormulaAt {
+                at: certificate.start,
+                terms: Terms::none(),
+            },
+            from: certificate.from.numbers(),
+            to: certificate.to.numbers(),
+        },
     }
 }

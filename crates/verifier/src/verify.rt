@@ -1,16 +1,14 @@
 // Verify, and the direct check.
-ghost use Rattle.std.specs.Prelude.{◌≡◌};
-ghost use Rattle.procap.specs.Procaps.{empty_procap};
-ghost use Rattle.procap.specs.Outcome.{answer_of, procap_handed, or_else};
-ghost use Rattle.bl.specs.Steps.{proof_in};
-ghost use Rattle.bl.specs.Strength.{pairs_in};
+ghost use Rattle.std.specs.Prelude.{◌≡◌, ◌≤◌, length};
+ghost use Rattle.procap.specs.Outcome.{answer_of, procap_handed};
 ghost use Rattle.bl.specs.Rules.{goal};
 ghost use Rattle.bl.specs.Calls.{issue};
 ghost use Rattle.ledger.specs.Books.{book, Sound, kept_of};
 ghost use Rattle.formula.specs.PutIn.{no_terms};
 ghost use Rattle.formula.specs.Meaning.{Means};
-ghost use Rattle.steps.specs.Ends.{EndsTold};
-ghost use Rattle.verifier.specs.Verifying.{WalkedOver, WalkedBy, Stops, CaseStops, OnceRead, OnceTaken, HandsOver, verified_over, directly_over, verified_case, checked_case, ToldUnlessStopped};
+ghost use Rattle.judging.specs.RowsOf.{all_numbers};
+ghost use Rattle.steps.specs.Ends.{most_ends};
+ghost use Rattle.verifier.specs.Verifying.{WalkedOver, WalkedBy, CaseRead, verified_over, directly_over};
 
 use crate::certificates::take_records;
 use bl::Certificate;
@@ -46,6 +44,7 @@ struct Asked {
 
 // Whether the proof shows the request from the certificates and the pairs, and the procap for it. Each number of the pairs is
 // one: the stronger principal times 65,536, and the weaker.
+#[tactic(auto, unfolding(procap::specs::Outcome::answer_of, procap::specs::Outcome::procap_handed))]
 pub fn verify(
     request: Request,
     certificates: &[Certificate],
@@ -56,85 +55,53 @@ pub fn verify(
     ensures answer { result.answer ≡ answer_of (verified_over request certificates.now buffer pairs proof) }
     ensures procap { result.procap ≡ procap_handed (verified_over request certificates.now buffer pairs proof) }
 {
-    let mut rows = [0u64; ALL_NUMBERS];
-    let taken = take_records(certificates, buffer, &mut rows);
-    verify_taken(
-        request,
-        taken,
-        certificates.len(),
-        &rows,
-        buffer,
-        pairs,
-        proof,
-    )
-}
-
-// What verify answers once so many records are taken.
-fn verify_taken(
-    request: Request,
-    taken: Result<(), Answer>,
-    certificates: usize,
-    rows: &[u64],
-    buffer: &[u8],
-    pairs: &[u32],
-    proof: &[u8],
-) -> Verified
-    ensures { OnceTaken taken certificates rows buffer (λ records. HandsOver (verified_over request records buffer pairs proof) result) }
-{
-    let mut ends = [0u16; MOST_ENDS];
-    match malformed(taken, pairs, proof, certificates, &mut ends) {
-        Err(answer) => refused(answer),
-        Ok(()) => verify_case(request, rows, &ends, buffer, pairs, proof),
+    match procap_for(request, certificates, buffer, pairs, proof) {
+        Ok(procap) => Verified {
+            answer: Answer::Granted,
+            procap,
+        },
+        Err(answer) => Verified {
+            answer,
+            procap: Procap::empty(),
+        },
     }
 }
 
-// What verify answers to a policy and a proof that are well formed.
-fn verify_case(
+// The procap for what the proof shows, or the answer that refuses it.
+fn procap_for(
     request: Request,
-    rows: &[u64],
-    ends: &[u16],
+    certificates: &[Certificate],
     buffer: &[u8],
     pairs: &[u32],
     proof: &[u8],
-) -> Verified
-    ensures { OnceRead rows ends buffer pairs proof (λ π N. HandsOver (verified_case request π N) result) }
+) -> Result<Procap, Answer>
+    ensures { result ≡ verified_over request certificates.now buffer pairs proof }
 {
+    let mut rows = [0u64; ALL_NUMBERS];
+    let mut ends = [0u16; MOST_ENDS];
+    read_case(certificates, buffer, pairs, proof, &mut rows, &mut ends)?;
     let mut facts = [0u64; LIST_NUMBERS];
     let asked = Asked {
-        request: request,
+        request,
         reading: Reading::Office,
     };
-    let ledger = walked(asked, buffer, pairs, proof, b"", rows, ends, &mut facts);
-    match ledger.stop() {
-        Err(answer) => refused(answer),
-        Ok(()) => issued(request, ledger, &facts),
-    }
+    let ledger = walked(asked, buffer, pairs, proof, b"", &rows, &ends, &mut facts);
+    ledger.stop()?;
+    issued(request, ledger, &facts)
 }
 
 // The procap of what is kept, unless no moment is left.
-fn issued(request: Request, ledger: Ledger, facts: &[u64]) -> Verified
-    ensures { Sound (book ledger facts.now) → HandsOver (issue request (kept_of (book ledger facts.now))) result }
+fn issued(request: Request, ledger: Ledger, facts: &[u64]) -> Result<Procap, Answer>
+    ensures { Sound (book ledger facts.now) → result ≡ issue request (kept_of (book ledger facts.now)) }
 {
     if ledger.to < ledger.from {
-        return refused(Answer::NoMomentLeft);
+        return Err(Answer::NoMomentLeft);
     }
-    Verified {
-        answer: Answer::Granted,
-        procap: procap_of(request, ledger, facts),
-    }
-}
-
-// A refusal hands over the empty procap.
-fn refused(answer: Answer) -> Verified
-    ensures { result ≡ record { answer = answer; procap = empty_procap } }
-{
-    Verified {
-        answer: answer,
-        procap: Procap::empty(),
-    }
+    Ok(procap_of(request, ledger, facts))
 }
 
 // Whether the proof, checked at a moment in a state, is accepted there.
+#[tactic(auto, unfolding(procap::specs::Outcome::answer_of))]
 pub fn direct(
     request: Request,
     certificates: &[Certificate],
@@ -146,111 +113,64 @@ pub fn direct(
 ) -> Answer
     ensures { result ≡ answer_of (directly_over request certificates.now buffer pairs proof moment state) }
 {
-    let mut rows = [0u64; ALL_NUMBERS];
-    let taken = take_records(certificates, buffer, &mut rows);
-    direct_taken(
-        request,
-        taken,
-        certificates.len(),
-        &rows,
-        buffer,
-        pairs,
-        proof,
-        moment,
-        state,
-    )
-}
-
-// What the direct check answers once so many records are taken.
-fn direct_taken(
-    request: Request,
-    taken: Result<(), Answer>,
-    certificates: usize,
-    rows: &[u64],
-    buffer: &[u8],
-    pairs: &[u32],
-    proof: &[u8],
-    moment: u64,
-    state: &[u8],
-) -> Answer
-    ensures { OnceTaken taken certificates rows buffer (λ rs. result ≡ answer_of (directly_over request rs buffer pairs proof moment state)) }
-{
-    let mut ends = [0u16; MOST_ENDS];
-    match malformed(taken, pairs, proof, certificates, &mut ends) {
+    match accepted(request, certificates, buffer, pairs, proof, moment, state) {
+        Ok(()) => Answer::Granted,
         Err(answer) => answer,
-        Ok(()) => check_case(request, rows, &ends, buffer, pairs, proof, moment, state),
     }
 }
 
-// What the direct check answers to a policy and a proof that are well formed.
-fn check_case(
+// Whether the proof is accepted there, or the answer that refuses it.
+fn accepted(
     request: Request,
-    rows: &[u64],
-    ends: &[u16],
+    certificates: &[Certificate],
     buffer: &[u8],
     pairs: &[u32],
     proof: &[u8],
     moment: u64,
     state: &[u8],
-) -> Answer
-    ensures { OnceRead rows ends buffer pairs proof (λ π N. result ≡ answer_of (checked_case request π N moment state.now)) }
+) -> Result<(), Answer>
+    ensures { result ≡ directly_over request certificates.now buffer pairs proof moment state }
 {
+    let mut rows = [0u64; ALL_NUMBERS];
+    let mut ends = [0u16; MOST_ENDS];
+    read_case(certificates, buffer, pairs, proof, &mut rows, &mut ends)?;
     if LATEST_SECOND < moment {
-        return Answer::MomentAboveLatest;
+        return Err(Answer::MomentAboveLatest);
     }
     if !state::well_formed(state) {
-        return Answer::StateMalformed;
+        return Err(Answer::StateMalformed);
     }
     let mut facts = [0u64; LIST_NUMBERS];
     let asked = Asked {
-        request: request,
+        request,
         reading: Reading::Press(moment),
     };
-    let ledger = walked(asked, buffer, pairs, proof, state, rows, ends, &mut facts);
-    match ledger.stop() {
-        Err(answer) => answer,
-        Ok(()) => Answer::Granted,
-    }
+    let ledger = walked(asked, buffer, pairs, proof, state, &rows, &ends, &mut facts);
+    ledger.stop()
 }
 
-// What is malformed is refused, the records, of which there are so many, before the pairs, and these before the proof. Where
-// nothing is, the table has where the second part of each 26 ends.
-fn malformed(
-    taken: Result<(), Answer>,
+// Reads the certificates, the pairs and the proof, and in this order refuses what is malformed. The rows are then those of the
+// certificates, and the table has where the second part of each 26 ends.
+fn read_case(
+    certificates: &[Certificate],
+    buffer: &[u8],
     pairs: &[u32],
     proof: &[u8],
-    certificates: usize,
+    rows: &mut [u64],
     ends: &mut [u16],
 ) -> Result<(), Answer>
-    ensures stops { CaseStops taken pairs proof certificates result }
-    ensures told { ToldUnlessStopped proof certificates ends result }
+    requires rows { length rows.old ≡ all_numbers }
+    requires ends { most_ends ≤ length ends.old }
+    ensures { CaseRead certificates.now buffer.now pairs.now proof.now rows.new ends.new result }
 {
-    taken?;
-    pairs_taken(pairs)?;
-    proof_malformed(proof, certificates, ends)
-}
-
-// Too many pairs are refused.
-fn pairs_taken(pairs: &[u32]) -> Result<(), Answer>
-    ensures { Stops (pairs_in pairs.now) result }
-{
-    if pairs.len() <= MOST_PAIRS {
-        Ok(())
-    } else {
-        Err(Answer::TooManyPairs)
+    take_records(certificates, buffer, rows)?;
+    if MOST_PAIRS < pairs.len() {
+        return Err(Answer::TooManyPairs);
     }
-}
-
-// A malformed proof is refused.
-fn proof_malformed(proof: &[u8], certificates: usize, ends: &mut [u16]) -> Result<(), Answer>
-    ensures stops { Stops (or_else Answer.ProofMalformed (proof_in certificates proof.now)) result }
-    ensures told { EndsTold proof certificates ends }
-{
-    if well_formed(proof, certificates, ends) {
-        Ok(())
-    } else {
-        Err(Answer::ProofMalformed)
+    if !well_formed(proof, certificates.len(), ends) {
+        return Err(Answer::ProofMalformed);
     }
+    Ok(())
 }
 
 // The ledger at the end of the walk for what is asked. The strengths that the pairs give are found once; with no pair there is

@@ -7,7 +7,7 @@ use lib.ListN.{length}
 use lib.Seq.{length-take-le}
 use Rattle.from_c.specs.Packing.{number_in}
 use Rattle.demands.proofs.FromC.{told_is_short, verifying_is_short}
-use Rattle.kept.proofs.Pressed.{are_bytes, are_names, Called, nothing_accepted, opened_is_accepted, shut_is_not_accepted}
+use Rattle.kept.proofs.Pressed.{are_bytes, are_names, Called, nothing_accepted, both_or_neither}
 use Rattle.kept.proofs.opening.kept_demand_3.Goals as goal
 use Rattle.kept.proofs.opening.kept_demand_3.Goals.{After-number_in-accepted, After-length_in-length, After-procap_door-pressed}
 
@@ -46,14 +46,7 @@ slice_bounds-text-end c = short (goal.at.slice_bounds-text-end c).After-length_i
 pub slice_bounds-procap_door-end : goal.slice_bounds-procap_door-end
 slice_bounds-procap_door-end c = sym (length-take-le _ _ (short (goal.at.slice_bounds-procap_door-end c).After-length_in-length))
 
-pub returns-then-pressed-eq0 : goal.returns-then-pressed-eq0
-returns-then-pressed-eq0 c =
-    let at = goal.at.returns-then-pressed-eq0 c in
-    opened_is_accepted (called at.After-number_in-accepted) (issued at.After-procap_door-pressed)
-    (rw c.length_in-length.ensures at c.procap_door-pressed.ensures) c.if-pressed-eq0.true
-
-pub returns-else-pressed-eq0 : goal.returns-else-pressed-eq0
-returns-else-pressed-eq0 c =
-    let at = goal.at.returns-else-pressed-eq0 c in
-    shut_is_not_accepted (called at.After-number_in-accepted) (issued at.After-procap_door-pressed)
-    (rw c.length_in-length.ensures at c.procap_door-pressed.ensures) c.if-pressed-eq0.false
+pub returns : goal.returns
+returns c =
+    let at = goal.at.returns c in
+    both_or_neither (called at.After-number_in-accepted) (issued at.After-procap_door-pressed) (rw c.length_in-length.ensures at c.procap_door-pressed.ensures)
