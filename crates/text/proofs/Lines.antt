@@ -3,9 +3,7 @@ use Prim.Native.Nat.{ℕ, ◌+◌, ◌≤◌, ◌<◌}
 use mathlib.Core.Path.{◌≡◌}
 use mathlib.Core.List.{List, ◌∷◌}
 use Rattle.std.specs.Prelude.{None, Some}
-use native.Mathlib.Numerals.{add-one}
-use lib.ListN.{length, drop, get_or, drop_of_length-le}
-use lib.Seq.{drop-cons}
+use lib.ListN.{length, get_or}
 use borrow.Author.Tests.{eq-eqb, ne_eqb}
 use Rattle.procap.specs.Bytes.{then, ensure}
 use Rattle.procap.proofs.Numbers.{byte_read, byte_none}
@@ -26,22 +24,6 @@ module _ (text : List ℕ) (at : ℕ) where
     pub literal_past : length text ≤ at → literal text (b ∷ bs) at ≡ None
     unfolding literal then
     literal_past l = rw (byte_none text at l)
-
--- The same of what is left of a word from its i-th byte on.
-module _ (text word : List ℕ) (at i : ℕ) where
-  pub word_same : i < length word → at < length text → get_or text at 0 ≡ get_or word i 0
-      → literal text (drop i word) at ≡ literal text (drop (i + 1) word) (at + 1)
-  word_same k l e = rw (drop-cons word i 0 k, add-one i) (literal_same text at (get_or word i 0) _ l e)
-
-  pub word_other : i < length word → at < length text → (get_or text at 0 ≡ get_or word i 0 → ⊥) → literal text (drop i word) at ≡ None
-  word_other k l n = rw (drop-cons word i 0 k) (literal_other text at (get_or word i 0) _ l n)
-
-  pub word_past : i < length word → length text ≤ at → literal text (drop i word) at ≡ None
-  word_past k l = rw (drop-cons word i 0 k) (literal_past text at (get_or word i 0) _ l)
-
-  pub word_end : length word ≤ i → literal text (drop i word) at ≡ Some (tt, at)
-  unfolding literal
-  word_end k = rw (drop_of_length-le word k)
 
 -- A line: its word, its number and its end, each from the place after the one before; without any of them there is none.
 module _ (text word : List ℕ) (limit at : ℕ) where

@@ -17,7 +17,7 @@ use Rattle.text.specs.Numbers.{digit_zero, most_digits, digits_of, decimal, is_d
 -- ── Digits ──
 
 -- The byte is a digit.
-abbrev pub IsDigit : ℕ → Type 0
+abbrev IsDigit : ℕ → Type 0
 IsDigit b = is_digit b ≡ true
 
 -- The byte of a number below ten is a digit.

@@ -3,14 +3,13 @@ use Prim.Native.Nat.{ℕ, suc, ◌+◌, ◌≤◌, ◌<◌}
 use mathlib.Core.Path.{◌≡◌, sym, ap, ◌∙◌}
 use mathlib.Core.List.{List, [], ◌∷◌, ◌++◌, append_assoc, append-nil}
 use native.Mathlib.Nat.{add-zero, zero-add, add_assoc}
-use native.Mathlib.Numerals.{add-one}
 use native.Mathlib.Omega.{arith}
 use lib.ListN.{length, take, drop, set, get_or, length-append, take-append-drop}
-use lib.Seq.{length-take-le, take-suc, take_at, drop-append-add, drop-drop, drop-cons, set_at, append_snoc, take-append_seam}
+use lib.Seq.{length-take-le, take_at, drop-append-add, drop-drop, drop-cons, set_at, append_snoc}
 use Rattle.text.specs.Buffers.{put_at}
 
 -- Nothing put changes nothing.
-pub put_nothing : (at : ℕ) (buffer : List ℕ) → put_at at [] buffer ≡ buffer
+put_nothing : (at : ℕ) (buffer : List ℕ) → put_at at [] buffer ≡ buffer
 unfolding put_at
 put_nothing at buffer =
     ap (λ k. take at buffer ++ [] ++ drop k buffer) (add-zero at)
@@ -21,13 +20,6 @@ put_nothing at buffer =
 pub put_front : (bytes buffer : List ℕ) → put_at 0 bytes buffer ≡ bytes ++ drop (length bytes) buffer
 unfolding put_at
 put_front bytes buffer = rw zero-add
-
--- What is taken from the front of a buffer, as much as was put there, is what was put.
-pub front_taken : (bytes before after : List ℕ) (n : ℕ) → n ≡ length bytes → after ≡ put_at 0 bytes before → take n after ≡ bytes
-front_taken bytes before after n e put =
-    ap (λ k. take k after) e
-    ∙ ap (take (length bytes)) (put ∙ put_front bytes before)
-    ∙ take-append_seam bytes (drop (length bytes) before)
 
 module _ (at : ℕ) (buffer : List ℕ) (inside : at ≤ length buffer) where
   -- All up to the end of what was put.
@@ -84,16 +76,6 @@ put_byte at buffer b room =
     ap (λ xs. set xs at b) (sym (put_nothing at buffer))
     ∙ ap (λ k. set (put_at at [] buffer) k b) (sym (add-zero at))
     ∙ put_one at [] buffer b (omega arith)
-
--- A byte stored where the next one of a word goes.
-pub put_next : (at i : ℕ) (word buffer out : List ℕ) → i < length word → at + i < length buffer → out ≡ put_at at (take i word) buffer
-    → set out (at + i) (get_or word i 0) ≡ put_at at (take (i + 1) word) buffer
-put_next at i word buffer out l room e =
-    let n = length-take-le i word (omega arith) in
-    ap (λ xs. set xs (at + i) (get_or word i 0)) e
-    ∙ ap (λ k. set (put_at at (take i word) buffer) (at + k) (get_or word i 0)) (sym n)
-    ∙ put_one at (take i word) buffer (get_or word i 0) (omega arith)
-    ∙ ap (λ xs. put_at at xs buffer) (sym (rw add-one (take-suc word i 0 l)))
 
 -- The bytes were put at a place of the buffer `before`, which left it `after`, and `next` is the place after them.
 abbrev pub Put : ℕ → List ℕ → List ℕ → List ℕ → ℕ → Type 0

@@ -12,7 +12,7 @@ use procap::answer::Answer;
 use procap::procap::{MOST_FACTS, Procap, Request, VERSION};
 use procap::time::LATEST_SECOND;
 
-// The answer of reading a text, and the procap that it says. A read that is refused hands over the procap of zeros, so that this is no `Result`.
+// The answer of reading a text, and the procap that it says. No `Result`, since a read that is refused hands over the procap of zeros.
 #[derive(Clone, Copy)]
 pub struct ReadText {
     pub answer: Answer,

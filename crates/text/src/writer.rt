@@ -13,14 +13,14 @@ use procap::writable::can_be_written;
 // How long a text is at the most.
 pub const MOST_TEXT: usize = 1_223;
 
-// The answer of writing a text, and the text's length. A write that is refused gives length 0, so that this is no `Result`.
+// The answer of writing a text, and the text's length. No `Result`, since a write that is refused gives the length 0.
 #[derive(Clone, Copy)]
 pub struct WrittenText {
     pub answer: Answer,
     pub length: usize,
 }
 
-// Writes the procap's text at the front of the buffer: 12 for a value that cannot be written, then 13 for a buffer that is shorter than the text.
+// Writes the procap's text at the front of the buffer: 12 for a value that cannot be written, then 13 for a buffer that is too short.
 pub fn write_text(procap: Procap, out: &mut [u8]) -> WrittenText
     ensures { Wrote (writing procap (length out.old)) out.old result out.new }
 {

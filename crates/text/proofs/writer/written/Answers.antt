@@ -1,4 +1,5 @@
--- A value that cannot be written is refused first. Of one that can, the text is spelled where there is room for every text, and handed over from there.
+-- A value that cannot be written is refused first. Of one that can, the text is spelled where there is room for every text, and handed over
+-- from there.
 use mathlib.Core.Path.{◌≡◌, ap, ◌∙◌}
 use mathlib.Core.List.{◌++◌}
 use native.Mathlib.Omega.{arith}

@@ -6,6 +6,12 @@ use Rattle.procap.specs.Procaps.{listed}
 use Rattle.text.specs.Text.{text_of}
 use Rattle.text.proofs.spell.Pen.procap.Goals as goal
 
+pub line-requires-7 : goal.line-requires-7
+unfolding text_of listed
+line-requires-7 c =
+    rw (c.line-6.ensures, c.line-5.ensures, c.line-4.ensures, c.line-3.ensures, c.line-2.ensures, c.line.ensures)
+    (simp length-append (omega (arith, simp length-append at c.requires.room)))
+
 pub facts-requires : goal.facts-requires
 unfolding text_of listed
 facts-requires c =
