@@ -3,11 +3,9 @@ use Prim.Native.Nat.{ℕ, ◌+◌, ◌≤◌, ◌<◌}
 use mathlib.Core.Path.{◌≡◌, refl, sym, ◌∙◌}
 use mathlib.Core.List.{List}
 use mathlib.Core.Logic.{inl, inr}
-use Rattle.std.specs.Prelude.{◌⊎◌, None, Option, Some, Result, Ok, Err, ok_or, slice_get}
+use Rattle.std.specs.Prelude.{◌⊎◌, None, Option, Some, ok_or, slice_get}
 use Rattle.std.specs.Result.{result_ok}
-use Rattle.std.specs.Option.{unwrap_or}
 use Rattle.std.proofs.lemmas.Option.{slice_get_within, get_or_from_slice_get, unwrap_or-slice_get, slice_get_cases, none-some}
-use native.Mathlib.Omega.{arith}
 use lib.ListN.{length, get_or}
 use Rattle.procap.specs.Bytes.{byte}
 use Rattle.procap.proofs.Numbers.{byte_read, byte_none}

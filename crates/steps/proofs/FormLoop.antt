@@ -1,5 +1,5 @@
 -- The loop that tests a proof: what the whole reads as is what is still to be read, from what was found so far.
-use Prim.Native.Nat.{ℕ, suc, ◌+◌, ◌-◌, ◌≤◌, ◌<◌}
+use Prim.Native.Nat.{ℕ, ◌+◌, ◌≤◌, ◌<◌}
 use mathlib.Core.Path.{◌≡◌, refl, sym, ap, ◌∙◌, subst}
 use mathlib.Core.List.{List, [], ◌∷◌, ◌++◌}
 use Rattle.std.proofs.lemmas.Option.{none-some, same_Some}
@@ -7,7 +7,7 @@ use Rattle.std.specs.Prelude.{None, Option, Some, option_map}
 use native.Mathlib.Nat.{add-zero, zero-add}
 use native.Mathlib.Omega.{arith}
 use borrow.Author.Tests.{eq-eqb, le-leb, lt-leb}
-use lib.ListN.{length, get_or, set, length-set}
+use lib.ListN.{length, length-set}
 use lib.Dec.{leb}
 use Rattle.procap.specs.Tells.{Tells}
 use Rattle.procap.specs.Bytes.{then, give, to_the_end, whole}
@@ -28,7 +28,7 @@ use Rattle.steps.specs.declared.todo.Opened.TheVariants.{Leaf, One, Two}
 use Rattle.steps.proofs.Marks.{marked, each_so, all_there}
 use Rattle.steps.proofs.StepPlaces.{marks_checking, told_checking, checks_there}
 use Rattle.steps.proofs.TodoRead.{Found, after_checking, all_read, first_read, alone_read}
-use Rattle.steps.proofs.TodoStack.{size, some_size, Fit, turns, Leaves, leaves}
+use Rattle.steps.proofs.TodoStack.{size, some_size, Fit, turns, leaves}
 
 -- The table keeps its length.
 pub noted_length : (t : Todo) (at : ℕ) (ends : List ℕ) → length (noted t at ends) ≡ length ends

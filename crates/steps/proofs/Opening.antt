@@ -20,7 +20,7 @@ use Rattle.bl.specs.declared.CheckTag.{CheckTag}
 use Rattle.bl.specs.Tags.{infer_tag, check_tag}
 use Rattle.bl.specs.Steps.{only_time, time}
 use Rattle.steps.specs.Rooms.{Room, inner}
-use Rattle.steps.specs.Todo.{Parts, index_parts, time_parts, times_parts, inferring_parts, checking_parts, parts}
+use Rattle.steps.specs.Todo.{index_parts, time_parts, times_parts, inferring_parts, checking_parts, parts}
 use Rattle.steps.specs.declared.todo.Todo.TheVariants.{Inferring, Checking}
 use Rattle.steps.proofs.BytesAt.{no_byte, the_byte}
 

@@ -85,9 +85,19 @@ pub(crate) enum Todo {
 // What is there at a place goes on at a next place, and leaves nothing to be read (with so many steps 2C), one part, or two.
 #[derive(Clone, Copy)]
 pub(crate) enum Opened {
-    Leaf { next: usize, states: usize },
-    One { next: usize, part: Todo },
-    Two { next: usize, first: Todo, later: Todo },
+    Leaf {
+        next: usize,
+        states: usize,
+    },
+    One {
+        next: usize,
+        part: Todo,
+    },
+    Two {
+        next: usize,
+        first: Todo,
+        later: Todo,
+    },
 }
 
 // The bytes of a proof, and over how many certificates it is.
@@ -110,11 +120,14 @@ impl<'a> Source<'a> {
                 self.open_inferring(room, tag, past(self.proof, at))
             }
             Todo::Checking(room) => self.open_checking(room, at),
-            Todo::Second(room) => Some(Opened::Two {
-                next: at,
-                first: Todo::Checking(room),
-                later: Todo::Times(at),
-            }),
+            Todo::Second(room) => {
+                let times = Todo::Times(at);
+                Some(Opened::Two {
+                    next: at,
+                    first: Todo::Checking(room),
+                    later: times,
+                })
+            }
             Todo::Both(room) => Some(Opened::Two {
                 next: at,
                 first: Todo::Checking(room),
@@ -157,10 +170,12 @@ impl<'a> Source<'a> {
         match tag {
             CheckTag::TopStepTag | CheckTag::OrderStepTag => Some(Opened::Leaf { next, states: 0 }),
             CheckTag::StateTag => Some(Opened::Leaf { next, states: 1 }),
-            CheckTag::AtInTag | CheckTag::SaysInTag | CheckTag::OrLeftTag | CheckTag::OrRightTag => {
-                Some(Opened::One { next, part })
-            }
-            CheckTag::FalsityOutTag => Some(Opened::One { next, part: inferring }),
+            CheckTag::AtInTag | CheckTag::SaysInTag | CheckTag::OrLeftTag | CheckTag::OrRightTag =>
+                { Some(Opened::One { next, part }) }
+            CheckTag::FalsityOutTag => Some(Opened::One {
+                next,
+                part: inferring,
+            }),
             CheckTag::PairTag => Some(Opened::Two {
                 next,
                 first: part,

@@ -1,11 +1,9 @@
 -- By the tag that stands there: what is left is what the page says of it.
 use Prim.Native.Nat.{ℕ, ◌+◌, ◌<◌}
-use mathlib.Core.Path.{◌≡◌, ap, sym, ◌∙◌}
+use mathlib.Core.Path.{◌≡◌, ◌∙◌}
 use mathlib.Core.Logic.{inl, inr}
 use mathlib.Core.List.{List}
-use Rattle.std.specs.Prelude.{None, Some}
-use native.Mathlib.Omega.{arith}
-use native.Mathlib.Numerals.{add-one}
+use Rattle.std.specs.Prelude.{Some}
 use lib.ListN.{length, get_or}
 use Rattle.bl.specs.declared.CheckTag.{CheckTag}
 use Rattle.bl.specs.declared.CheckTag.TheVariants.{PairTag, TopStepTag, AtInTag, AtOutTag, SaysInTag, SaysOutTag, StateTag, OrderStepTag, OrLeftTag, OrRightTag, OrOutTag, FalsityOutTag, InferredTag}
@@ -41,8 +39,8 @@ unfolding checking_parts left
 returns-in-AtInTag c =
     let one = this _ _ _ _ c.in_ok-room.ensures.less c.in_ok-tag.ensures c.past-next.ensures.there in
     elim c.in-AtInTag.is [
-    | inl e ↦ one AtInTag e
-    | inr e ↦ elim e [ inl e ↦ one SaysInTag e | inr e ↦ elim e [ inl e ↦ one OrLeftTag e | inr e ↦ one OrRightTag e ] ]
+      | inl e ↦ one AtInTag e
+      | inr e ↦ elim e [ inl e ↦ one SaysInTag e | inr e ↦ elim e [ inl e ↦ one OrLeftTag e | inr e ↦ one OrRightTag e ] ]
     ]
 
 pub returns-in-FalsityOutTag : goal.returns-in-FalsityOutTag
