@@ -1,7 +1,7 @@
 -- Laws of digits: those that stand at a place, the value of some digits and of more after them, and the number that they spell.
 use Prim.Native.Nat.{ℕ, ◌+◌, ◌-◌, ◌*◌, ◌≤◌, ◌<◌}
 use mathlib.Core.Bool.{Bool, true, false}
-use mathlib.Core.Path.{◌≡◌, refl, sym, ap, ap₂, subst, ◌∙◌}
+use mathlib.Core.Path.{◌≡◌, refl, sym, ap, ap₂, ◌∙◌}
 use mathlib.Core.List.{List, [], ◌∷◌, ◌++◌, append_assoc, append-nil}
 use Rattle.std.specs.Prelude.{None, Some}
 use mathlib.Core.Logic.{◌⊎◌, inl, inr}
@@ -14,9 +14,7 @@ use Rattle.procap.specs.Bytes.{then, ensure}
 use Rattle.text.specs.Numbers.{digit_zero, is_digit, while_digit, leading_digits, value, one_spelling}
 use Rattle.text.specs.Line.{digits, number_to}
 use Rattle.text.specs.Places.{DigitReads}
-use Rattle.text.specs.declared.line.Digit.{Digit}
-use Rattle.text.specs.declared.line.Digit.TheVariants.{Value, NoDigit}
-use Rattle.text.proofs.Numerals.{value_append, starts, started_one}
+use Rattle.text.proofs.Numerals.{digit_from, digit_to, value_append, starts, started_one}
 
 -- ── The digits at a place ──
 
@@ -26,30 +24,22 @@ module _ (text : List ℕ) (at : ℕ) where
   unfolding leading_digits
   no_digits_past l = rw (drop_of_length-le text l)
 
-  module _ (l : at < length text) where
-    -- A byte from '0' to '9' is the first digit there.
-    digit_first : digit_zero ≤ get_or text at 0 → get_or text at 0 ≤ digit_zero + 9
-        → leading_digits (drop at text) ≡ get_or text at 0 ∷ leading_digits (drop (at + 1) text)
-    unfolding leading_digits while_digit is_digit
-    digit_first low high =
-        rw (drop-cons text at 0 l, le-leb digit_zero (get_or text at 0) low, le-leb (get_or text at 0) (digit_zero + 9) high, add-one at)
+  -- The byte that stands there is the first digit there if it is one, and else there is none.
+  module _ (b : ℕ) (l : at < length text) (e : b ≡ get_or text at 0) where
+    digit_first : is_digit b ≡ true → leading_digits (drop at text) ≡ b ∷ leading_digits (drop (at + 1) text)
+    unfolding leading_digits while_digit
+    digit_first d = rw (drop-cons text at 0 l, ← e, d, add-one at)
 
-    pub digit_here : digit_zero ≤ get_or text at 0 → get_or text at 0 ≤ digit_zero + 9
-        → DigitReads text at (Value (get_or text at 0 - digit_zero))
-    digit_here low high =
-        let whole : get_or text at 0 ≡ digit_zero + (get_or text at 0 - digit_zero) = omega arith in
-        (omega arith, l, digit_first low high ∙ ap (λ (b : ℕ). b ∷ leading_digits (drop (at + 1) text)) whole)
+    pub digit_here : is_digit b ≡ true → DigitReads text at (Some (b - digit_zero))
+    digit_here d =
+        let low = digit_from b d in
+        let high = digit_to b d in
+        let whole : b ≡ digit_zero + (b - digit_zero) = omega arith in
+        (omega arith, l, digit_first d ∙ ap (λ (b : ℕ). b ∷ leading_digits (drop (at + 1) text)) whole)
 
-    -- Any other byte is none.
-    pub no_digit_below : get_or text at 0 < digit_zero → leading_digits (drop at text) ≡ []
-    unfolding leading_digits while_digit is_digit
-    no_digit_below h = rw (drop-cons text at 0 l, lt-leb digit_zero (get_or text at 0) h)
-
-    pub no_digit_above : digit_zero + 9 < get_or text at 0 → leading_digits (drop at text) ≡ []
-    unfolding leading_digits while_digit is_digit
-    no_digit_above h =
-        let low : digit_zero ≤ get_or text at 0 = omega arith in
-        rw (drop-cons text at 0 l, le-leb digit_zero (get_or text at 0) low, lt-leb (get_or text at 0) (digit_zero + 9) h)
+    pub no_digit_here : is_digit b ≡ false → leading_digits (drop at text) ≡ []
+    unfolding leading_digits while_digit
+    no_digit_here d = rw (drop-cons text at 0 l, ← e, d)
 
 -- ── Values ──
 
@@ -112,23 +102,19 @@ pub record DigitsRead (text : List ℕ) (limit at n next : ℕ) : Type 0 where
   pub within : n ≤ limit
   pub spelled : (others ≡ []) ⊎ (0 < first)
 
--- The digit that was found is read.
-pub digit_told : (text : List ℕ) (at : ℕ) {r s : Digit} → r ≡ s → DigitReads text at r → DigitReads text at s
-digit_told text at e h = subst (DigitReads text at) e h
-
 module _ (text : List ℕ) (limit at : ℕ) where
   -- There is no number where no digit is, and where the first one passes the limit.
-  pub no_number : DigitReads text at NoDigit → number_to text limit at ≡ None
+  pub no_number : DigitReads text at None → number_to text limit at ≡ None
   unfolding one_spelling
   no_number h = number_in_no_spelling text limit at [] h refl
 
-  pub first_above : (d : ℕ) → DigitReads text at (Value d) → limit < d → number_to text limit at ≡ None
+  pub first_above : (d : ℕ) → DigitReads text at (Some d) → limit < d → number_to text limit at ≡ None
   first_above d h l =
       let rest : List ℕ = leading_digits (drop (at + 1) text) in
       number_above text limit at ((digit_zero + d) ∷ rest) h.2 (omega (arith, value_first d rest, value_grows d rest))
 
   -- The first digit.
-  pub started : (d : ℕ) → DigitReads text at (Value d) → d ≤ limit → DigitsRead text limit at d (at + 1)
+  pub started : (d : ℕ) → DigitReads text at (Some d) → d ≤ limit → DigitsRead text limit at d (at + 1)
   unfolding value
   started d h l = record { first = d; others = []; split = h.2; place = omega arith; says = refl; within = l; spelled = inl refl }
 
@@ -141,7 +127,7 @@ module _ (text : List ℕ) (limit at : ℕ) where
         [ inl e ↦ ap (λ (ds : List ℕ). one_spelling ((digit_zero + r.first) ∷ ds)) e | inr l ↦ not_zero_first r.first r.others l ]
 
     -- With no digit more, the number is what they say.
-    pub ended : DigitReads text next NoDigit → number_to text limit at ≡ Some (n, next)
+    pub ended : DigitReads text next None → number_to text limit at ≡ Some (n, next)
     ended h =
         let ds : List ℕ = (digit_zero + r.first) ∷ r.others in
         let all : leading_digits (drop at text) ≡ ds = r.split ∙ rw (h, append-nil) in
@@ -149,7 +135,7 @@ module _ (text : List ℕ) (limit at : ℕ) where
         number_here text limit at ds all read_spelled (omega arith)
         ∙ ap₂ (λ (m e : ℕ). Some (m, e)) says (omega arith)
 
-    module _ (d : ℕ) (h : DigitReads text next (Value d)) where
+    module _ (d : ℕ) (h : DigitReads text next (Some d)) where
       -- All digits: those read, this one, and the rest.
       abbrev rest : List ℕ
       rest = leading_digits (drop (next + 1) text)

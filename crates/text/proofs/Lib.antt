@@ -13,6 +13,7 @@ pub mod Joined
 pub mod Putting
 pub mod Written
 pub mod Digits
+pub mod Words
 pub mod Lines
 pub mod Terms
 pub mod FactLines

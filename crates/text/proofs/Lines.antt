@@ -1,8 +1,8 @@
 -- Laws of reading lines: what a word at a place is where the text goes on with it, with another, or not at all, and what makes a line.
 use Prim.Native.Nat.{ℕ, ◌+◌, ◌≤◌, ◌<◌}
-use mathlib.Core.Path.{◌≡◌, subst}
+use mathlib.Core.Path.{◌≡◌}
 use mathlib.Core.List.{List, ◌∷◌}
-use Rattle.std.specs.Prelude.{None, Option, Some}
+use Rattle.std.specs.Prelude.{None, Some}
 use native.Mathlib.Numerals.{add-one}
 use lib.ListN.{length, drop, get_or, drop_of_length-le}
 use lib.Seq.{drop-cons}
@@ -11,8 +11,6 @@ use Rattle.procap.specs.Bytes.{then, ensure}
 use Rattle.procap.proofs.Numbers.{byte_read, byte_none}
 use Rattle.text.specs.Words.{bytes_of}
 use Rattle.text.specs.Line.{literal, number_to, line_to}
-use Rattle.text.specs.Places.{PlaceReads}
-use Rattle.text.specs.declared.line.Place.{Place}
 
 module _ (text : List ℕ) (at : ℕ) where
   -- A word goes on from the place after its first byte, if that stands there; else it is not read.
@@ -44,10 +42,6 @@ module _ (text word : List ℕ) (at i : ℕ) where
   pub word_end : length word ≤ i → literal text (drop i word) at ≡ Some (tt, at)
   unfolding literal
   word_end k = rw (drop_of_length-le word k)
-
--- What was handed back as a place, or as none, is so read.
-pub place_told : (o : Option (Unit {0} × ℕ)) {r s : Place} → r ≡ s → PlaceReads o r → PlaceReads o s
-place_told o e h = subst (PlaceReads o) e h
 
 -- A line: its word, its number and its end, each from the place after the one before; without any of them there is none.
 module _ (text word : List ℕ) (limit at : ℕ) where

@@ -1,7 +1,6 @@
 -- Laws of lines of facts read one after another, each kept by its place: a line that was there before, or that is no fact's, means that there are
 -- no such lines, no two alike; and else each adds its fact to those read.
 use Prim.Native.Nat.{ℕ, suc, ◌+◌, ◌-◌, ◌≤◌, ◌<◌}
-use mathlib.Core.Bool.{true, false}
 use mathlib.Core.Path.{◌≡◌, refl, sym, ap, ap₂, subst, ◌∙◌}
 use mathlib.Core.List.{List, [], ◌∷◌, ◌++◌}
 use mathlib.Core.Logic.{inl, inr}
@@ -21,8 +20,7 @@ use Rattle.procap.proofs.ReadSoFar.{led_by, led_by_nothing, led_by_one, led_more
 use Rattle.text.specs.Reader.{fact_line}
 use Rattle.text.specs.Text.{fact_text, facts_text}
 use Rattle.text.specs.Overviews.{line_starts}
-use Rattle.text.specs.Places.{ReadsAt, OnLines, LinesFound, LinesReads}
-use Rattle.text.specs.declared.fact_places.LinesRead.{LinesRead}
+use Rattle.text.specs.Places.{ReadsAt, OnLines, LinesReads}
 use Rattle.text.proofs.SameLines.{line_said}
 use Rattle.text.proofs.OnLines.{on_more}
 
@@ -84,10 +82,6 @@ module _ (text : List ℕ) (at k : ℕ) where
 -- There are no such lines, no two alike.
 abbrev NoLines : Option (List Spelled × ℕ) → Type 0
 NoLines o = (fs : List Spelled) (e : ℕ) → o ≡ Some (fs, e) → Distinct fs → ⊥
-
--- So it is told.
-pub no_lines_told : (o : Option (List Spelled × ℕ)) (at count : ℕ) (r : LinesRead) → r.found ≡ false → NoLines o → LinesReads o at count r
-no_lines_told o at count r e h = rw e h
 
 -- Of so many lines i are read: their facts, no two alike, and their places.
 pub record LinesSoFar (text : List ℕ) (at count : ℕ) (places : List ℕ) (next i : ℕ) : Type 0 where
@@ -163,7 +157,8 @@ module _ {text : List ℕ} {at count : ℕ} {places : List ℕ} {next i : ℕ} (
       }
 
   -- All are read.
-  pub all_so_far : count ≤ i → LinesFound (many (fact_line text) count at) at count true places next
+  pub all_so_far : count ≤ i → LinesReads (many (fact_line text) count at) at count (Some (record { count = count; places = places }, next))
   all_so_far l =
       let all : i ≡ count = omega (arith, h.few) in
-      (h.facts, led_all h.facts _ h.reads next (none_read text next _ (omega arith)), h.distinct, h.counted ∙ all, h.kept)
+      let kept = h.kept in
+      (h.facts, led_all h.facts _ h.reads next (none_read text next _ (omega arith)), h.distinct, h.counted ∙ all, λ j. record { count = count; places = kept j })

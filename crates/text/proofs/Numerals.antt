@@ -17,7 +17,7 @@ use Rattle.text.specs.Numbers.{digit_zero, most_digits, digits_of, decimal, is_d
 -- ── Digits ──
 
 -- The byte is a digit.
-abbrev IsDigit : ℕ → Type 0
+abbrev pub IsDigit : ℕ → Type 0
 IsDigit b = is_digit b ≡ true
 
 -- The byte of a number below ten is a digit.
@@ -26,11 +26,11 @@ unfolding is_digit
 digit_is d l = rw (le-leb digit_zero (digit_zero + d) (omega arith), le-leb (digit_zero + d) (digit_zero + 9) (omega arith))
 
 -- A digit lies between those of 0 and 9.
-digit_from : (b : ℕ) → IsDigit b → digit_zero ≤ b
+pub digit_from : (b : ℕ) → IsDigit b → digit_zero ≤ b
 unfolding is_digit
 digit_from b h = leb-true digit_zero b ((and-eq-true_iff (leb digit_zero b) (leb b (digit_zero + 9))).0 h).0
 
-digit_to : (b : ℕ) → IsDigit b → b ≤ digit_zero + 9
+pub digit_to : (b : ℕ) → IsDigit b → b ≤ digit_zero + 9
 unfolding is_digit
 digit_to b h = leb-true b (digit_zero + 9) ((and-eq-true_iff (leb digit_zero b) (leb b (digit_zero + 9))).0 h).1
 

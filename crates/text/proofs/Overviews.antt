@@ -1,9 +1,9 @@
 -- What an overview of a text says: the text reads as the procap of what was seen, and the lines of its facts begin at the places that were
 -- seen. The text is just the procap's spelling, so its last bytes are the lines of the facts, each from the end of the one before.
 use Prim.Native.Nat.{ℕ, ◌-◌, ◌≤◌}
-use mathlib.Core.Bool.{true, false, not, false≢true}
-use mathlib.Core.Path.{◌≡◌, refl, sym, ap, subst, ◌∙◌}
+use mathlib.Core.Path.{◌≡◌, refl, sym, subst, ◌∙◌}
 use mathlib.Core.List.{List, [], ◌∷◌, ◌++◌}
+use Rattle.std.proofs.lemmas.Option.{same_Some}
 use Rattle.std.specs.Prelude.{Err, None, Ok, Option, Some}
 use native.Mathlib.Omega.{arith}
 use lib.ListN.{length, take}
@@ -56,39 +56,42 @@ module _ (text : List ℕ) where
 pub record Seen (text : List ℕ) (r : Overview) : Type 0 where
   pub facts : List Spelled
   pub says : reading text ≡ Ok (procap_of r.request r.from r.to facts)
-  pub counted : length facts ≡ r.count
-  pub few : r.count ≤ most_facts
-  pub on : OnLines text (take r.count r.places) facts
+  pub counted : length facts ≡ r.lines.count
+  pub few : r.lines.count ≤ most_facts
+  pub on : OnLines text (take r.lines.count r.lines.places) facts
 
 -- A procap that is read is seen so.
-procap_seen : (text : List ℕ) (p : Procap) → text_in text ≡ Some p → Seen text (overview_of text (Ok p))
+procap_seen : (text : List ℕ) (p : Procap) (r : Overview) → text_in text ≡ Some p → Some r ≡ overview_of text (Ok p) → Seen text r
 unfolding reading or_else overview_of places_in pad
-procap_seen text p e =
-    let (h, same) = what_reads_is_written text p e in
-    let start = length text - length (facts_text (listed p)) in
-    let count : length (line_starts start (listed p)) ≡ p.count = starts_length (listed p) start ∙ listed_count p h in
-    record {
-      facts = listed p;
-      says = rw (e, rebuilt p h);
-      counted = listed_count p h;
-      few = h.few_facts;
-      on = rw (take_at (line_starts start (listed p)) _ p.count count) (starts_on text (listed p) (listed_in_form p h) (facts_last text p same));
-    }
+procap_seen text p r e s = subst (Seen text) (sym (same_Some _ _ s)) seen
+  where
+    seen : Seen text (record { request = p.request; from = p.from; to = p.to; lines = record { count = p.count; places = places_in text (listed p) } })
+    seen =
+        let (h, same) = what_reads_is_written text p e in
+        let start = length text - length (facts_text (listed p)) in
+        let count : length (line_starts start (listed p)) ≡ p.count = starts_length (listed p) start ∙ listed_count p h in
+        record {
+          facts = listed p;
+          says = rw (e, rebuilt p h);
+          counted = listed_count p h;
+          few = h.few_facts;
+          on = rw (take_at (line_starts start (listed p)) _ p.count count) (starts_on text (listed p) (listed_in_form p h) (facts_last text p same));
+        }
 
--- Where the flag is false the bytes are no text; where it is true, the text says what was seen.
-module _ (text : List ℕ) (r : Overview) (e : r ≡ overview_of text (reading text)) where
-  pub overview_missing : not r.found ≡ true → reading text ≡ Err ProcapMalformed
+-- Where nothing is seen the bytes are no text; else the text says what was seen.
+module _ (text : List ℕ) where
+  pub overview_missing : ◌≡◌ {A = Option Overview} None (overview_of text (reading text)) → reading text ≡ Err ProcapMalformed
   unfolding reading or_else overview_of
-  overview_missing f = by (text_in text) e
+  overview_missing e = by (text_in text) e
     where
-      by : (o : Option Procap) → r ≡ overview_of text (or_else ProcapMalformed o) → or_else ProcapMalformed o ≡ Err ProcapMalformed
+      by : (o : Option Procap) → ◌≡◌ {A = Option Overview} None (overview_of text (or_else ProcapMalformed o)) → or_else ProcapMalformed o ≡ Err ProcapMalformed
       by None e = refl
-      by (Some p) e = absurd (false≢true (sym (ap (λ s. not s.found) e) ∙ f))
+      by (Some p) e = cc
 
-  pub overview_found : not r.found ≡ false → Seen text r
+  pub overview_found : (r : Overview) → Some r ≡ overview_of text (reading text) → Seen text r
   unfolding reading or_else overview_of
-  overview_found f = by (text_in text) refl e
+  overview_found r e = by (text_in text) refl e
     where
-      by : (o : Option Procap) → text_in text ≡ o → r ≡ overview_of text (or_else ProcapMalformed o) → Seen text r
-      by None t e = absurd (false≢true (sym f ∙ ap (λ s. not s.found) e))
-      by (Some p) t e = subst (Seen text) (sym e) (procap_seen text p t)
+      by : (o : Option Procap) → text_in text ≡ o → Some r ≡ overview_of text (or_else ProcapMalformed o) → Seen text r
+      by None t e = cc
+      by (Some p) t e = procap_seen text p r t e

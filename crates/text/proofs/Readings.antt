@@ -1,16 +1,15 @@
 -- Laws of reading a text line by line: what the moments, the procap and the whole text are where each line stands, and that
 -- there are none where one does not.
 use Prim.Native.Nat.{ℕ, ◌≤◌, ◌<◌}
-use mathlib.Core.Bool.{true, false, not}
 use mathlib.Core.Path.{◌≡◌, refl, sym, ap, ◌∙◌}
 use mathlib.Core.List.{List, map}
 use Rattle.std.specs.Prelude.{Err, None, Ok, Option, Some}
 use lib.ListN.{length}
-use borrow.Author.Tests.{le-leb, lt-leb, eq-eqb, ne_eqb, not-true, not-false}
+use borrow.Author.Tests.{le-leb, lt-leb, eq-eqb, ne_eqb}
 use Rattle.procap.specs.Lists.{Distinct, pad}
 use Rattle.procap.specs.Times.{latest}
 use Rattle.procap.specs.Facts.{Spelled, fact_of, no_fact}
-use Rattle.procap.specs.Procaps.{most_facts, version_one, empty_procap, procap_of}
+use Rattle.procap.specs.Procaps.{most_facts, version_one, empty_procap, listed, procap_of}
 use Rattle.procap.specs.Outcome.{Outcome, or_else, answer_of, procap_handed}
 use Rattle.procap.specs.Bytes.{then, ensure, many, to_the_end, whole}
 use Rattle.procap.specs.Deciding.{distinct?, spelled?}
@@ -25,30 +24,10 @@ use Rattle.text.specs.Line.{line_to}
 use Rattle.text.specs.LinesInARow.{uncounted}
 use Rattle.text.specs.RequestLines.{request_lines}
 use Rattle.text.specs.Reader.{fact_line, moment_lines, procap_with, procap_lines, text_in}
-use Rattle.text.specs.Overviews.{places_in, nothing_seen, overview_of}
-use Rattle.text.specs.Places.{MomentsReads, LinesFound, LinesReads}
-use Rattle.text.specs.declared.fact_places.LinesRead.{LinesRead}
-use Rattle.text.specs.declared.reader.MomentsRead.{MomentsRead}
+use Rattle.text.specs.Overviews.{places_in, overview_of}
 use Rattle.text.specs.declared.reader.ReadText.{ReadText}
 use Rattle.text.specs.declared.reader.Overview.{Overview}
-
--- ── What the flags say ──
-
--- Where the flag is false nothing was read; where it is true, the values beside it.
-pub moments_missing : (o : Option ((ℕ × ℕ) × ℕ)) (r : MomentsRead) → not r.found ≡ true → MomentsReads o r → o ≡ None
-moments_missing o r f h = rw (not-true r.found f) at h
-
-pub moments_found : (o : Option ((ℕ × ℕ) × ℕ)) (r : MomentsRead) → not r.found ≡ false → MomentsReads o r
-    → o ≡ Some ((r.from, r.to), r.next)
-moments_found o r f h = rw (not-false r.found f) at h
-
--- Where the flag is false there are no such lines, no two of them alike; where it is true, those at the places beside it.
-module _ (o : Option (List Spelled × ℕ)) (at count : ℕ) (r : LinesRead) where
-  pub lines_missing : not r.found ≡ true → LinesReads o at count r → LinesFound o at count false r.places r.next
-  lines_missing f h = rw (not-true r.found f) at h
-
-  pub lines_found : not r.found ≡ false → LinesReads o at count r → LinesFound o at count true r.places r.next
-  lines_found f h = rw (not-false r.found f) at h
+use Rattle.text.specs.declared.fact_places.Lines.{Lines}
 
 -- ── The moments ──
 
@@ -169,24 +148,18 @@ module _ (text : List ℕ) where
 -- ── What is seen ──
 
 -- Where there is no procap nothing is seen; where there is one, its request, its moments and the places of its facts are.
-pub none_seen : (text : List ℕ) (o : Option Procap) (r : Overview) → r ≡ nothing_seen → o ≡ None → r ≡ overview_of text (or_else ProcapMalformed o)
+pub none_seen : (text : List ℕ) (o : Option Procap) → o ≡ None → ◌≡◌ {A = Option Overview} None (overview_of text (or_else ProcapMalformed o))
 unfolding or_else overview_of
-none_seen text o r f e = rw e f
+none_seen text o e = rw e
 
-pub some_seen : (text : List ℕ) (o : Option Procap) (request : Request) (from to count : ℕ) (places : List ℕ) (fs : List Spelled)
-    → o ≡ Some (procap_of request from to fs) → length fs ≡ count → places ≡ places_in text fs
-    → ◌≡◌ {A = Overview} (record { found = true; request = request; from = from; to = to; count = count; places = places })
-    (overview_of text (or_else ProcapMalformed o))
+pub some_seen : (text : List ℕ) (o : Option Procap) (request : Request) (from to : ℕ) (lines : Lines) (fs : List Spelled)
+    → o ≡ Some (procap_of request from to fs) → lines ≡ record { count = length fs; places = places_in text fs }
+    → ◌≡◌ {A = Option Overview} (Some (record { request = request; from = from; to = to; lines = lines })) (overview_of text (or_else ProcapMalformed o))
 unfolding or_else overview_of procap_of
-some_seen text o request from to count places fs e n on =
-    rw e λ i. record {
-      found = true;
-      request = request;
-      from = from;
-      to = to;
-      count = sym n i;
-      places = (on ∙ ap (places_in text) (sym (listed_back request from to fs))) i;
-    }
+some_seen text o request from to lines fs e on =
+    let same : lines ≡ record { count = length fs; places = places_in text (listed (procap_of request from to fs)) } =
+    on ∙ ap (λ gs. record { count = length fs; places = places_in text gs }) (sym (listed_back request from to fs)) in
+    rw e (ap (λ l. Some (record { request = request; from = from; to = to; lines = l })) same)
 
 -- ── What is handed over ──
 

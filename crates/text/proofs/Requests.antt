@@ -1,12 +1,12 @@
 -- The three lines of a request: which of them breaks the form, and what they say together; that they are read from just the bytes that spell a
 -- request of three names, and that those bytes read as it.
 use Prim.Native.Nat.{ℕ, suc}
-use mathlib.Core.Path.{◌≡◌, refl, subst}
+use mathlib.Core.Path.{◌≡◌, sym, ◌∙◌}
 use mathlib.Core.List.{List, ◌++◌}
-use Rattle.std.specs.Prelude.{Err, None, Ok, Option, Some}
+use Rattle.std.specs.Prelude.{Err, None, Ok, Option, Result, Some}
+use Rattle.std.specs.Result.{result_ok}
 use native.Mathlib.Omega.{arith}
 use Rattle.procap.specs.Outcome.{Outcome, go_on}
-use Rattle.procap.specs.Procaps.{no_request}
 use Rattle.procap.specs.Writable.{largest_name, RequestInForm}
 use Rattle.procap.specs.declared.answer.Answer.TheVariants.{InputMalformed}
 use Rattle.procap.specs.declared.procap.Request.{Request}
@@ -16,26 +16,10 @@ use Rattle.text.specs.Text.{line}
 use Rattle.text.specs.Line.{line_to}
 use Rattle.text.specs.LinesInARow.{at_line, said}
 use Rattle.text.specs.RequestLines.{request_lines}
-use Rattle.text.specs.Places.{RequestFound, RequestReads}
-use Rattle.text.specs.declared.line.Form.TheVariants.{Kept, BrokenAt}
-use Rattle.text.specs.declared.request.RequestRead.{RequestRead}
+use Rattle.text.specs.Places.{RequestReads}
+use Rattle.text.specs.declared.line.BrokenLine.{BrokenLine}
 use Rattle.text.proofs.Readers.{Takes, joined, parted, TextRead}
 use Rattle.text.proofs.Spellings.{line_read, line_found}
-
--- ── What is handed back ──
-
-module _ (o : Outcome (Request × ℕ × ℕ)) (r : RequestRead) where
-  -- Where the form is kept, the request was read; where a line breaks it, the reader refuses with it.
-  pub request_kept : r.form ≡ Kept → RequestReads o r → o ≡ Ok (r.request, 4, r.next)
-  request_kept e h = subst (λ f. RequestFound o f r.request r.next) e h
-
-  pub request_broken_at : {line : ℕ} → r.form ≡ BrokenAt line → RequestReads o r → o ≡ Err (InputMalformed line)
-  request_broken_at e h = (subst (λ f. RequestFound o f r.request r.next) e h).0
-
-  -- Where the reader refuses with a line, that line is handed back, and zeros.
-  pub request_refused : {line : ℕ} → r ≡ record { form = BrokenAt line; request = no_request; next = 0 } → o ≡ Err (InputMalformed line)
-      → RequestReads o r
-  request_refused e h = rw e (h, refl, refl)
 
 -- ── Line by line ──
 
@@ -107,6 +91,17 @@ said_granted o a n next e = rw e
 pub said_refused : {A : Type 0} (o : Outcome (A × ℕ × ℕ)) (n : ℕ) → o ≡ Err (InputMalformed n) → said o ≡ None
 unfolding said
 said_refused o n e = rw e
+
+-- What is said by what is handed back, where nobody asks which line breaks: the request and the place after it, or none.
+pub said_none : (o : Outcome (Request × ℕ × ℕ)) (r : Result (Request × ℕ) BrokenLine) → RequestReads o r
+    → ◌≡◌ {A = Option (Request × ℕ)} None (result_ok r) → said o ≡ None
+said_none o (Ok b) h e = cc
+said_none o (Err broken) h e = said_refused o broken.0 h
+
+pub said_some : (o : Outcome (Request × ℕ × ℕ)) (r : Result (Request × ℕ) BrokenLine) → RequestReads o r
+    → (q : Request) (next : ℕ) → ◌≡◌ {A = Option (Request × ℕ)} (Some (q, next)) (result_ok r) → said o ≡ Some (q, next)
+said_some o (Ok b) h q next e = said_granted o b.0 4 b.1 h ∙ sym e
+said_some o (Err broken) h q next e = cc
 
 -- A request that was read is one of three names.
 pub request_in_form : (bytes : List ℕ) (n at : ℕ) (r : Request) (m next : ℕ) → request_lines bytes n at ≡ Ok (r, m, next) → RequestInForm r

@@ -10,7 +10,7 @@ use Rattle.procap.specs.Lists.{All, pad}
 use Rattle.procap.specs.Facts.{Spelled, fact_of}
 use Rattle.procap.specs.Procaps.{procap_of}
 use Rattle.procap.specs.Outcome.{go_on}
-use Rattle.procap.specs.Bytes.{then, ensure, many, big_endian, next, number, to_the_end, whole}
+use Rattle.procap.specs.Bytes.{then, present, ensure, many, big_endian, next, number, to_the_end, whole}
 use Rattle.procap.specs.Deciding.{told, goes_with?, in?, distinct?, lists?, terms?, spelled?}
 use Rattle.procap.specs.declared.time.Time.TheVariants.{Moment, MinusInfinity, PlusInfinity, Ctime}
 use Rattle.procap.specs.declared.fact.Term.TheVariants.{Name, When}
@@ -24,7 +24,7 @@ use Rattle.text.specs.Reader.{term_with, term, more_terms, terms, fact_line, mom
 
 -- To unfold this is to unfold all that its line names.
 unfoldable pub computes : Unit {0}
-unfolding All pad Dec.and Dec.not ℕ_discrete fact_of procap_of then ensure many big_endian next number to_the_end whole go_on told goes_with? in? distinct? lists? terms? spelled? is_digit while_digit leading_digits value one_spelling literal digits number_to line_to term_with term more_terms terms fact_line at_line said request_lines moment_lines procap_with procap_lines text_in
+unfolding All pad Dec.and Dec.not ℕ_discrete fact_of procap_of then present ensure many big_endian next number to_the_end whole go_on told goes_with? in? distinct? lists? terms? spelled? is_digit while_digit leading_digits value one_spelling literal digits number_to line_to term_with term more_terms terms fact_line at_line said request_lines moment_lines procap_with procap_lines text_in
 computes = tt
 
 -- A text, and the procap that it says, or none.

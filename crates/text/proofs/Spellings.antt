@@ -4,7 +4,7 @@ use Prim.Native.Nat.{ℕ, zero, suc, ◌≤◌, ◌<◌, ◌^◌}
 use mathlib.Core.Path.{◌≡◌, refl, ap}
 use mathlib.Core.Bool.{Bool, true, false}
 use mathlib.Core.List.{List, [], ◌∷◌, ◌++◌, append_assoc}
-use Rattle.std.specs.Prelude.{Some}
+use Rattle.std.specs.Prelude.{IfSome, Option, Some}
 use native.Mathlib.Nat.{add-zero}
 use native.Mathlib.Omega.{arith}
 use lib.ListN.{length, drop}
@@ -15,14 +15,14 @@ use Rattle.procap.specs.Lists.{All}
 use Rattle.procap.specs.Times.{latest}
 use Rattle.procap.specs.Facts.{Spelled, most_terms}
 use Rattle.procap.specs.Writable.{largest_name, TermInForm}
-use Rattle.procap.specs.Bytes.{then, many}
+use Rattle.procap.specs.Bytes.{then, present, many}
 use Rattle.procap.specs.declared.time.Time.TheVariants.{Moment, MinusInfinity, PlusInfinity, Ctime}
 use Rattle.procap.specs.declared.fact.Term.{Term}
 use Rattle.procap.specs.declared.fact.Term.TheVariants.{Name, When}
 use Rattle.procap.specs.declared.tag.TermTag.{TermTag}
-use Rattle.procap.specs.declared.tag.TermTag.TheVariants.{NameTag, MomentTag, MinusInfinityTag, PlusInfinityTag, CtimeTag, VariableTag, NoTermTag}
+use Rattle.procap.specs.declared.tag.TermTag.TheVariants.{NameTag, MomentTag, MinusInfinityTag, PlusInfinityTag, CtimeTag, VariableTag}
 use Rattle.procap.proofs.Rebuilt.{SpelledInForm}
-use Rattle.procap.proofs.Readers.{unread, read}
+use Rattle.procap.proofs.Readers.{unread, read, present_read}
 use Rattle.text.specs.Words.{bytes_of}
 use Rattle.text.specs.Numbers.{most_digits, decimal, is_digit, while_digit, leading_digits}
 use Rattle.text.specs.Text.{line, term_text, terms_text, fact_text, facts_text}
@@ -46,12 +46,11 @@ Letter b MinusInfinityTag = b ≡ 0x2d
 Letter b PlusInfinityTag = b ≡ 0x2b
 Letter b CtimeTag = b ≡ 0x63
 Letter b VariableTag = Unit {0}
-Letter b NoTermTag = Unit {0}
 
 -- It is the byte that was read.
-letter_is : (b : ℕ) → Letter b (term_letter b)
+letter_is : (b : ℕ) → IfSome (term_letter b) (Letter b)
 letter_is b =
-    let P = Letter b in
+    let P = λ (tag : Option TermTag). IfSome tag (Letter b) in
     pick_so P b 0x6e (λ e. e) (pick_so P b 0x74 (λ e. e) (pick_so P b 0x2d (λ e. e) (pick_so P b 0x2b (λ e. e) (pick_so P b 0x63 (λ e. e) tt))))
 
 -- The byte that goes on or ends the line.
@@ -95,12 +94,14 @@ module _ {bytes : List ℕ} where
   term_with_read PlusInfinityTag b at mid e t = read (rw e at t, tt)
   term_with_read CtimeTag b at mid e t = read (rw e at t, tt)
   term_with_read VariableTag b at mid e t = unread
-  term_with_read NoTermTag b at mid e t = unread
 
   -- So a term is read from just its spelling.
   term_read : (at : ℕ) → TextRead bytes at term_text TermInForm (term bytes at)
   unfolding term
-  term_read at = then_read (byte_read at) λ b mid t _. term_with_read (term_letter b) b at mid (letter_is b) t
+  term_read at =
+      then_read (byte_read at) λ b mid t _.
+      present_read (term_letter b) mid (λ tag. term_with bytes tag) λ tag e.
+      term_with_read tag b at mid (rw e at (letter_is b)) t
 
   -- Terms after a mark, where the rest is read from just its spelling.
   more_terms_read : (n : ℕ) → ((at : ℕ) → TextRead bytes at terms_line (TermsInForm n) (terms bytes n at))
@@ -169,7 +170,7 @@ module _ {bytes : List ℕ} where
   -- A term that is spelled there is found, where no digit follows.
   term_found : (t : Term) {at after : ℕ} → TermInForm t → Takes bytes at (term_text t) after → leading_digits (drop after bytes) ≡ []
       → term bytes at ≡ Some (t, after)
-  unfolding term term_with term_text TermInForm then
+  unfolding term term_with term_text TermInForm then present
   term_found (Name n) f h e =
       parted (bytes_of "n") (decimal n) h λ mid t₁ t₂. rw (byte_found t₁, number_found largest_name n (omega arith) f t₂ e)
   term_found (When (Moment k)) f h e =

@@ -1,6 +1,6 @@
 -- Laws of reading terms: a name, a moment, a term by its letter, and the terms up to a line's end.
 use Prim.Native.Nat.{ℕ, zero, suc, ◌+◌, ◌≤◌, ◌<◌}
-use mathlib.Core.Path.{◌≡◌, refl, sym, ap, ◌∙◌}
+use mathlib.Core.Path.{◌≡◌, sym, ap, ◌∙◌}
 use mathlib.Core.List.{List, [], ◌∷◌}
 use Rattle.std.proofs.lemmas.Option.{none-some, same_Some}
 use Rattle.std.specs.Prelude.{None, Option, Some}
@@ -10,10 +10,11 @@ use lib.ListN.{length, get_or}
 use borrow.Author.Tests.{ne_eqb}
 use Rattle.procap.specs.Times.{latest}
 use Rattle.procap.specs.Writable.{largest_name}
-use Rattle.procap.specs.Bytes.{then}
+use Rattle.procap.specs.Bytes.{then, present}
 use Rattle.procap.specs.declared.time.Time.TheVariants.{Moment}
 use Rattle.procap.specs.declared.fact.Term.{Term}
 use Rattle.procap.specs.declared.fact.Term.TheVariants.{Name, When}
+use Rattle.procap.specs.declared.tag.TermTag.{TermTag}
 use Rattle.procap.specs.declared.tag.TermTag.TheVariants.{NameTag, MomentTag}
 use Rattle.procap.proofs.Numbers.{byte_read, byte_none}
 use Rattle.procap.proofs.ReadSoFar.{led_by, led_by_one}
@@ -46,18 +47,17 @@ module _ (text : List ℕ) (at : ℕ) where
   no_term_past l = rw (byte_none text at l)
 
   module _ (l : at < length text) where
-    pub term_here : (b : ℕ) → get_or text at 0 ≡ b → term text at ≡ term_with text (term_letter b) (at + 1)
-    unfolding term then
-    term_here b e = rw (byte_read text at l, e)
+    pub term_here : (b : ℕ) (tag : TermTag) → get_or text at 0 ≡ b → term_letter b ≡ Some tag → term text at ≡ term_with text tag (at + 1)
+    unfolding term then present
+    term_here b tag e letter = rw (byte_read text at l, e, letter)
 
     -- A byte that is none of the five letters announces no term.
     pub other_letter : (get_or text at 0 ≡ 0x6e → ⊥) → (get_or text at 0 ≡ 0x74 → ⊥) → (get_or text at 0 ≡ 0x2d → ⊥)
         → (get_or text at 0 ≡ 0x2b → ⊥) → (get_or text at 0 ≡ 0x63 → ⊥) → term text at ≡ None
-    unfolding term_with
+    unfolding term then present
     other_letter n t m p c =
         let b : ℕ = get_or text at 0 in
-        term_here b refl
-        ∙ simp (ne_eqb b 0x6e n, ne_eqb b 0x74 t, ne_eqb b 0x2d m, ne_eqb b 0x2b p, ne_eqb b 0x63 c)
+        simp (byte_read text at l, ne_eqb b 0x6e n, ne_eqb b 0x74 t, ne_eqb b 0x2d m, ne_eqb b 0x2b p, ne_eqb b 0x63 c)
 
 -- ── Terms up to a line's end ──
 

@@ -41,6 +41,16 @@ unfoldable pub buffer_left : Outcome (List ℕ) → List ℕ → List ℕ
 buffer_left (Ok text) buffer = text ++ drop (length text) buffer
 buffer_left (Err answer) buffer = buffer
 
+-- What a write comes to, by the length of its text.
+abbrev pub length_of : Outcome (List ℕ) → Outcome ℕ
+length_of (Ok text) = Ok (length text)
+length_of (Err answer) = Err answer
+
+-- What a write came to is the text's length, or the answer that refuses it, and it leaves the lent buffer `before` as `after`.
+pub record Left (o : Outcome (List ℕ)) (before : List ℕ) (r : Outcome ℕ) (after : List ℕ) : Type 0 where
+  pub gives : r ≡ length_of o
+  pub buffer : after ≡ buffer_left o before
+
 -- A call that writes gives the answer and the length of what it came to, and leaves the lent buffer `before` as `after`.
 pub record Wrote (o : Outcome (List ℕ)) (before : List ℕ) (w : WrittenText) (after : List ℕ) : Type 0 where
   pub answer : w.answer ≡ answer_of o

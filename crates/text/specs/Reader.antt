@@ -1,18 +1,18 @@
 -- [Text] What reads as a procap. A reader goes from a place to a value and the place after it.
-use Rattle.std.specs.Prelude.{ℕ, zero, suc, List, [], ◌∷◌, leb, eqb, Option}
+use Rattle.std.specs.Prelude.{ℕ, zero, suc, List, [], ◌∷◌, leb, eqb, None, Option, Some}
 use Prim.Native.Char.{code}
 use Rattle.procap.specs.Tells.{pick}
 use Rattle.procap.specs.Times.{latest}
 use Rattle.procap.specs.Facts.{Spelled, most_terms}
 use Rattle.procap.specs.Procaps.{most_facts, version_one, procap_of}
 use Rattle.procap.specs.Writable.{largest_name}
-use Rattle.procap.specs.Bytes.{Reader, ◌>>=◌, give, fail, ensure, many, byte, whole}
+use Rattle.procap.specs.Bytes.{Reader, ◌>>=◌, give, present, fail, ensure, many, byte, whole}
 use Rattle.procap.specs.Deciding.{told, distinct?, spelled?}
 use Rattle.procap.specs.declared.time.Time.TheVariants.{Moment, MinusInfinity, PlusInfinity, Ctime}
 use Rattle.procap.specs.declared.fact.Term.{Term}
 use Rattle.procap.specs.declared.fact.Term.TheVariants.{Name, When}
 use Rattle.procap.specs.declared.tag.TermTag.{TermTag}
-use Rattle.procap.specs.declared.tag.TermTag.TheVariants.{NameTag, MomentTag, MinusInfinityTag, PlusInfinityTag, CtimeTag, VariableTag, NoTermTag}
+use Rattle.procap.specs.declared.tag.TermTag.TheVariants.{NameTag, MomentTag, MinusInfinityTag, PlusInfinityTag, CtimeTag, VariableTag}
 use Rattle.procap.specs.declared.procap.Request.{Request}
 use Rattle.procap.specs.declared.procap.Procap.{Procap}
 use Rattle.text.specs.Words.{bytes_of}
@@ -21,13 +21,13 @@ use Rattle.text.specs.LinesInARow.{uncounted}
 use Rattle.text.specs.RequestLines.{request_lines}
 
 -- [Text] The term that a letter or a sign announces.
-abbrev pub term_letter : ℕ → TermTag
+abbrev pub term_letter : ℕ → Option TermTag
 term_letter b =
-    pick (eqb b (code "n")) NameTag
-    (pick (eqb b (code "t")) MomentTag
-    (pick (eqb b (code "-")) MinusInfinityTag
-    (pick (eqb b (code "+")) PlusInfinityTag
-    (pick (eqb b (code "c")) CtimeTag NoTermTag))))
+    pick (eqb b (code "n")) (Some NameTag)
+    (pick (eqb b (code "t")) (Some MomentTag)
+    (pick (eqb b (code "-")) (Some MinusInfinityTag)
+    (pick (eqb b (code "+")) (Some PlusInfinityTag)
+    (pick (eqb b (code "c")) (Some CtimeTag) None))))
 
 -- What may stand after a number or a term: a space before the next term, or the line's end.
 pub data Mark : Type 0 where
@@ -51,13 +51,13 @@ module _ (bytes : List ℕ) where
   term_with PlusInfinityTag = give (When PlusInfinity)
   term_with CtimeTag = give (When Ctime)
   term_with VariableTag = fail
-  term_with NoTermTag = fail
 
   -- A term.
   unfoldable pub term : Reader Term
   term = do
     b ← byte bytes
-    term_with (term_letter b)
+    tag ← present (term_letter b)
+    term_with tag
 
   -- Nothing more at the line's end; after a space a term and the rest.
   unfoldable pub more_terms : Reader (List Term) → Mark → Reader (List Term)

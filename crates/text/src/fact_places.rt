@@ -1,9 +1,9 @@
 // Where the lines of facts stand in a text: each place is enough to read its fact again, so that no fact is carried along.
-ghost use Rattle.std.specs.Prelude.{Bool, ◌≡◌, ◌≤◌};
+ghost use Rattle.std.specs.Prelude.{◌≡◌, ◌≤◌, length, take};
 ghost use Rattle.procap.specs.Procaps.{most_facts};
 ghost use Rattle.procap.specs.Bytes.{many};
 ghost use Rattle.text.specs.Reader.{fact_line};
-ghost use Rattle.text.specs.Places.{LinesReads, StandsBefore, SameLine, FactsOn};
+ghost use Rattle.text.specs.Places.{LinesReads, StandsBefore, SameLine, FactOn, FactsOn};
 
 use crate::facts::fact_at;
 use procap::fact::Fact;
@@ -12,74 +12,57 @@ use procap::procap::MOST_FACTS;
 // How many bytes the word takes with which every line of a fact begins.
 const WORD_BYTES: usize = 5;
 
-// Whether lines of facts were read, no two of them alike, where each begins, and the place after them.
+// Where the lines of facts begin: the first `count` places, and zeros past them.
 #[derive(Clone, Copy)]
-pub struct LinesRead {
-    pub found: bool,
+pub struct Lines {
+    pub count: usize,
     pub places: [usize; MOST_FACTS],
-    pub next: usize,
 }
 
-// So many lines of facts at a place.
-pub(crate) fn lines_at(text: &[u8], at: usize, count: usize) -> LinesRead
+impl Lines {
+    // The places where the lines begin.
+    pub fn places(&self) -> &[usize]
+        ensures { result.now ≡ take self.now.count self.now.places }
+    {
+        &self.places[..self.count.min(MOST_FACTS)]
+    }
+}
+
+// So many lines of facts at a place, no two of them alike: where each begins, and the place after them.
+pub(crate) fn lines_at(text: &[u8], at: usize, count: usize) -> Option<(Lines, usize)>
     requires { count ≤ most_facts }
     ensures { LinesReads (many (fact_line text.now) count at) at count result }
 {
     let mut places = [0usize; MOST_FACTS];
     let mut next = at;
-    let mut i: usize = 0;
-    while i < count {
-        let read = fact_at(text, next);
-        if !read.found {
-            return no_lines();
-        }
-        if stood_before(text, next, read.next, places, i) {
-            return no_lines();
+    for i in 0..count {
+        let (_, end) = fact_at(text, next)?;
+        if stood_before(text, next, end, &places[..i]) {
+            return None;
         }
         places[i] = next;
-        next = read.next;
-        i += 1;
+        next = end;
     }
-    LinesRead {
-        found: true,
+    let lines = Lines {
+        count: count,
         places: places,
-        next: next,
-    }
+    };
+    Some((lines, next))
 }
 
-// What is handed back where a line is no fact's, or two are alike.
-fn no_lines() -> LinesRead
-    ensures { result.found ≡ Bool.false }
+// Whether the line of a fact, up to its end, stands at one of these places too.
+fn stood_before(text: &[u8], at: usize, end: usize, places: &[usize]) -> bool
+    ensures { StandsBefore text.now at end places.now result }
 {
-    LinesRead {
-        found: false,
-        places: [0usize; MOST_FACTS],
-        next: 0,
-    }
-}
-
-// Whether the line of a fact, up to its end, stands at one of the first so many places too.
-fn stood_before(
-    text: &[u8],
-    at: usize,
-    end: usize,
-    places: [usize; MOST_FACTS],
-    count: usize,
-) -> bool
-    requires { count ≤ most_facts }
-    ensures { StandsBefore text.now at end places count result }
-{
-    let mut i: usize = 0;
-    while i < count {
-        if same_line(text, at, end, places[i]) {
+    for place in places {
+        if same_line(text, at, end, *place) {
             return true;
         }
-        i += 1;
     }
     false
 }
 
-// Whether the line of a fact, up to its end, is the line at another place too.
+// Whether the line of a fact, up to its end, is the line at another place too: the bytes behind the word decide.
 fn same_line(text: &[u8], at: usize, end: usize, other: usize) -> bool
     ensures { SameLine text.now at end other result }
 {
@@ -107,19 +90,24 @@ fn same_line(text: &[u8], at: usize, end: usize, other: usize) -> bool
     true
 }
 
-// The facts on the lines at the first so many places, with zeros past them.
-pub(crate) fn facts_on(text: &[u8], places: [usize; MOST_FACTS], count: usize) -> [Fact; MOST_FACTS]
-    requires { count ≤ most_facts }
-    ensures { FactsOn text.now places count result }
+// The facts on the lines at these places, with zeros past them.
+pub(crate) fn facts_on(text: &[u8], places: &[usize]) -> [Fact; MOST_FACTS]
+    requires { length places.now ≤ most_facts }
+    ensures { FactsOn text.now places.now result }
 {
-    let none = Fact::none();
-    let mut facts = [none; MOST_FACTS];
-    let mut i: usize = 0;
-    while i < count {
-        let read = fact_at(text, places[i]);
-        let fact = read.fact;
-        facts[i] = fact;
-        i += 1;
+    let mut facts = [Fact::none(); MOST_FACTS];
+    for (i, place) in places.iter().enumerate() {
+        facts[i] = fact_on(text, *place);
     }
     facts
+}
+
+// The fact on the line at a place, or zeros where none stands there.
+fn fact_on(text: &[u8], at: usize) -> Fact
+    ensures { FactOn text.now at result }
+{
+    match fact_at(text, at) {
+        Some((fact, _)) => fact,
+        None => Fact::none(),
+    }
 }

@@ -1,167 +1,163 @@
-// A procap, or a refusal, spelled into a buffer that has room for its text.
-ghost use Rattle.std.specs.Prelude.{◌≡◌, ◌++◌, ◌+◌, ◌≤◌, length};
-ghost use Rattle.procap.specs.Facts.{spelled, most_terms};
-ghost use Rattle.procap.specs.Procaps.{listed};
-ghost use Rattle.procap.specs.Writable.{Writable};
+// Texts spelled into a buffer that is long enough for each of them.
+ghost use Rattle.std.specs.Prelude.{ℕ, List, [], ◌≡◌, ◌++◌, ◌+◌, ◌≤◌, length, map, take};
+ghost use Rattle.procap.specs.Facts.{spelled};
+ghost use Rattle.procap.specs.Procaps.{most_facts, listed};
 ghost use Rattle.text.specs.Numbers.{decimal};
 ghost use Rattle.text.specs.Text.{line, term_text, terms_text, fact_text, facts_text, text_of, refusal_text};
-ghost use Rattle.text.specs.Buffers.{put_at};
+ghost use Rattle.text.specs.Buffers.{most_text};
 
+use crate::writer::MOST_TEXT;
 use procap::answer::Answer;
-use procap::fact::{Fact, Term};
+use procap::fact::{Argument, Fact, Term};
 use procap::procap::Procap;
 use procap::time::Time;
+use std::marker::Model;
 
-// Puts the text of the procap at the front of the buffer, and gives its length.
-pub(crate) fn spell(out: &mut [u8], procap: Procap) -> usize
-    requires form { Writable procap }
-    requires room { length (text_of procap) ≤ length out.old }
-    ensures length { result ≡ length (text_of procap) }
-    ensures buffer { out.new ≡ put_at 0 (text_of procap) out.old }
-{
-    let request = procap.request;
-    let mut at = put_line(out, 0, b"procap=", procap.version as u64);
-    at = put_line(out, at, b"who=", request.who as u64);
-    at = put_line(out, at, b"what=", request.what as u64);
-    at = put_line(out, at, b"right=", request.right as u64);
-    at = put_line(out, at, b"from=", procap.from);
-    at = put_line(out, at, b"to=", procap.to);
-    at = put_line(out, at, b"facts=", procap.count as u64);
-    put_facts(out, at, procap)
+// A text that is being spelled: the first `at` bytes. Each method spells something behind them, for which there must be room.
+#[derive(Drop)]
+pub(crate) struct Pen {
+    text: [u8; MOST_TEXT],
+    at: usize,
 }
 
-// Puts the two lines of a refusal at the front of the buffer, and gives their length.
-pub(crate) fn spell_refusal(out: &mut [u8], answer: Answer) -> usize
-    requires room { length (refusal_text answer) ≤ length out.old }
-    ensures length { result ≡ length (refusal_text answer) }
-    ensures buffer { out.new ≡ put_at 0 (refusal_text answer) out.old }
-{
-    let at = put_line(out, 0, b"refused=", answer.number());
-    put_line(out, at, b"place=", answer.place() as u64)
+impl Model for Pen {
+    ghost Value = { List ℕ };
+
+    ghost view = { λ p. take p.at p.text };
+
+    ghost invariant = { λ p. p.at ≤ most_text };
 }
 
-// Puts the lines of the procap's facts at a place, and gives the place after them.
-fn put_facts(out: &mut [u8], at: usize, procap: Procap) -> usize
-    requires form { Writable procap }
-    requires room { at + length (facts_text (listed procap)) ≤ length out.old }
-    ensures next { result ≡ at + length (facts_text (listed procap)) }
-    ensures buffer { out.new ≡ put_at at (facts_text (listed procap)) out.old }
-{
-    let count = procap.count;
-    let mut next = at;
-    let mut i: usize = 0;
-    while i < count {
-        let fact = procap.facts[i];
-        next = put_fact(out, next, fact);
-        i += 1;
+impl Pen {
+    // Nothing is spelled yet.
+    pub(crate) fn new() -> Pen
+        ensures { result ≡ [] }
+    {
+        Pen {
+            text: [0; MOST_TEXT],
+            at: 0,
+        }
     }
-    next
-}
 
-// Puts the line of a fact at a place, and gives the place after it.
-fn put_fact(out: &mut [u8], at: usize, fact: Fact) -> usize
-    requires few { fact.count ≤ most_terms }
-    requires room { at + length (fact_text (spelled fact)) ≤ length out.old }
-    ensures next { result ≡ at + length (fact_text (spelled fact)) }
-    ensures buffer { out.new ≡ put_at at (fact_text (spelled fact)) out.old }
-{
-    let mut next = put_word(out, at, b"fact=");
-    next = put_number(out, next, fact.predicate as u64);
-    next = put_terms(out, next, fact);
-    put_word(out, next, b"\n")
-}
-
-// Puts the terms of a fact at a place, each after a space, and gives the place after them.
-fn put_terms(out: &mut [u8], at: usize, fact: Fact) -> usize
-    requires few { fact.count ≤ most_terms }
-    requires room { at + length (terms_text (spelled fact).1) ≤ length out.old }
-    ensures next { result ≡ at + length (terms_text (spelled fact).1) }
-    ensures buffer { out.new ≡ put_at at (terms_text (spelled fact).1) out.old }
-{
-    let count = fact.count;
-    let mut next = at;
-    let mut i: usize = 0;
-    while i < count {
-        let argument = fact.arguments[i];
-        let term = argument.term;
-        next = put_word(out, next, b" ");
-        next = put_term(out, next, term);
-        i += 1;
+    // The text as far as it is spelled.
+    pub(crate) fn text(&self) -> &[u8]
+        ensures { result.now ≡ self.now }
+    {
+        &self.text[..self.at]
     }
-    next
-}
 
-// Puts a term at a place, and gives the place after it.
-fn put_term(out: &mut [u8], at: usize, term: Term) -> usize
-    requires room { at + length (term_text term) ≤ length out.old }
-    ensures next { result ≡ at + length (term_text term) }
-    ensures buffer { out.new ≡ put_at at (term_text term) out.old }
-{
-    match term {
-        Term::Name(name) => put_marked(out, at, b"n", name as u64),
-        Term::When(time) => put_time(out, at, time),
+    // Spells the text of a procap.
+    #[tactic(auto, unfolding(crate::specs::Text::text_of))]
+    pub(crate) fn procap(&mut self, procap: &Procap)
+        requires few { procap.now.count ≤ most_facts }
+        requires room { length self.old + length (text_of procap.now) ≤ most_text }
+        ensures { self.new ≡ self.old ++ text_of procap.now }
+    {
+        self.line(b"procap=", procap.version as u64);
+        self.line(b"who=", procap.request.who as u64);
+        self.line(b"what=", procap.request.what as u64);
+        self.line(b"right=", procap.request.right as u64);
+        self.line(b"from=", procap.from);
+        self.line(b"to=", procap.to);
+        self.line(b"facts=", procap.count as u64);
+        self.facts(&procap.facts[..procap.count]);
     }
-}
 
-// Puts a time at a place, and gives the place after it.
-fn put_time(out: &mut [u8], at: usize, time: Time) -> usize
-    requires room { at + length (term_text (Term.When time)) ≤ length out.old }
-    ensures next { result ≡ at + length (term_text (Term.When time)) }
-    ensures buffer { out.new ≡ put_at at (term_text (Term.When time)) out.old }
-{
-    match time {
-        Time::Moment(second) => put_marked(out, at, b"t", second),
-        Time::MinusInfinity => put_word(out, at, b"-"),
-        Time::PlusInfinity => put_word(out, at, b"+"),
-        Time::Ctime => put_word(out, at, b"c"),
+    // Spells the two lines of a refusal.
+    #[tactic(auto, unfolding(crate::specs::Text::refusal_text))]
+    pub(crate) fn refusal(&mut self, answer: Answer)
+        requires { length self.old + length (refusal_text answer) ≤ most_text }
+        ensures { self.new ≡ self.old ++ refusal_text answer }
+    {
+        self.line(b"refused=", answer.number());
+        self.line(b"place=", answer.place() as u64);
     }
-}
 
-// Puts a line of a word and a number at a place, and gives the place after it.
-fn put_line(out: &mut [u8], at: usize, word: &[u8], number: u64) -> usize
-    requires room { at + length (line word.now number) ≤ length out.old }
-    ensures next { result ≡ at + length (line word.now number) }
-    ensures buffer { out.new ≡ put_at at (line word.now number) out.old }
-{
-    let next = put_marked(out, at, word, number);
-    put_word(out, next, b"\n")
-}
-
-// Puts a word and a number at a place, and gives the place after them.
-fn put_marked(out: &mut [u8], at: usize, word: &[u8], number: u64) -> usize
-    requires room { at + length (word.now ++ decimal number) ≤ length out.old }
-    ensures next { result ≡ at + length (word.now ++ decimal number) }
-    ensures buffer { out.new ≡ put_at at (word.now ++ decimal number) out.old }
-{
-    let next = put_word(out, at, word);
-    put_number(out, next, number)
-}
-
-// Puts the bytes of a word at a place, and gives the place after them.
-fn put_word(out: &mut [u8], at: usize, word: &[u8]) -> usize
-    requires room { at + length word.now ≤ length out.old }
-    ensures next { result ≡ at + length word.now }
-    ensures buffer { out.new ≡ put_at at word.now out.old }
-{
-    let mut i: usize = 0;
-    while i < word.len() {
-        out[at + i] = word[i];
-        i += 1;
+    // Spells the lines of facts.
+    fn facts(&mut self, facts: &[Fact])
+        requires { length self.old + length (facts_text (map spelled facts.now)) ≤ most_text }
+        ensures { self.new ≡ self.old ++ facts_text (map spelled facts.now) }
+    {
+        for fact in facts {
+            self.fact(fact);
+        }
     }
-    at + word.len()
-}
 
-// Puts the digits of a number at a place, and gives the place after them.
-fn put_number(out: &mut [u8], at: usize, number: u64) -> usize
-    requires room { at + length (decimal number) ≤ length out.old }
-    ensures next { result ≡ at + length (decimal number) }
-    ensures buffer { out.new ≡ put_at at (decimal number) out.old }
-{
-    if number < 10 {
-        out[at] = b'0' + number as u8;
-        return at + 1;
+    // Spells the line of a fact.
+    #[tactic(auto, unfolding(crate::specs::Text::fact_text, procap::specs::Facts::spelled))]
+    fn fact(&mut self, fact: &Fact)
+        requires { length self.old + length (fact_text (spelled fact.now)) ≤ most_text }
+        ensures { self.new ≡ self.old ++ fact_text (spelled fact.now) }
+    {
+        self.marked(b"fact=", fact.predicate as u64);
+        let arguments: &[Argument] = &fact.arguments;
+        self.terms(&arguments[..fact.count.min(arguments.len())]);
+        self.word(b"\n");
     }
-    let next = put_number(out, at, number / 10);
-    out[next] = b'0' + (number % 10) as u8;
-    next + 1
+
+    // Spells terms, each after a space.
+    fn terms(&mut self, arguments: &[Argument])
+        requires { length self.old + length (terms_text (map (λ a. a.term) arguments.now)) ≤ most_text }
+        ensures { self.new ≡ self.old ++ terms_text (map (λ a. a.term) arguments.now) }
+    {
+        for argument in arguments {
+            self.word(b" ");
+            self.term(argument.term);
+        }
+    }
+
+    // Spells a term.
+    #[tactic(auto, unfolding(crate::specs::Text::term_text))]
+    fn term(&mut self, term: Term)
+        requires { length self.old + length (term_text term) ≤ most_text }
+        ensures { self.new ≡ self.old ++ term_text term }
+    {
+        match term {
+            Term::Name(name) => self.marked(b"n", name as u64),
+            Term::When(Time::Moment(second)) => self.marked(b"t", second),
+            Term::When(Time::MinusInfinity) => self.word(b"-"),
+            Term::When(Time::PlusInfinity) => self.word(b"+"),
+            Term::When(Time::Ctime) => self.word(b"c"),
+        }
+    }
+
+    // Spells a line of a word and a number.
+    #[tactic(auto, unfolding(crate::specs::Text::line))]
+    fn line(&mut self, word: &[u8], number: u64)
+        requires { length self.old + length (line word.now number) ≤ most_text }
+        ensures { self.new ≡ self.old ++ line word.now number }
+    {
+        self.marked(word, number);
+        self.word(b"\n");
+    }
+
+    // Spells a word and a number.
+    fn marked(&mut self, word: &[u8], number: u64)
+        requires { length self.old + length (word.now ++ decimal number) ≤ most_text }
+        ensures { self.new ≡ self.old ++ word.now ++ decimal number }
+    {
+        self.word(word);
+        self.number(number);
+    }
+
+    // Spells the digits of a number. `write!` would hand them over in pieces through a trait, and this is as plain.
+    fn number(&mut self, number: u64)
+        requires { length self.old + length (decimal number) ≤ most_text }
+        ensures { self.new ≡ self.old ++ decimal number }
+    {
+        if number >= 10 {
+            self.number(number / 10);
+        }
+        self.word(&[b'0' + (number % 10) as u8]);
+    }
+
+    // Spells the bytes of a word.
+    fn word(&mut self, word: &[u8])
+        requires { length self.old + length word.now ≤ most_text }
+        ensures { self.new ≡ self.old ++ word.now }
+    {
+        let end = self.at + word.len();
+        self.text[self.at..end].copy_from_slice(word);
+        self.at = end;
+    }
 }

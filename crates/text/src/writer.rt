@@ -1,19 +1,19 @@
 // From a procap to its text, and from a refusal to its two lines, in a lent buffer.
-ghost use Rattle.std.specs.Prelude.{◌≡◌, ◌++◌, ◌≤◌, length, take, drop};
+ghost use Rattle.std.specs.Prelude.{◌≡◌, length};
+ghost use Rattle.std.specs.Result.{result_unwrap_or};
+ghost use Rattle.procap.specs.Outcome.{answer_of};
 ghost use Rattle.text.specs.Text.{refusal_text};
-ghost use Rattle.text.specs.Calls.{fitting, writing, Wrote};
+ghost use Rattle.text.specs.Calls.{fitting, writing, Left, Wrote};
 
-use crate::spell::{spell, spell_refusal};
+use crate::spell::Pen;
 use procap::answer::Answer;
 use procap::procap::Procap;
 use procap::writable::can_be_written;
 
 // How long a text is at the most.
 pub const MOST_TEXT: usize = 1_223;
-// How long the two lines of a refusal are at the most, whatever its place.
-const MOST_REFUSAL: usize = 38;
 
-// The answer of writing a text, and the text's length.
+// The answer of writing a text, and the text's length. A write that is refused gives length 0, so that this is no `Result`.
 #[derive(Clone, Copy)]
 pub struct WrittenText {
     pub answer: Answer,
@@ -24,57 +24,55 @@ pub struct WrittenText {
 pub fn write_text(procap: Procap, out: &mut [u8]) -> WrittenText
     ensures { Wrote (writing procap (length out.old)) out.old result out.new }
 {
-    if !can_be_written(procap) {
-        return refused(Answer::ProcapMalformed);
-    }
-    let mut text = [0u8; MOST_TEXT];
-    let length = spell(&mut text, procap);
-    hand_over(out, &text, length)
+    told(written(procap, out))
 }
 
 // Writes the two lines of a refusal at the front of the buffer: 13 for a buffer that is shorter than they are.
 pub fn write_refusal(answer: Answer, out: &mut [u8]) -> WrittenText
     ensures { Wrote (fitting (refusal_text answer) (length out.old)) out.old result out.new }
 {
-    let mut text = [0u8; MOST_REFUSAL];
-    let length = spell_refusal(&mut text, answer);
-    hand_over(out, &text, length)
+    let mut pen = Pen::new();
+    pen.refusal(answer);
+    told(hand_over(pen.text(), out))
 }
 
-// Copies the first so many bytes of a text to the front of the buffer: 13 where they do not fit.
-fn hand_over(out: &mut [u8], text: &[u8], count: usize) -> WrittenText
-    requires { count ≤ length text.now }
-    ensures { Wrote (fitting (take count text.now) (length out.old)) out.old result out.new }
+// The length of the procap's text, which is written at the front of the buffer, or the answer that refuses it.
+fn written(procap: Procap, out: &mut [u8]) -> Result<usize, Answer>
+    ensures { Left (writing procap (length out.old)) out.old result out.new }
 {
-    if out.len() < count {
-        return refused(Answer::BufferShort);
+    if !can_be_written(procap) {
+        return Err(Answer::ProcapMalformed);
     }
-    copy(out, text, count);
-    WrittenText {
-        answer: Answer::Granted,
-        length: count,
-    }
+    let mut pen = Pen::new();
+    pen.procap(&procap);
+    hand_over(pen.text(), out)
 }
 
-// What is handed back where nothing is written.
-fn refused(answer: Answer) -> WrittenText
-    ensures { result ≡ record { answer = answer; length = 0 } }
+// Copies a text to the front of the buffer, and gives its length: 13 where it does not fit.
+fn hand_over(text: &[u8], out: &mut [u8]) -> Result<usize, Answer>
+    ensures { Left (fitting text.now (length out.old)) out.old result out.new }
 {
-    WrittenText {
-        answer: answer,
-        length: 0,
+    if out.len() < text.len() {
+        return Err(Answer::BufferShort);
     }
+    out[..text.len()].copy_from_slice(text);
+    Ok(text.len())
 }
 
-// Copies the first so many bytes of a text to the front of the buffer.
-fn copy(out: &mut [u8], text: &[u8], count: usize)
-    requires text { count ≤ length text.now }
-    requires room { count ≤ length out.old }
-    ensures { out.new ≡ take count text.now ++ drop count out.old }
+// The answer and the length that are handed back for what a write came to.
+#[tactic(auto, unfolding(procap::specs::Outcome::answer_of))]
+fn told(written: Result<usize, Answer>) -> WrittenText
+    ensures answer { result.answer ≡ answer_of written }
+    ensures length { result.length ≡ result_unwrap_or written 0 }
 {
-    let mut i: usize = 0;
-    while i < count {
-        out[i] = text[i];
-        i += 1;
+    match written {
+        Ok(length) => WrittenText {
+            answer: Answer::Granted,
+            length: length,
+        },
+        Err(answer) => WrittenText {
+            answer: answer,
+            length: 0,
+        },
     }
 }

@@ -1,22 +1,9 @@
--- What is left of the word reads from here on as the word does from its place on.
-use mathlib.Core.Path.{refl, ◌∙◌}
-use native.Mathlib.Omega.{arith}
-use Rattle.text.proofs.Lines.{word_same, word_other, word_past, word_end}
+-- A text that begins with the word at a place has just its bytes there.
+use Rattle.text.proofs.Words.{word_here, no_word_here}
 use Rattle.text.proofs.line.after.Goals as goal
 
-pub loop-i-init : goal.loop-i-init
-loop-i-init c = (omega arith, refl)
+pub returns-then-starts_with : goal.returns-then-starts_with
+returns-then-starts_with c = word_here _ _ _ _ c.min.ensures c.if-starts_with.ensures.value
 
-pub returns-then-text-next : goal.returns-then-text-next
-returns-then-text-next c = c.loop-i.invariant.1 ∙ word_past _ _ _ _ c.loop-i-test.true c.if-text-next.true
-
-pub returns-then-text-next-2 : goal.returns-then-text-next-2
-returns-then-text-next-2 c =
-    c.loop-i.invariant.1 ∙ word_other _ _ _ _ c.loop-i-test.true c.if-text-next.false c.if-text-next-2.true
-
-pub loop-i-preserved : goal.loop-i-preserved
-loop-i-preserved c =
-    (omega arith, c.loop-i.invariant.1 ∙ word_same _ _ _ _ c.loop-i-test.true c.if-text-next.false c.if-text-next-2.false)
-
-pub returns : goal.returns
-returns c = c.loop-i.invariant.1 ∙ word_end _ _ _ _ c.loop-i-test.false
+pub returns-else-starts_with : goal.returns-else-starts_with
+returns-else-starts_with c = no_word_here _ _ _ _ c.min.ensures c.if-starts_with.ensures.value

@@ -1,15 +1,20 @@
 -- The byte at the place is a digit where it stands between '0' and '9'.
-use Rattle.text.proofs.Digits.{digit_here, no_digits_past, no_digit_below, no_digit_above}
+use mathlib.Core.Path.{sym}
+use Rattle.text.specs.Numbers.{is_digit}
+use Rattle.text.proofs.Digits.{digit_here, no_digit_here, no_digits_past}
 use Rattle.text.proofs.line.digit_at.Goals as goal
 
-pub returns-then-text-at : goal.returns-then-text-at
-returns-then-text-at c = no_digits_past _ _ c.if-text-at.true
+pub returns-in_err-byte : goal.returns-in_err-byte
+returns-in_err-byte c = rw c.from_residual.ensures (no_digits_past _ _ c.in_err-byte.ensures.lookup.3)
 
-pub returns-then-byte-lt48 : goal.returns-then-byte-lt48
-returns-then-byte-lt48 c = no_digit_below _ _ c.if-text-at.false c.if-byte-lt48.true
+pub returns-then-is_ascii_digit : goal.returns-then-is_ascii_digit
+unfolding is_digit
+returns-then-is_ascii_digit c =
+    let here = c.in_ok-byte.ensures.lookup.3 in
+    rw c.from.ensures (digit_here _ _ _ here.0 (here.1 0) (sym c.if-is_ascii_digit.ensures.value))
 
-pub returns-then-byte-gt57 : goal.returns-then-byte-gt57
-returns-then-byte-gt57 c = no_digit_above _ _ c.if-text-at.false c.if-byte-gt57.true
-
-pub returns : goal.returns
-returns c = digit_here _ _ c.if-text-at.false c.if-byte-lt48.false c.if-byte-gt57.false
+pub returns-else-is_ascii_digit : goal.returns-else-is_ascii_digit
+unfolding is_digit
+returns-else-is_ascii_digit c =
+    let here = c.in_ok-byte.ensures.lookup.3 in
+    no_digit_here _ _ _ here.0 (here.1 0) (sym c.if-is_ascii_digit.ensures.value)

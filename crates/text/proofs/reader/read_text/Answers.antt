@@ -5,19 +5,15 @@ use Rattle.text.proofs.Readings.{procap_made, none_handed, some_handed}
 use Rattle.text.proofs.Overviews.{overview_missing, overview_found}
 use Rattle.text.proofs.reader.read_text.Goals as goal
 
-pub returns-then-not-seen : goal.returns-then-not-seen
-returns-then-not-seen c =
-    let handed = none_handed _ _ (c.no_text.ensures.answer, c.no_text.ensures.procap)
-    (overview_missing _ c.look_over-seen.result c.look_over-seen.ensures c.if-not-seen.true) in
+pub returns-in_default : goal.returns-in_default
+returns-in_default c =
+    let handed = none_handed _ _ (refl, c.empty.ensures) (overview_missing _ c.in_default.ensures) in
     record { answer = handed.0; procap = handed.1 }
-
-pub facts_on-requires : goal.facts_on-requires
-facts_on-requires c = (overview_found _ c.look_over-seen.result c.look_over-seen.ensures c.if-not-seen.false).few
 
 pub returns : goal.returns
 returns c =
-    let found = overview_found _ c.look_over-seen.result c.look_over-seen.ensures c.if-not-seen.false in
+    let found = overview_found _ _ c.in-Some.ensures in
     let handed = some_handed _ _ _ refl
-    (procap_made _ _ _ _ _ found.facts found.counted (c.facts_on.ensures found.facts found.on))
+    (procap_made _ _ _ _ _ found.facts found.counted (c.facts_on.ensures found.facts (rw c.places.ensures found.on)))
     found.says in
     record { answer = handed.0; procap = handed.1 }

@@ -1,16 +1,18 @@
--- The two lines are spelled into an array with room for those of every refusal, and handed over from there.
+-- The two lines are spelled where there is room for every text, handed over from there, and what that came to is handed back.
+use mathlib.Core.Path.{◌≡◌, ap, ◌∙◌}
+use mathlib.Core.List.{◌++◌}
 use native.Mathlib.Omega.{arith}
-use Rattle.text.proofs.Putting.{front_taken}
+use lib.ListN.{length}
+use Rattle.text.specs.Text.{refusal_text}
 use Rattle.text.proofs.Longest.{refusal_at_most_38}
+use Rattle.text.proofs.Written.{handed_back}
 use Rattle.text.proofs.writer.write_refusal.Goals as goal
 
-pub spell_refusal-length-requires : goal.spell_refusal-length-requires
-spell_refusal-length-requires c = record { room = refusal_at_most_38 c.args.answer }
-
-pub hand_over-requires : goal.hand_over-requires
-hand_over-requires c = let few = refusal_at_most_38 c.args.answer in omega arith
+pub refusal-requires : goal.refusal-requires
+refusal-requires c = omega (arith, ap length c.new-pen.ensures, refusal_at_most_38 c.args.answer)
 
 pub returns : goal.returns
 returns c =
-    let call = c.spell_refusal-length in
-    rw (front_taken _ _ call.new.out call.result call.ensures.length call.ensures.buffer) at c.hand_over.ensures
+    let text : c.text.result.now ≡ refusal_text c.args.answer =
+    c.text.ensures ∙ c.refusal.ensures ∙ ap (λ bs. bs ++ refusal_text c.args.answer) c.new-pen.ensures in
+    handed_back _ _ _ _ _ (rw text at c.hand_over.ensures) c.told.ensures.answer c.told.ensures.length

@@ -1,0 +1,11 @@
+-- What is read from the line of a fact is this fact.
+use mathlib.Core.Path.{sym, ◌∙◌}
+use Rattle.std.proofs.lemmas.Option.{none-some}
+use Rattle.text.proofs.OnLines.{read_is}
+use Rattle.text.proofs.fact_places.fact_on.Goals as goal
+
+pub returns-in-Some : goal.returns-in-Some
+returns-in-Some c f e k = read_is _ _ c.in-Some.ensures f e k
+
+pub returns-in-None : goal.returns-in-None
+returns-in-None c f e k = absurd (none-some _ (sym c.in-None.ensures ∙ k))
