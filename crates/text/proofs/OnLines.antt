@@ -35,7 +35,7 @@ module _ (text : List ℕ) where
   on_length (p ∷ ps) (f ∷ fs) h = ap suc (on_length ps fs h.1)
 
   -- On each line stands the fact of its index.
-  on_at : (ps : List ℕ) (fs : List Spelled) (k : ℕ) → k < length ps → OnLines text ps fs → (e : ℕ) × ReadsAt text (get_or ps k 0) (fact_in fs k) e
+  pub on_at : (ps : List ℕ) (fs : List Spelled) (k : ℕ) → k < length ps → OnLines text ps fs → (e : ℕ) × ReadsAt text (get_or ps k 0) (fact_in fs k) e
   unfolding OnLines
   on_at [] fs k l h = absurd (omega arith)
   on_at (p ∷ ps) [] k l h = absurd h

@@ -3,9 +3,9 @@ ghost use Rattle.std.specs.Prelude.{◌≡◌, ◌≤◌, length, take};
 ghost use Rattle.procap.specs.Procaps.{most_facts};
 ghost use Rattle.procap.specs.Bytes.{many};
 ghost use Rattle.text.specs.Reader.{fact_line};
-ghost use Rattle.text.specs.Places.{LinesReads, StandsBefore, SameLine, FactOn, FactsOn};
+ghost use Rattle.text.specs.Places.{LinesReads, StandsBefore, SameLine, FactsOn};
 
-use crate::facts::fact_at;
+use crate::facts::{fact_at, fact_on};
 use procap::fact::Fact;
 use procap::procap::MOST_FACTS;
 
@@ -100,14 +100,4 @@ pub(crate) fn facts_on(text: &[u8], places: &[usize]) -> [Fact; MOST_FACTS]
         facts[i] = fact_on(text, *place);
     }
     facts
-}
-
-// The fact on the line at a place, or zeros where none stands there.
-fn fact_on(text: &[u8], at: usize) -> Fact
-    ensures { FactOn text.now at result }
-{
-    match fact_at(text, at) {
-        Some((fact, _)) => fact,
-        None => Fact::none(),
-    }
 }

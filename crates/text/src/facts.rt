@@ -2,6 +2,7 @@
 ghost use Rattle.std.specs.Prelude.{◌≡◌};
 ghost use Rattle.procap.specs.Facts.{most_terms};
 ghost use Rattle.procap.specs.Reading.{FactReads, with_predicate};
+ghost use Rattle.text.specs.Places.{FactOn};
 ghost use Rattle.text.specs.Reader.{«term», «terms», fact_line};
 
 use crate::line::{after, number};
@@ -16,6 +17,16 @@ pub fn fact_at(text: &[u8], at: usize) -> Option<(Fact, usize)>
     let after_word = after(text, at, b"fact=")?;
     let (predicate, after_predicate) = number(text, after_word, LARGEST_NAME)?;
     fact_with(text, predicate as u16, after_predicate)
+}
+
+// The fact on the line at a place, or zeros where none stands there.
+pub fn fact_on(text: &[u8], at: usize) -> Fact
+    ensures { FactOn text.now at result }
+{
+    match fact_at(text, at) {
+        Some((fact, _)) => fact,
+        None => Fact::none(),
+    }
 }
 
 // The fact of a predicate and the terms from a place up to the line's end.

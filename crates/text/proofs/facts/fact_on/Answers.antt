@@ -2,7 +2,7 @@
 use mathlib.Core.Path.{sym, ◌∙◌}
 use Rattle.std.proofs.lemmas.Option.{none-some}
 use Rattle.text.proofs.OnLines.{read_is}
-use Rattle.text.proofs.fact_places.fact_on.Goals as goal
+use Rattle.text.proofs.facts.fact_on.Goals as goal
 
 pub returns-in-Some : goal.returns-in-Some
 returns-in-Some c f e k = read_is _ _ c.in-Some.ensures f e k
