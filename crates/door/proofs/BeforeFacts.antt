@@ -1,11 +1,10 @@
--- What comes before the facts, all of it at once: nothing does exactly where each of its tests is passed. Of a procap that can be written an
--- answer from there that is no 0 is the door's, and after a 0 the facts decide, in what the state says.
+-- What comes before the facts, all of it at once: nothing does exactly where each of its tests is passed. Of a procap that can be written
+-- what stops a press there is what the door comes to, and else the facts decide, in what the state says.
 use Prim.Native.Nat.{ℕ, ◌≤◌}
 use mathlib.Core.Path.{◌≡◌, sym, ap, refl, ◌∙◌}
 use mathlib.Core.List.{List}
 use Rattle.std.specs.Prelude.{Err, Ok, Some}
 use native.Mathlib.Decide.{dec_le}
-use native.Mathlib.Omega.{arith}
 use Rattle.procap.specs.Times.{latest}
 use Rattle.procap.specs.Facts.{Spelled}
 use Rattle.procap.specs.Procaps.{listed}
@@ -18,9 +17,8 @@ use Rattle.procap.specs.declared.answer.Answer.{Answer}
 use Rattle.procap.specs.declared.answer.Answer.TheVariants.{RequestDiffers, MomentOutside, ProcapMalformed}
 use Rattle.procap.specs.declared.procap.Request.{Request}
 use Rattle.procap.specs.declared.procap.Procap.{Procap}
-use Rattle.procap.proofs.Granted.{same_grant, went_on, goes_on, was_so, is_so, press_read, reads_press}
+use Rattle.procap.proofs.Granted.{same_grant, no_grant, went_on, goes_on, was_so, is_so, press_read, reads_press}
 use Rattle.door.specs.Door.{each_holds, NamesMissing, before_facts, opening}
-use Rattle.door.proofs.Answering.{RefusesWell, before_refuses}
 
 -- What is refused with a number that is no 0 is not gone on from.
 pub stays_refused : {A B : Type 0} (x : Outcome A) (f : A → Outcome B) (answer : Answer) → answer ≡ answer_of x → (number_of answer ≡ 0 → ⊥)
@@ -52,15 +50,16 @@ module _ (asked : Request) (from to : ℕ) (r : Request) (m : ℕ) (state : List
       (rw (is_so RequestDiffers (request? r asked) own)
       (rw (is_so MomentOutside (dec_le from m) since) (rw (is_so MomentOutside (dec_le m to) until) refl)))
 
-  -- Nothing comes before the facts where the answer's number is 0.
-  left : (early : Answer) → early ≡ answer_of (before_facts asked from to r m state) → number_of early ≡ 0
-      → (σ : List Spelled) × (before_facts asked from to r m state ≡ Ok σ)
-  unfolding answer_of
-  left early e zero = by (before_facts asked from to r m state) (before_refuses asked from to r m state) e
-    where
-      by : (x : Outcome (List Spelled)) → RefusesWell x → early ≡ answer_of x → (σ : List Spelled) × (x ≡ Ok σ)
-      by (Ok σ) h e = (σ, refl)
-      by (Err answer) h e = let same = sym zero ∙ ap number_of e in absurd (omega (arith, h.0, same))
+-- What an outcome is of which only the refusal was kept: refused with the same answer, or some grant.
+pub stopped : {A : Type 0} (x : Outcome A) (answer : Answer) → ◌≡◌ {A = Outcome (Unit {0})} (Err answer) (go_on x (λ _. Ok tt)) → x ≡ Err answer
+unfolding go_on
+stopped (Ok a) answer e = no_grant e
+stopped (Err b) answer e = let same : answer ≡ b = cc in cc
+
+pub let_through : {A : Type 0} (x : Outcome A) → ◌≡◌ {A = Outcome (Unit {0})} (Ok tt) (go_on x (λ _. Ok tt)) → (a : A) × (x ≡ Ok a)
+unfolding go_on
+let_through (Ok a) e = (a, refl)
+let_through (Err b) e = no_grant (sym e)
 
 module _ (p : Procap) (w : Writable p) (r : Request) (m : ℕ) (state : List ℕ) where
   -- A procap that can be written leaves the door to what comes before the facts, and then to these.
@@ -68,15 +67,16 @@ module _ (p : Procap) (w : Writable p) (r : Request) (m : ℕ) (state : List ℕ
   unfolding opening
   past_twelve = goes_on _ _ tt (is_so ProcapMalformed (writable? p) w)
 
-  module _ (early : Answer) (given : early ≡ answer_of (before_facts p.request p.from p.to r m state)) where
-    -- What comes before the facts is the answer,
-    pub by_what_comes_before : (number_of early ≡ 0 → ⊥) → early ≡ answer_of (opening p r m state)
-    by_what_comes_before n = stays_refused _ (λ σ. each_holds m σ 0 (listed p)) early given n ∙ ap answer_of (sym past_twelve)
+  -- What stops the press before the facts is what the door comes to,
+  pub by_what_comes_before : (answer : Answer) → ◌≡◌ {A = Outcome (Unit {0})} (Err answer) (go_on (before_facts p.request p.from p.to r m state) (λ _. Ok tt))
+      → opening p r m state ≡ Err answer
+  unfolding go_on
+  by_what_comes_before answer e = rw (past_twelve, stopped _ answer e) refl
 
-    -- and else the facts give it.
-    pub by_the_facts : number_of early ≡ 0 → (answer : Answer) → NamesMissing m state (listed p) answer → answer ≡ answer_of (opening p r m state)
-    by_the_facts zero answer named =
-        let (σ, e) = left p.request p.from p.to r m state early given zero in
-        was_passed p.request p.from p.to r m state σ e λ _ reads _ _ _.
-        named σ reads
-        ∙ ap answer_of (sym (past_twelve ∙ goes_on _ (λ σ. each_holds m σ 0 (listed p)) σ e))
+  -- and else the facts say it.
+  pub by_the_facts : ◌≡◌ {A = Outcome (Unit {0})} (Ok tt) (go_on (before_facts p.request p.from p.to r m state) (λ _. Ok tt)) → (x : Outcome (Unit {0}))
+      → NamesMissing m state (listed p) x → x ≡ opening p r m state
+  by_the_facts e x named =
+      let (σ, f) = let_through _ e in
+      was_passed p.request p.from p.to r m state σ f λ _ reads _ _ _.
+      named σ reads ∙ sym (past_twelve ∙ goes_on _ (λ σ. each_holds m σ 0 (listed p)) σ f)

@@ -1,11 +1,13 @@
--- A pass over a state that ends where the wanted fact is found: none of the facts before the place is the wanted one, so it stands in the state if
--- it is the next, and if no fact is left it does not.
+-- A pass over a state that ends where the wanted fact is found: none of the facts before the place is the wanted one, so it stands in the
+-- state if it is the next, and if no fact is left it does not.
 use Prim.Native.Nat.{ℕ, suc, ◌≤◌, ◌<◌}
 use mathlib.Core.Bool.{Bool, false}
 use mathlib.Core.Path.{◌≡◌, refl, sym, ap, ◌∙◌}
 use mathlib.Core.List.{List}
 use Rattle.std.proofs.lemmas.Option.{none-some}
 use Rattle.std.specs.Prelude.{None, Option, Some}
+use native.Mathlib.Decide.{dec_le}
+use native.Mathlib.Omega.{arith}
 use lib.ListN.{length}
 use lib.Dec.{leb}
 use Rattle.procap.specs.Tells.{Tells}
@@ -54,7 +56,7 @@ module _ (bytes : List ℕ) (wanted : Spelled) (at : ℕ) (h : NoneBefore bytes 
         by (Some r) m = (r.0, r.1, m)
 
     -- It has a predicate.
-    pub predicate_there : at < length bytes → number bytes 2 at ≡ None → ⊥
+    predicate_there : at < length bytes → number bytes 2 at ≡ None → ⊥
     predicate_there l m = let (f, e, r) = next_fact l in not_read (fact bytes at) (no_predicate bytes at m) r
 
     -- Where it is the wanted one, that stands in the state.
@@ -65,11 +67,19 @@ module _ (bytes : List ℕ) (wanted : Spelled) (at : ℕ) (h : NoneBefore bytes 
         in_all wanted more.passed (facts bytes more.rounds e) σ (length bytes) (sym more.left ∙ all_said) more.told
 
     -- At the end the wanted one was not there.
-    pub not_there : length bytes ≤ at → In wanted σ → ⊥
+    not_there : length bytes ≤ at → In wanted σ → ⊥
     not_there l i =
         let read = h.passed σ s in
         let same = same_read _ all_said (all_facts_read bytes wanted false at read l) in
         read.told (rw same.0 at i)
+
+    -- So it was not there where no predicate is left.
+    pub none_left : number bytes 2 at ≡ None → In wanted σ → ⊥
+    none_left m i = by (dec_le (length bytes) at)
+      where
+        by : Dec (length bytes ≤ at) → ⊥
+        by (yes l) = not_there l i
+        by (no n) = predicate_there (omega arith) m
 
   -- Where the next fact is another one, none up to its end is the wanted one.
   pub next_is_another : at < length bytes → (next : ℕ) → ((f : Spelled) (e : ℕ) → fact bytes at ≡ Some (f, e) → wanted ≡ f → ⊥)

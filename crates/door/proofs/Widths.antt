@@ -1,33 +1,35 @@
--- Where a term and a fact of a state end, which their tags and their count tell: a term's width goes by its tag, and a fact ends with its last term.
+-- Where a term and a fact of a state end, which their tags and their count tell: a term's width goes by its tag, and a fact ends with its
+-- last term.
 use Prim.Native.Nat.{ℕ, suc, ◌+◌, ◌-◌, ◌≤◌, ◌<◌}
 use mathlib.Core.Bool.{Bool, true, false}
 use mathlib.Core.Path.{◌≡◌, refl, sym, ap, ◌∙◌}
 use mathlib.Core.List.{List}
-use Rattle.std.specs.Prelude.{None, Some}
+use Rattle.std.specs.Prelude.{Err, None, Ok, Option, Result, Some, ok_or}
 use native.Mathlib.Omega.{arith}
 use lib.ListN.{length, get_or}
 use Rattle.procap.specs.Facts.{Spelled}
 use Rattle.procap.specs.Bytes.{many, number, byte, term_tag, term_by, predicate_and}
 use Rattle.procap.specs.States.{settled, settled_term, fact}
 use Rattle.procap.specs.declared.fact.Term.{Term}
+use Rattle.procap.specs.declared.tag.NoTag.{NoTag}
 use Rattle.procap.specs.declared.tag.TermTag.{TermTag}
-use Rattle.procap.specs.declared.tag.TermTag.TheVariants.{NameTag, MomentTag, MinusInfinityTag, PlusInfinityTag, CtimeTag, VariableTag, NoTermTag}
+use Rattle.procap.specs.declared.tag.TermTag.TheVariants.{NameTag, MomentTag, MinusInfinityTag, PlusInfinityTag, CtimeTag, VariableTag}
 use Rattle.procap.proofs.Numbers.{number_read}
 use Rattle.procap.proofs.Readers.{IfRead, unread, read, so_read, then_read, ensure_read, Ends, number_ends}
 use Rattle.procap.proofs.ReadApart.{if_read, as_read, same_read, not_read, first_of, none_of}
-use Rattle.state.proofs.Terms.{unsettled, by_tag}
+use Rattle.door.specs.Holding.{width}
+use Rattle.state.proofs.Terms.{no_term, unsettled, by_tag}
 
 -- ── A term ──
 
--- How many bytes a term takes, by its tag.
-abbrev pub width : TermTag → ℕ
-width NameTag = 3
-width MomentTag = 6
-width MinusInfinityTag = 1
-width PlusInfinityTag = 1
-width CtimeTag = 1
-width VariableTag = 1
-width NoTermTag = 1
+-- What a byte's tag is where the code finds one, and where it finds none.
+pub tag_found : (o : Option TermTag) {e : NoTag} {r : Result TermTag NoTag} {tag : TermTag} → r ≡ ok_or o e → r ≡ Ok tag → o ≡ Some tag
+tag_found None h k = cc
+tag_found (Some t) h k = cc
+
+pub tag_missing : (o : Option TermTag) {e f : NoTag} {r : Result TermTag NoTag} → r ≡ ok_or o e → r ≡ Err f → o ≡ None
+tag_missing None h k = refl
+tag_missing (Some t) h k = cc
 
 module _ (bytes : List ℕ) where
   -- A number of k bytes ends k places on.
@@ -35,6 +37,10 @@ module _ (bytes : List ℕ) where
   number_width k at n e h =
       let inside = so_read (number bytes k at) h (number_ends bytes k at) in
       (same_read (number bytes k at) (number_read bytes k at _ (omega arith) refl) h).1
+
+  -- And there are so many bytes.
+  pub number_inside : (k at n e : ℕ) → number bytes k at ≡ Some (n, e) → at + k ≤ length bytes
+  number_inside k at n e h = let inside = so_read (number bytes k at) h (number_ends bytes k at) in omega (arith, inside.0, inside.1)
 
   -- So what a tag announces ends where the tag's width says.
   by_tag_ends : (tag : TermTag) (at : ℕ) → Ends (λ e. at + width tag ≡ e) (term_by bytes tag (at + 1))
@@ -45,15 +51,18 @@ module _ (bytes : List ℕ) where
   by_tag_ends PlusInfinityTag at = read refl
   by_tag_ends CtimeTag at = read refl
   by_tag_ends VariableTag at = unread
-  by_tag_ends NoTermTag at = unread
 
-  pub term_width : (at : ℕ) (tag kind : TermTag) → at < length bytes → tag ≡ term_tag (get_or bytes at 0) → tag ≡ kind
-      → (t : Term) (e : ℕ) → settled_term bytes at ≡ Some (t, e) → at + width kind ≡ e
-  term_width at tag kind l h is t e s = rw is at (by (settled tag) refl)
-    where
-      by : (b : Bool) → settled tag ≡ b → at + width tag ≡ e
-      by true q = so_read (term_by bytes tag (at + 1)) (sym (by_tag bytes at tag l h q) ∙ s) (by_tag_ends tag at)
-      by false q = absurd (not_read (settled_term bytes at) (unsettled bytes at tag l h q) s)
+  module _ (at b : ℕ) (l : at < length bytes) (same : get_or bytes at 0 ≡ b) where
+    -- A byte that is no tag begins no term.
+    pub no_width : term_tag b ≡ None → (t : Term) (e : ℕ) → settled_term bytes at ≡ Some (t, e) → ⊥
+    no_width n t e s = not_read (settled_term bytes at) (no_term bytes at b l same n) s
+
+    pub term_width : (tag : TermTag) → term_tag b ≡ Some tag → (t : Term) (e : ℕ) → settled_term bytes at ≡ Some (t, e) → at + width tag ≡ e
+    term_width tag h t e s = by (settled tag) refl
+      where
+        by : (b : Bool) → settled tag ≡ b → at + width tag ≡ e
+        by true q = so_read (term_by bytes tag (at + 1)) (sym (by_tag bytes at b l same tag h q) ∙ s) (by_tag_ends tag at)
+        by false q = absurd (not_read (settled_term bytes at) (unsettled bytes at b l same tag h q) s)
 
 -- ── The terms of a fact ──
 

@@ -1,106 +1,90 @@
-// The door on a procap that can be written.
-ghost use Rattle.std.specs.Prelude.{◌≡◌, ◌≤◌};
+// What stops a press: what comes before the facts of a procap, and the first of them that does not hold.
+ghost use Rattle.std.specs.Prelude.{◌≡◌, ◌<◌, List, ℕ, Ok};
 ghost use Rattle.procap.specs.Tells.{Tells};
-ghost use Rattle.procap.specs.Procaps.{listed, most_facts, request_of};
-ghost use Rattle.procap.specs.Writable.{Writable};
-ghost use Rattle.procap.specs.Outcome.{answer_of};
-ghost use Rattle.door.specs.Door.{NamesMissing, before_facts, opening};
+ghost use Rattle.procap.specs.Facts.{Spelled};
+ghost use Rattle.procap.specs.Outcome.{answer_of, go_on};
+ghost use Rattle.door.specs.Door.{GivesFacts, NamesMissing, before_facts, request_in};
 
 use crate::holding::holds_at;
 use procap::answer::Answer;
-use procap::procap::{Procap, Request};
+use procap::fact::Fact;
+use procap::procap::Request;
 use procap::time::LATEST_SECOND;
 use state::well_formed;
 
-// What the door answers to a press for a request of three numbers, at a moment in a state.
-pub(crate) fn decide(
-    procap: Procap,
-    who: u64,
-    what: u64,
-    right: u64,
-    moment: u64,
-    state: &[u8],
-) -> Answer
-    requires { Writable procap }
-    ensures { result ≡ answer_of (opening procap (request_of who what right) moment state.now) }
-{
-    let request = procap.request;
-    let early = before_facts(
-        request,
-        procap.from,
-        procap.to,
-        who,
-        what,
-        right,
-        moment,
-        state,
-    );
-    if early.number() != 0 {
-        return early;
-    }
-    first_missing(procap, moment, state)
+// The request of a press: three numbers, which may be no names.
+#[derive(Clone, Copy)]
+pub(crate) struct RequestNumbers {
+    pub who: u64,
+    pub what: u64,
+    pub right: u64,
 }
 
-// What the door answers before it looks at the facts of a procap with this request and these moments: 11, 7, 8, 9, or that they decide.
+impl RequestNumbers {
+    // Whether the three numbers are those of the request.
+    fn ask_for(self, request: Request) -> bool
+        ensures { Tells result (request_in self ≡ request) }
+    {
+        self.who == u64::from(request.who)
+            && self.what == u64::from(request.what)
+            && self.right == u64::from(request.right)
+    }
+}
+
+// What stops a press before the door looks at the facts of a procap with this request and these moments: 11, 7, 8 or 9.
 pub(crate) fn before_facts(
     asked: Request,
     from: u64,
     to: u64,
-    who: u64,
-    what: u64,
-    right: u64,
+    request: RequestNumbers,
     moment: u64,
     state: &[u8],
-) -> Answer
-    ensures { result ≡ answer_of (before_facts asked from to (request_of who what right) moment state.now) }
+) -> Result<(), Answer>
+    ensures { result ≡ go_on (before_facts asked from to (request_in request) moment state.now) (λ _. Ok tt) }
 {
     if LATEST_SECOND < moment {
-        return Answer::MomentAboveLatest;
+        return Err(Answer::MomentAboveLatest);
     }
     if !well_formed(state) {
-        return Answer::StateMalformed;
+        return Err(Answer::StateMalformed);
     }
-    if !asks_for(asked, who, what, right) {
-        return Answer::RequestDiffers;
+    if !request.ask_for(asked) {
+        return Err(Answer::RequestDiffers);
     }
     if moment < from {
-        return Answer::MomentOutside;
+        return Err(Answer::MomentOutside);
     }
     if to < moment {
-        return Answer::MomentOutside;
+        return Err(Answer::MomentOutside);
     }
-    Answer::Granted
+    Ok(())
 }
 
-// Whether the request is the one of these three numbers.
-fn asks_for(request: Request, who: u64, what: u64, right: u64) -> bool
-    ensures { Tells result (request_of who what right ≡ request) }
+// What stops a press at the facts, of which there are so many, each given by its index: 10 at the first that does not hold.
+pub(crate) fn first_missing<F: Fn(usize) -> Fact>(
+    count: usize,
+    fact: F,
+    moment: u64,
+    state: &[u8],
+) -> Result<(), Answer>
+    requires { (i : ℕ) → i < count → F.pre fact i }
+    ensures { (fs : List Spelled) → GivesFacts (F.post fact) count fs → NamesMissing moment state.now fs result }
 {
-    if request.who as u64 != who {
-        return false;
-    }
-    if request.what as u64 != what {
-        return false;
-    }
-    if request.right as u64 != right {
-        return false;
-    }
-    true
-}
-
-// The answer that names the first fact of the procap that does not hold, or that the door opens.
-fn first_missing(procap: Procap, moment: u64, state: &[u8]) -> Answer
-    requires { procap.count ≤ most_facts }
-    ensures { NamesMissing moment state.now (listed procap) result }
-{
-    let count = procap.count;
-    let mut i: usize = 0;
-    while i < count {
-        let fact = procap.facts[i];
-        if !holds_at(state, fact, moment) {
-            return Answer::FactMissing(i);
+    for i in 0..count {
+        if !holds_at(state, fact(i), moment) {
+            return Err(Answer::FactMissing(i));
         }
-        i += 1;
     }
-    Answer::Granted
+    Ok(())
+}
+
+// The answer that is given back: what stops the press, or that the door opens.
+#[tactic(auto, unfolding(procap::specs::Outcome::answer_of))]
+pub(crate) fn answer_of(stopped: Result<(), Answer>) -> Answer
+    ensures { result ≡ answer_of stopped }
+{
+    match stopped {
+        Ok(()) => Answer::Granted,
+        Err(answer) => answer,
+    }
 }

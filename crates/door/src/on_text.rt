@@ -1,55 +1,41 @@
 // The door on a procap text: the call of the desk firmware.
-ghost use Rattle.std.specs.Prelude.{◌≡◌, ◌≤◌, ◌<◌};
-ghost use Rattle.procap.specs.Procaps.{most_facts, request_of};
+ghost use Rattle.std.specs.Prelude.{◌≡◌, ◌<◌};
+ghost use Rattle.procap.specs.Procaps.{request_of};
 ghost use Rattle.procap.specs.Answers.{place_of};
 ghost use Rattle.procap.specs.Outcome.{answer_of};
-ghost use Rattle.door.specs.Door.{opening_text, NamesMissingOn, packed};
+ghost use Rattle.door.specs.Door.{opening_text, packed, request_in};
 
-use crate::decide::before_facts;
-use crate::holding::holds_at;
+use crate::decide::{RequestNumbers, answer_of, before_facts, first_missing};
 use procap::answer::Answer;
-use procap::procap::MOST_FACTS;
-use text::facts::fact_at;
+use text::facts::fact_on;
 use text::reader::look_over;
 
-// [D6, D7] What the door answers, as 256 times the number plus the place. 12 comes first, for bytes that are no text; a number that is no name is in no request.
+// [D6, D7] What the door answers, as 256 times the number plus the place. 12 comes first, for bytes that are no text; a number that is no
+// name is in no request.
 pub fn procap_door(text: &[u8], who: u64, what: u64, right: u64, moment: u64, state: &[u8]) -> u64
     ensures { result ≡ packed (answer_of (opening_text text.now (request_of who what right) moment state.now)) }
 {
-    let seen = look_over(text);
-    if !seen.found {
-        return as_number(Answer::ProcapMalformed);
-    }
-    let request = seen.request;
-    let early = before_facts(request, seen.from, seen.to, who, what, right, moment, state);
-    if early.number() != 0 {
-        return as_number(early);
-    }
-    let places = seen.places;
-    as_number(first_line_missing(text, places, seen.count, moment, state))
+    let request = RequestNumbers {
+        who: who,
+        what: what,
+        right: right,
+    };
+    as_number(answer_of(opening_text(text, request, moment, state)))
 }
 
-// The answer that names the first fact, of those on the lines at the first so many places, that does not hold, or that the door opens.
-fn first_line_missing(
+// What stops a press, or nothing: the facts are read again from their lines.
+fn opening_text(
     text: &[u8],
-    places: [usize; MOST_FACTS],
-    count: usize,
+    request: RequestNumbers,
     moment: u64,
     state: &[u8],
-) -> Answer
-    requires { count ≤ most_facts }
-    ensures { NamesMissingOn text places count moment state result }
+) -> Result<(), Answer>
+    ensures { result ≡ opening_text text.now (request_in request) moment state.now }
 {
-    let mut i: usize = 0;
-    while i < count {
-        let read = fact_at(text, places[i]);
-        let fact = read.fact;
-        if !holds_at(state, fact, moment) {
-            return Answer::FactMissing(i);
-        }
-        i += 1;
-    }
-    Answer::Granted
+    let seen = look_over(text).ok_or(Answer::ProcapMalformed)?;
+    before_facts(seen.request, seen.from, seen.to, request, moment, state)?;
+    let places = seen.lines.places();
+    first_missing(places.len(), |i| fact_on(text, places[i]), moment, state)
 }
 
 // The answer as 256 times its number plus its place.

@@ -1,22 +1,18 @@
 -- The loop has passed the facts that hold; one that does not is the first missing.
-use borrow.Author.Rules.{rules}
 use Rattle.procap.proofs.Telling.{holds, fails}
-use Rattle.procap.proofs.Indices.{mapped}
-use Rattle.door.proofs.Missing.{none_passed, one_more_listed, listed_missing, all_listed_passed}
+use Rattle.door.proofs.Missing.{none_given, one_more_given, given_missing, all_given_passed}
 use Rattle.door.proofs.decide.first_missing.Goals as goal
 
 pub loop-i-init : goal.loop-i-init
-loop-i-init c = none_passed _ _ _
+loop-i-init g c = none_given
 
 pub returns-then-not-holds_at : goal.returns-then-not-holds_at
-returns-then-not-holds_at c =
-    let told = c.holds_at in
-    listed_missing _ _ _ (search mapped) (search rules) _ (search rules) (search rules) (λ σ s. fails told.result c.if-not-holds_at.true (told.ensures σ s))
+returns-then-not-holds_at g c =
+    given_missing c.loop-i.invariant c.loop-i-test.true _ c.fact.ensures (λ σ s. fails _ c.if-not-holds_at.true (c.holds_at.ensures σ s))
 
 pub loop-i-preserved : goal.loop-i-preserved
-loop-i-preserved c =
-    let told = c.holds_at in
-    one_more_listed _ _ _ (search mapped) (search rules) _ (search rules) (search rules) (λ σ s. holds told.result c.if-not-holds_at.false (told.ensures σ s))
+loop-i-preserved g c =
+    one_more_given c.loop-i.invariant c.loop-i-test.true _ c.fact.ensures (λ σ s. holds _ c.if-not-holds_at.false (c.holds_at.ensures σ s))
 
 pub returns : goal.returns
-returns c = all_listed_passed _ _ _ (search mapped) (search rules) _ c.loop-i.invariant c.loop-i-test.false
+returns g c = all_given_passed c.loop-i.invariant c.loop-i-test.false

@@ -1,11 +1,6 @@
 -- The loop has passed the facts that hold; one that does not is the first missing.
-use Prim.Native.Nat.{◌-◌}
-use Rattle.procap.specs.Procaps.{listed}
-use Rattle.door.proofs.Missing.{Passed}
+use Rattle.door.proofs.Missing.{GivenPassed}
 use Rattle.door.proofs.decide.first_missing.Given as goal
 
 abbrev pub invariant-loop-i : goal.invariant-loop-i
-invariant-loop-i l = Passed l.moment l.state (listed l.procap) l.i
-
-abbrev pub decreases-loop-i : goal.decreases-loop-i
-decreases-loop-i l = l.count - l.i
+invariant-loop-i g l = GivenPassed (λ i f. g.F.Fn.post l.fact (i, tt) f) l.count l.moment l.state l.i
