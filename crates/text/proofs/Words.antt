@@ -36,19 +36,22 @@ not_taken : {bytes word : List ℕ} {at : ℕ} (o : Option (Unit {0} × ℕ)) �
 not_taken None h n = refl
 not_taken (Some _) (read {e = after} h) n = absurd (n after h.0)
 
+-- A word stands where the text from there on begins with it.
+pub stands_there : (text word : List ℕ) (at : ℕ) → take (length word) (drop at text) ≡ word → Takes text at word (at + length word)
+stands_there text word at same = record {
+  says =
+      sym (take-append-drop (length word) (drop at text))
+      ∙ ap (λ (s : List ℕ). s ++ drop (length word) (drop at text)) same
+      ∙ ap (λ (s : List ℕ). word ++ s) (drop-drop (length word) at text);
+  place = refl;
+}
+
 module _ (text word : List ℕ) (at k : ℕ) (e : k ≡ min at (length text)) where
   pub word_here : true ≡ starts_with eqb (rest text k) word → Some (at + length word) ≡ option_map (λ (r : Unit {0} × ℕ). r.1) (literal text word at)
   word_here t =
       let same : take (length word) (drop at text) ≡ word =
       ap (take (length word)) (sym (from_here text at k e)) ∙ sym (same_text word (take (length word) (rest text k)) t) in
-      let stands : Takes text at word (at + length word) = record {
-        says =
-            sym (take-append-drop (length word) (drop at text))
-            ∙ ap (λ (s : List ℕ). s ++ drop (length word) (drop at text)) same
-            ∙ ap (λ (s : List ℕ). word ++ s) (drop-drop (length word) at text);
-        place = refl;
-      } in
-      rw (literal_found word stands)
+      rw (literal_found word (stands_there text word at same))
 
   pub no_word_here : false ≡ starts_with eqb (rest text k) word → ◌≡◌ {A = Option ℕ} None (option_map (λ (r : Unit {0} × ℕ). r.1) (literal text word at))
   no_word_here t =

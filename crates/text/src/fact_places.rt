@@ -9,9 +9,6 @@ use crate::facts::{fact_at, fact_on};
 use procap::fact::Fact;
 use procap::procap::MOST_FACTS;
 
-// How many bytes the word takes with which every line of a fact begins.
-const WORD_BYTES: usize = 5;
-
 // Where the lines of facts begin: the first `count` places, and zeros past them.
 #[derive(Clone, Copy)]
 pub struct Lines {
@@ -62,32 +59,17 @@ fn stood_before(text: &[u8], at: usize, end: usize, places: &[usize]) -> bool
     false
 }
 
-// Whether the line of a fact, up to its end, is the line at another place too: the bytes behind the word decide.
+// Whether the line of a fact, up to its end, is the line at another place too.
 fn same_line(text: &[u8], at: usize, end: usize, other: usize) -> bool
     ensures { SameLine text.now at end other result }
 {
-    if text.len() <= at {
+    let Some(line) = text.get(at..end) else {
         return false;
-    }
-    if text.len() <= other {
+    };
+    let Some(rest) = text.get(other..) else {
         return false;
-    }
-    let mut i = at + WORD_BYTES;
-    let mut k = other + WORD_BYTES;
-    while i < end {
-        if text.len() <= i {
-            return false;
-        }
-        if text.len() <= k {
-            return false;
-        }
-        if text[i] != text[k] {
-            return false;
-        }
-        i += 1;
-        k += 1;
-    }
-    true
+    };
+    rest.starts_with(line)
 }
 
 // The facts on the lines at these places, with zeros past them.
