@@ -1,5 +1,5 @@
--- What comes before the facts, all of it at once: nothing does exactly where each of its tests is passed. Of a procap that can be written what
--- stops a press there is what the door comes to, and else the facts decide, in what the state says.
+-- What comes before the facts, all of it at once: nothing does exactly where each of its tests is passed. Of a procap that can be written
+-- what stops a press there is what the door comes to, and else the facts decide, in what the state says.
 use Prim.Native.Nat.{ℕ, ◌≤◌}
 use mathlib.Core.Path.{◌≡◌, sym, ap, refl, ◌∙◌}
 use mathlib.Core.List.{List}

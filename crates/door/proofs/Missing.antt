@@ -1,5 +1,5 @@
--- A pass over some facts in a state: where the first i hold, what the door comes to is what it comes to from the i-th on. The facts are given one by
--- one, by their indices: a procap gives those that it lists.
+-- A pass over some facts in a state: where the first i hold, what the door comes to is what it comes to from the i-th on. The facts are
+-- given one by one, by their indices: a procap gives those that it lists.
 use Prim.Native.Nat.{ℕ, suc, ◌+◌, ◌≤◌, ◌<◌}
 use mathlib.Core.Path.{◌≡◌, refl, sym, ap, ◌∙◌}
 use mathlib.Core.List.{List, ◌∷◌}

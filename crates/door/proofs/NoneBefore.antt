@@ -1,5 +1,5 @@
--- A pass over a state that ends where the wanted fact is found: none of the facts before the place is the wanted one, so it stands in the state if
--- it is the next, and if no fact is left it does not.
+-- A pass over a state that ends where the wanted fact is found: none of the facts before the place is the wanted one, so it stands in the
+-- state if it is the next, and if no fact is left it does not.
 use Prim.Native.Nat.{ℕ, suc, ◌≤◌, ◌<◌}
 use mathlib.Core.Bool.{Bool, false}
 use mathlib.Core.Path.{◌≡◌, refl, sym, ap, ◌∙◌}

@@ -57,6 +57,7 @@ module _ (p : Procap) (r : Request) (m : ℕ) (state : List ℕ) where
       (rw (is_passed p.request p.from p.to r m state σ o.moment_in_range o.state_reads o.own_request s.since s.until)
       (all_there m σ 0 (listed p) s.facts_hold))
 
-  -- The door opens exactly when the request is the procap's own and the procap is satisfied, for a procap that can be written, a moment in range and a state that is well formed.
+  -- The door opens exactly when the request is the procap's own and the procap is satisfied, for a procap that can be written, a moment
+  -- in range and a state that is well formed.
   pub opens_exactly : (opening p r m state ≡ Ok tt) ↔ Opens p r m state
   opens_exactly = (opened, opens)

@@ -1,4 +1,5 @@
--- What the door answers before the facts, test by test: a test that is passed leaves the answer to the next, and the first that is not gives it.
+-- What the door answers before the facts, test by test: a test that is passed leaves the answer to the next, and the first that is not
+-- gives it.
 use Prim.Native.Nat.{ℕ, ◌≤◌, ◌<◌}
 use mathlib.Core.Path.{◌≡◌, refl}
 use mathlib.Core.List.{List}

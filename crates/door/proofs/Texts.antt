@@ -1,5 +1,5 @@
--- The door on a text: one that does not read has its answer from the reader; of one that does, what was seen of it and the facts on its lines
--- make a procap that can be written, and the door on the text is the door on that.
+-- The door on a text: one that does not read has its answer from the reader; of one that does, what was seen of it and the facts on its
+-- lines make a procap that can be written, and the door on the text is the door on that.
 use Prim.Native.Nat.{ℕ, suc, ◌<◌}
 use mathlib.Core.Path.{◌≡◌, refl, sym, ap, ◌∙◌}
 use mathlib.Core.List.{List, ◌∷◌}

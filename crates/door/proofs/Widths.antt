@@ -1,4 +1,5 @@
--- Where a term and a fact of a state end, which their tags and their count tell: a term's width goes by its tag, and a fact ends with its last term.
+-- Where a term and a fact of a state end, which their tags and their count tell: a term's width goes by its tag, and a fact ends with its
+-- last term.
 use Prim.Native.Nat.{ℕ, suc, ◌+◌, ◌-◌, ◌≤◌, ◌<◌}
 use mathlib.Core.Bool.{Bool, true, false}
 use mathlib.Core.Path.{◌≡◌, refl, sym, ap, ◌∙◌}

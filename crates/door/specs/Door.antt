@@ -52,7 +52,8 @@ opening p r m state =
     go_on (before_facts p.request p.from p.to r m state) λ σ.
     each_holds m σ 0 (listed p)
 
--- [Two questions, the door for C; D7] What it answers to the desk firmware, which has the procap as its text: 12 comes first, for bytes that are none.
+-- [Two questions, the door for C; D7] What it answers to the desk firmware, which has the procap as its text: 12 comes first, for bytes
+-- that are none.
 unfoldable pub opening_text : List ℕ → Request → ℕ → List ℕ → Outcome (Unit {0})
 opening_text text r m state = go_on (reading text) λ p. opening p r m state
 

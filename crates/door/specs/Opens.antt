@@ -8,7 +8,8 @@ use Rattle.procap.specs.States.{stated}
 use Rattle.procap.specs.declared.procap.Request.{Request}
 use Rattle.procap.specs.declared.procap.Procap.{Procap}
 
--- The procap is one that can be written, the clock can show the moment, the state is well formed, the request is the procap's own, and the procap is satisfied.
+-- The procap is one that can be written, the clock can show the moment, the state is well formed, the request is the procap's own, and
+-- the procap is satisfied.
 pub record Opens (p : Procap) (r : Request) (m : ℕ) (state : List ℕ) : Type 0 where
   pub can_be_written : Writable p
   pub moment_in_range : m ≤ latest

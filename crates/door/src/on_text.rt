@@ -10,7 +10,8 @@ use procap::answer::Answer;
 use text::facts::fact_on;
 use text::reader::look_over;
 
-// [D6, D7] What the door answers, as 256 times the number plus the place. 12 comes first, for bytes that are no text; a number that is no name is in no request.
+// [D6, D7] What the door answers, as 256 times the number plus the place. 12 comes first, for bytes that are no text; a number that is no
+// name is in no request.
 pub fn procap_door(text: &[u8], who: u64, what: u64, right: u64, moment: u64, state: &[u8]) -> u64
     ensures { result ≡ packed (answer_of (opening_text text.now (request_of who what right) moment state.now)) }
 {

@@ -1,4 +1,5 @@
--- The facts of a state, read one by one: each takes three bytes at the least, so that the rounds suffice, and the facts passed tell whether one stands.
+-- The facts of a state, read one by one: each takes three bytes at the least, so that the rounds suffice, and the facts passed tell
+-- whether one stands.
 use Prim.Native.Nat.{ℕ, suc, ◌+◌, ◌-◌, ◌≤◌, ◌<◌}
 use mathlib.Core.Bool.{Bool, true, false}
 use mathlib.Core.Path.{◌≡◌, refl, sym, ap, ◌∙◌}
@@ -54,7 +55,8 @@ module _ (bytes : List ℕ) where
 
 -- ── Rounds ──
 
--- With a round left and bytes left, a fact that is read joins those passed, and where none is read none are; at the end those passed are all.
+-- With a round left and bytes left, a fact that is read joins those passed, and where none is read none are; at the end those passed are
+-- all.
 
 module _ (bytes : List ℕ) (n at : ℕ) where
   module _ (l : at < length bytes) where

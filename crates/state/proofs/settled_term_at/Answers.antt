@@ -1,4 +1,5 @@
--- Past the end, at a byte that is no tag and after a tag that is not settled there is no term; else the term is the one that the tag announces.
+-- Past the end, at a byte that is no tag and after a tag that is not settled there is no term; else the term is the one that the tag
+-- announces.
 use Rattle.std.proofs.Common.{arith, ◌≡◌, ◌<◌, length, get_or, sym, ◌∙◌}
 use Rattle.std.proofs.lemmas.Grind.{common_steps}
 use Rattle.state.proofs.Terms.{no_byte, no_term, tag_left, unsettled, by_tag}

@@ -1,4 +1,5 @@
--- None of the facts passed is the wanted one: the next one is, or it is passed too, by its predicate or by a comparison; at the end there is none.
+-- None of the facts passed is the wanted one: the next one is, or it is passed too, by its predicate or by a comparison; at the end there
+-- is none.
 use mathlib.Core.Path.{sym}
 use native.Mathlib.Omega.{arith}
 use Rattle.procap.proofs.Telling.{holds, fails}

@@ -1,4 +1,5 @@
--- None of the facts passed is the wanted one: the next one is, or it is passed too, by its predicate or by a comparison; at the end there is none.
+-- None of the facts passed is the wanted one: the next one is, or it is passed too, by its predicate or by a comparison; at the end there
+-- is none.
 use Prim.Native.Nat.{◌-◌}
 use lib.ListN.{length}
 use Rattle.procap.specs.Facts.{spelled, spelled_at_moment}

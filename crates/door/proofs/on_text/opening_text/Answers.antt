@@ -21,4 +21,6 @@ pub returns : goal.returns
 returns c =
     let seen = seen_there _ _ c.look_over.ensures _ c.in_ok-seen.ensures.value in
     seen_by_the_facts _ _ _ _ _ _ _ seen.facts seen.says c.in_ok-before_facts.ensures _
-    (c.first_missing.ensures _ (gives_on_lines _ _ _ (rw (sym c.places-places.ensures) at seen.on) _ (λ i f h g. grind (arith, common_steps))))
+    (c.first_missing.ensures seen.facts
+    (gives_on_lines c.args.text.now c.places-places.result.now seen.facts (rw (sym c.places-places.ensures) at seen.on) _
+    (λ i f h g. grind (arith, common_steps))))
