@@ -77,9 +77,9 @@ fn fact_with(state: &[u8], predicate: u16, terms: usize, at: usize) -> Option<(F
         (argument.term, next) = settled_term_at(state, next)?;
     }
     let fact = Fact {
-        predicate: predicate,
+        predicate,
         count: terms,
-        arguments: arguments,
+        arguments,
     };
     Some((fact, next))
 }
