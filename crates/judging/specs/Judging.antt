@@ -6,7 +6,7 @@ use Rattle.procap.specs.declared.time.Time.{Time}
 use Rattle.procap.specs.declared.time.TimeNumbers.{TimeNumbers}
 use Rattle.procap.specs.declared.fact.Term.{Term}
 use Rattle.bl.specs.declared.FormulaTag.{FormulaTag}
-use Rattle.bl.specs.declared.FormulaTag.TheVariants.{TopTag, AndTag, ImpliesTag, AllNamesTag, AllTimesTag, SaysTag, AtTag, AtomTag, FactTag, OrderTag, OrTag, FalsityTag, NoFormulaTag}
+use Rattle.bl.specs.declared.FormulaTag.TheVariants.{TopTag, AndTag, ImpliesTag, AllNamesTag, AllTimesTag, SaysTag, AtTag, AtomTag, FactTag, OrderTag, OrTag, FalsityTag}
 use Rattle.bl.specs.Trees.{Formula, put}
 use Rattle.bl.specs.Questions.{Walk, done, misfit, ◌>>=◌, ◌>>◌, Test, ask_order, ask_fact, need}
 use Rattle.bl.specs.Kinds.{as_name, as_time, as_terms, as_top, as_and, as_implies, as_all, as_says, as_at, as_fact, as_order, as_or, as_falsity}
@@ -121,7 +121,6 @@ sides AtomTag q F = misfit q
 sides FactTag q F = misfit q
 sides OrderTag q F = misfit q
 sides FalsityTag q F = misfit q
-sides NoFormulaTag q F = misfit q
 
 -- The tags of formulas with two sides.
 unfoldable pub TwoSided : FormulaTag → Type 0
@@ -137,7 +136,6 @@ TwoSided FactTag = ⊥
 TwoSided OrderTag = ⊥
 TwoSided OrTag = Unit {0}
 TwoSided FalsityTag = ⊥
-TwoSided NoFormulaTag = ⊥
 
 -- The formula of an "at" and its interval.
 unfoldable pub at_parts : ℕ → Formula → Walk (Formula × Time × Time)
