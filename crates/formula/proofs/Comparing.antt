@@ -9,10 +9,9 @@ use native.Mathlib.Omega.{arith}
 use Rattle.bl.specs.Questions.{done, misfit, ask, ◌>>=◌, ◌>>◌, Test, need, need_equal}
 use Rattle.bl.specs.Walk.{same}
 use Rattle.ledger.specs.declared.Ledger.{Ledger}
-use Rattle.formula.specs.declared.compare.Pair.{Pair}
 use Rattle.formula.specs.declared.compare.Compared.{Compared}
 use Rattle.ledger.specs.Books.{stop_of, book, misfitted, GoesOn}
-use Rattle.formula.specs.Comparing.{LeadsTo, move, ComparesPair, ComparesAfter}
+use Rattle.formula.specs.Comparing.{Two, LeadsTo, move, ComparesPair, ComparesAfter}
 use Rattle.ledger.proofs.Giving as giving
 
 -- ── Tests ──
@@ -89,7 +88,7 @@ goes_on l w v one r e e' f f' going h k state list s =
     (giving.then state (book l list) middle (book r.ledger list) w tt (λ _. v) tt first.0 second.0, second.1)
 
 -- What was compared before, and then the formulas of a pair.
-module _ (left_bytes right_bytes : List ℕ) (before : Compared) (pair : Pair) (levels : ℕ) where
+module _ (left_bytes right_bytes : List ℕ) (before : Compared) (pair : Two) (levels : ℕ) where
   -- After a walk that has stopped they are not compared.
   pub stops_before : (GoesOn before.ledger → ⊥) → ComparesAfter left_bytes right_bytes before pair levels before
   stops_before stopped l w e e' A A' m n low h = halts l w (same pair.offset A A') before e e' m.end n.end stopped h

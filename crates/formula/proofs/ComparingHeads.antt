@@ -2,9 +2,10 @@
 use Prim.Native.Nat.{ℕ}
 use mathlib.Core.Path.{◌≡◌, sym, ap, ◌∙◌}
 use mathlib.Core.List.{List}
-use Rattle.std.specs.Prelude.{Some}
+use Rattle.std.proofs.lemmas.Option.{none-some, same_Some}
+use Rattle.std.specs.Prelude.{None, Option, Some}
 use lib.ListN.{length, length-map}
-use Rattle.procap.specs.Bytes.{number, byte, many}
+use Rattle.procap.specs.Bytes.{many}
 use Rattle.procap.proofs.Readers.{so_read, any_read, many_read}
 use Rattle.bl.specs.Trees.{Place}
 use Rattle.bl.specs.Formulas.{argument}
@@ -12,11 +13,10 @@ use Rattle.bl.specs.Questions.{misfit, ◌>>=◌}
 use Rattle.ledger.specs.declared.Ledger.{Ledger}
 use Rattle.formula.specs.declared.parts.FormulaAt.{FormulaAt}
 use Rattle.formula.specs.declared.parts.Head.{Head}
-use Rattle.formula.specs.declared.compare.Pair.{Pair}
 use Rattle.formula.specs.declared.compare.Compared.{Compared}
 use Rattle.formula.specs.PutIn.{terms_of, fill_place}
-use Rattle.formula.specs.Meaning.{begin}
-use Rattle.formula.specs.Comparing.{LeadsTo, move, PlacesStand, HeadStands, ComparesPlaces, ComparesHeads}
+use Rattle.formula.specs.Meaning.{begin, HeadReads}
+use Rattle.formula.specs.Comparing.{Two, LeadsTo, move, PlacesStand, HeadStands, ComparesPlaces, ComparesHeads}
 use Rattle.formula.proofs.Comparing.{equal_numbers, other_numbers}
 
 -- There are as many places as were read.
@@ -27,10 +27,12 @@ as_many bytes d count f xs e h =
     sym (ap length h.filled) ∙ length-map h.written (fill_place d (terms_of f.terms)) ∙ counted.0
 
 -- What `head_at` promises of a place.
-abbrev FindsHead : List ℕ → ℕ → Head → Type 0
-FindsHead bytes place r =
-    (p n e₁ e₂ : ℕ) → number bytes 2 place ≡ Some (p, e₁) → byte bytes e₁ ≡ Some (n, e₂)
-    → (r.predicate ≡ p) × (r.count ≡ n) × (r.next ≡ e₂)
+abbrev FindsHead : List ℕ → ℕ → Option Head → Type 0
+FindsHead = HeadReads
+
+-- Where it finds none there is none.
+no_head : {bytes : List ℕ} {d : ℕ} {f : FormulaAt} {p : ℕ} {xs : List Place} {e : ℕ} → FindsHead bytes f.at None → HeadStands bytes d f p xs e → ⊥
+no_head {p = p} finds h = none-some _ (finds p h.count h.after_predicate h.after_count h.predicate_reads h.count_reads)
 
 module _ (bytes : List ℕ) (d : ℕ) (f : FormulaAt) (found : Head) where
   -- The head that it finds, and the places after it.
@@ -39,14 +41,22 @@ module _ (bytes : List ℕ) (d : ℕ) (f : FormulaAt) (found : Head) where
     count : found.count ≡ length xs
     places : PlacesStand bytes d found.count (begin f found.next) xs e
 
-  head_found : (p : ℕ) (xs : List Place) (e : ℕ) → FindsHead bytes f.at found → HeadStands bytes d f p xs e → HeadFound p xs e
+  head_found : (p : ℕ) (xs : List Place) (e : ℕ) → FindsHead bytes f.at (Some found) → HeadStands bytes d f p xs e → HeadFound p xs e
   head_found p xs e finds h =
-      let is = finds p h.count h.after_predicate h.after_count h.predicate_reads h.count_reads in
-      let places : PlacesStand bytes d found.count (begin f found.next) xs e = rw (is.1, is.2) h.places in
-      record { predicate = is.0; count = sym (as_many bytes d found.count (begin f found.next) xs e places); places = places }
+      let is = same_Some found _ (finds p h.count h.after_predicate h.after_count h.predicate_reads h.count_reads) in
+      let places : PlacesStand bytes d found.count (begin f found.next) xs e = rw is h.places in
+      record { predicate = ap (λ (r : Head). r.predicate) is; count = sym (as_many bytes d found.count (begin f found.next) xs e places); places = places }
 
-module _ (left_bytes right_bytes : List ℕ) (pair : Pair) (l : Ledger) (one other : Head) (r : Compared)
-    (finds : FindsHead left_bytes pair.left.at one) (finds' : FindsHead right_bytes pair.right.at other) where
+-- With no head on a side there is nothing to compare.
+module _ (left_bytes right_bytes : List ℕ) (pair : Two) (l : Ledger) (r : Compared) where
+  pub no_left_head : FindsHead left_bytes pair.left.at None → ComparesHeads left_bytes right_bytes pair l r
+  no_left_head finds p p' xs ys e e' h h' = absurd (no_head finds h)
+
+  pub no_right_head : FindsHead right_bytes pair.right.at None → ComparesHeads left_bytes right_bytes pair l r
+  no_right_head finds p p' xs ys e e' h h' = absurd (no_head finds h')
+
+module _ (left_bytes right_bytes : List ℕ) (pair : Two) (l : Ledger) (one other : Head) (r : Compared)
+    (finds : FindsHead left_bytes pair.left.at (Some one)) (finds' : FindsHead right_bytes pair.right.at (Some other)) where
   abbrev d : ℕ
   d = pair.under
 

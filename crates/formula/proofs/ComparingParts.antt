@@ -2,20 +2,23 @@
 use Prim.Native.Nat.{ℕ, suc, ◌+◌, ◌≤◌, ◌<◌}
 use mathlib.Core.Path.{◌≡◌, refl, sym, ap, ap₂, ◌∙◌}
 use mathlib.Core.List.{List}
+use mathlib.Core.Logic.{◌⊎◌, inl, inr}
+use Rattle.std.specs.Prelude.{Some}
 use native.Mathlib.Omega.{arith}
 use lib.ListN.{length}
 use Rattle.bl.specs.declared.FormulaTag.{FormulaTag}
-use Rattle.bl.specs.declared.FormulaTag.TheVariants.{TopTag, AndTag, ImpliesTag, SaysTag, AtTag, AtomTag, FactTag, OrderTag, OrTag, FalsityTag, NoFormulaTag}
-use Rattle.bl.specs.Trees.{Place, Sort, names, times, Formula, and, implies, all, or}
+use Rattle.bl.specs.declared.FormulaTag.TheVariants.{TopTag, AndTag, ImpliesTag, AllNamesTag, AllTimesTag, SaysTag, AtTag, AtomTag, FactTag, OrderTag, OrTag, FalsityTag}
+use Rattle.bl.specs.declared.Sort.{Sort}
+use Rattle.bl.specs.declared.Sort.TheVariants.{Names, Times}
+use Rattle.bl.specs.Trees.{Place, Formula, and, implies, all, or}
 use Rattle.bl.specs.Questions.{done, ◌>>=◌, ◌>>◌, Test, need, need_equal}
 use Rattle.bl.specs.Kinds.{as_top, as_and, as_implies, as_all, as_says, as_at, as_atom, as_fact, as_order, as_or, as_falsity}
 use Rattle.bl.specs.Walk.{same_place, same_places, same_sort, same}
 use Rattle.ledger.specs.declared.Ledger.{Ledger}
 use Rattle.formula.specs.declared.parts.FormulaAt.{FormulaAt}
-use Rattle.formula.specs.declared.compare.Pair.{Pair}
 use Rattle.formula.specs.declared.compare.Compared.{Compared}
 use Rattle.formula.specs.Meaning.{begin, Means}
-use Rattle.formula.specs.Comparing.{LeadsTo, move, PlacesStand, HeadStands, ComparesPlaces, ComparesHeads, ComparesPair, ComparesBody, ComparesAfter, ComparesTagged}
+use Rattle.formula.specs.Comparing.{Two, LeadsTo, move, PlacesStand, HeadStands, ComparesPlaces, ComparesHeads, ComparesPair, ComparesBody, ComparesAfter, ComparesTagged}
 use Rattle.formula.proofs.Shapes as shapes
 use Rattle.formula.proofs.Comparing.{test_row, leads_as, agrees}
 use Rattle.formula.proofs.ComparingPlaces.{one_stands, two_stand, one_place, two_places}
@@ -35,11 +38,11 @@ headed bytes d f m x = record {
 -- A for-all and another of its sort.
 same_binder : (q : ℕ) (s : Sort) (A A' : Formula) → same q (all s A) (all s A') ≡ same q A A'
 unfolding same need as_all same_sort ◌>>=◌
-same_binder q names A A' = refl
-same_binder q times A A' = refl
+same_binder q Names A A' = refl
+same_binder q Times A A' = refl
 
 -- A pair of formulas of one tag, and the pair of the places after their tags.
-module _ (left_bytes right_bytes : List ℕ) (pair parts : Pair) (l : Ledger) (levels : ℕ) (tag : FormulaTag) (r : Compared)
+module _ (left_bytes right_bytes : List ℕ) (pair parts : Two) (l : Ledger) (levels : ℕ) (tag : FormulaTag) (r : Compared)
     (moved : pair.left.at < length left_bytes → pair.right.at < length right_bytes → parts ≡ move pair (pair.left.at + 1) (pair.right.at + 1)) where
   abbrev d : ℕ
   d = pair.under
@@ -109,15 +112,19 @@ module _ (left_bytes right_bytes : List ℕ) (pair parts : Pair) (l : Ledger) (l
       (ap (λ z. z.right_next) is ∙ ap (λ z. z.right.at) (at_parts m n low) ∙ y.ends)
       (agrees l r (ap (λ z. z.ledger) is))
 
-  pub top_same : tag ≡ TopTag → r ≡ record { ledger = l; left_next = parts.left.at; right_next = parts.right.at } → Tagged
+  top_same : tag ≡ TopTag → r ≡ record { ledger = l; left_next = parts.left.at; right_next = parts.right.at } → Tagged
   unfolding same need as_top ◌>>=◌
   top_same told is t t' F G m n low =
-      leaves_same _ refl is m n low (shapes.top_shape left_bytes d left m (t ∙ told)) (shapes.top_shape right_bytes d right n (t' ∙ told))
+      leaves_same _ refl is m n low (shapes.top_shape left_bytes d left m (t ∙ ap Some told)) (shapes.top_shape right_bytes d right n (t' ∙ ap Some told))
 
-  pub falsity_same : tag ≡ FalsityTag → r ≡ record { ledger = l; left_next = parts.left.at; right_next = parts.right.at } → Tagged
+  falsity_same : tag ≡ FalsityTag → r ≡ record { ledger = l; left_next = parts.left.at; right_next = parts.right.at } → Tagged
   unfolding same need as_falsity ◌>>=◌
   falsity_same told is t t' F G m n low =
-      leaves_same _ refl is m n low (shapes.falsity_shape left_bytes d left m (t ∙ told)) (shapes.falsity_shape right_bytes d right n (t' ∙ told))
+      leaves_same _ refl is m n low (shapes.falsity_shape left_bytes d left m (t ∙ ap Some told)) (shapes.falsity_shape right_bytes d right n (t' ∙ ap Some told))
+
+  pub leaf_same : (tag ≡ TopTag) ⊎ (tag ≡ FalsityTag) → r ≡ record { ledger = l; left_next = parts.left.at; right_next = parts.right.at } → Tagged
+  leaf_same (inl told) = top_same told
+  leaf_same (inr told) = falsity_same told
 
   -- Two formulas made of two.
   sides_same : (make : Formula → Formula → Formula) → ((A B A' B' : Formula) → same q (make A B) (make A' B') ≡ (same q A A' >> same q B B'))
@@ -127,33 +134,43 @@ module _ (left_bytes right_bytes : List ℕ) (pair parts : Pair) (l : Ledger) (l
   sides_same make walk one first second m n low x y =
       seen m n low _ x.is y.is (walk x.left x.right y.left y.right) refl refl (two_parts m n low x.parts y.parts one first second)
 
-  pub and_same : tag ≡ AndTag → (one : Compared) → ComparesPair left_bytes right_bytes parts l levels one → After one → Tagged
+  and_same : tag ≡ AndTag → (one : Compared) → ComparesPair left_bytes right_bytes parts l levels one → After one → Tagged
   unfolding same need as_and ◌>>=◌
   and_same told one first second t t' F G m n low =
-      sides_same and (λ A B A' B'. refl) one first second m n low (shapes.and_shape left_bytes d left m (t ∙ told)) (shapes.and_shape right_bytes d right n (t' ∙ told))
+      sides_same and (λ A B A' B'. refl) one first second m n low (shapes.and_shape left_bytes d left m (t ∙ ap Some told)) (shapes.and_shape right_bytes d right n (t' ∙ ap Some told))
 
-  pub implies_same : tag ≡ ImpliesTag → (one : Compared) → ComparesPair left_bytes right_bytes parts l levels one → After one → Tagged
+  implies_same : tag ≡ ImpliesTag → (one : Compared) → ComparesPair left_bytes right_bytes parts l levels one → After one → Tagged
   unfolding same need as_implies ◌>>=◌
   implies_same told one first second t t' F G m n low =
-      sides_same implies (λ A B A' B'. refl) one first second m n low (shapes.implies_shape left_bytes d left m (t ∙ told)) (shapes.implies_shape right_bytes d right n (t' ∙ told))
+      sides_same implies (λ A B A' B'. refl) one first second m n low (shapes.implies_shape left_bytes d left m (t ∙ ap Some told)) (shapes.implies_shape right_bytes d right n (t' ∙ ap Some told))
 
-  pub or_same : tag ≡ OrTag → (one : Compared) → ComparesPair left_bytes right_bytes parts l levels one → After one → Tagged
+  or_same : tag ≡ OrTag → (one : Compared) → ComparesPair left_bytes right_bytes parts l levels one → After one → Tagged
   unfolding same need as_or ◌>>=◌
   or_same told one first second t t' F G m n low =
-      sides_same or (λ A B A' B'. refl) one first second m n low (shapes.or_shape left_bytes d left m (t ∙ told)) (shapes.or_shape right_bytes d right n (t' ∙ told))
+      sides_same or (λ A B A' B'. refl) one first second m n low (shapes.or_shape left_bytes d left m (t ∙ ap Some told)) (shapes.or_shape right_bytes d right n (t' ∙ ap Some told))
 
-  pub all_same : (s : Sort) → tag ≡ shapes.binder_tag s → ComparesBody left_bytes right_bytes parts l levels r → Tagged
+  pub two_sided_same : (tag ≡ AndTag) ⊎ ((tag ≡ ImpliesTag) ⊎ (tag ≡ OrTag)) → (one : Compared) → ComparesPair left_bytes right_bytes parts l levels one → After one → Tagged
+  two_sided_same (inl told) = and_same told
+  two_sided_same (inr (inl told)) = implies_same told
+  two_sided_same (inr (inr told)) = or_same told
+
+  all_same : (s : Sort) → tag ≡ shapes.binder_tag s → ComparesBody left_bytes right_bytes parts l levels r → Tagged
   all_same s told h t t' F G m n low =
-      let x = shapes.all_shape left_bytes d left m s (t ∙ told) in
-      let y = shapes.all_shape right_bytes d right n s (t' ∙ told) in
+      let x = shapes.all_shape left_bytes d left m s (t ∙ ap Some told) in
+      let y = shapes.all_shape right_bytes d right n s (t' ∙ ap Some told) in
       let bodies = (rw (at_parts m n low) at h) (omega (arith, x.room)) x.body y.body x.part.means y.part.means (omega (arith, x.part.lower)) in
       seen m n low _ x.is y.is (same_binder q s x.body y.body) x.ends y.ends bodies
+
+  pub under_same : (tag ≡ AllNamesTag) ⊎ (tag ≡ AllTimesTag) → ComparesBody left_bytes right_bytes parts l levels r → Tagged
+  unfolding shapes.binder_tag
+  under_same (inl told) = all_same Names told
+  under_same (inr told) = all_same Times told
 
   pub says_same : tag ≡ SaysTag → (one : Compared) → ComparesPlaces left_bytes right_bytes 1 parts l one → After one → Tagged
   unfolding same need as_says ◌>>=◌
   says_same told one first second t t' F G m n low =
-      let x = shapes.says_shape left_bytes d left m (t ∙ told) in
-      let y = shapes.says_shape right_bytes d right n (t' ∙ told) in
+      let x = shapes.says_shape left_bytes d left m (t ∙ ap Some told) in
+      let y = shapes.says_shape right_bytes d right n (t' ∙ ap Some told) in
       let who = one_stands left_bytes d left m.few x.named in
       let who' = one_stands right_bytes d right n.few y.named in
       seen m n low _ x.is y.is refl x.ends y.ends
@@ -162,37 +179,38 @@ module _ (left_bytes right_bytes : List ℕ) (pair parts : Pair) (l : Ledger) (l
   pub at_same : tag ≡ AtTag → (one : Compared) → ComparesPlaces left_bytes right_bytes 2 parts l one → After one → Tagged
   unfolding same need as_at ◌>>=◌
   at_same told one first second t t' F G m n low =
-      let x = shapes.at_shape left_bytes d left m (t ∙ told) in
-      let y = shapes.at_shape right_bytes d right n (t' ∙ told) in
+      let x = shapes.at_shape left_bytes d left m (t ∙ ap Some told) in
+      let y = shapes.at_shape right_bytes d right n (t' ∙ ap Some told) in
       let interval = two_stand left_bytes d left m.few x.first x.second in
       let interval' = two_stand right_bytes d right n.few y.first y.second in
       let row = test_row (same_place q x.from y.from) (same_place q x.to y.to) (same q x.body y.body) in
       seen m n low _ x.is y.is (sym row) x.ends y.ends
       (part_after m n low _ (two_places q x.from x.to y.from y.to) interval interval' x.part y.part one first second)
 
-  pub atom_same : tag ≡ AtomTag → ComparesHeads left_bytes right_bytes parts l r → Tagged
+  atom_same : tag ≡ AtomTag → ComparesHeads left_bytes right_bytes parts l r → Tagged
   unfolding same need as_atom ◌>>=◌
   atom_same told h t t' F G m n low =
-      let x = shapes.atom_shape left_bytes d left m (t ∙ told) in
-      let y = shapes.atom_shape right_bytes d right n (t' ∙ told) in
+      let x = shapes.atom_shape left_bytes d left m (t ∙ ap Some told) in
+      let y = shapes.atom_shape right_bytes d right n (t' ∙ ap Some told) in
       seen m n low _ x.is y.is refl refl refl (heads m n low x.headed y.headed h)
 
-  pub fact_same : tag ≡ FactTag → ComparesHeads left_bytes right_bytes parts l r → Tagged
+  fact_same : tag ≡ FactTag → ComparesHeads left_bytes right_bytes parts l r → Tagged
   unfolding same need as_fact ◌>>=◌
   fact_same told h t t' F G m n low =
-      let x = shapes.fact_shape left_bytes d left m (t ∙ told) in
-      let y = shapes.fact_shape right_bytes d right n (t' ∙ told) in
+      let x = shapes.fact_shape left_bytes d left m (t ∙ ap Some told) in
+      let y = shapes.fact_shape right_bytes d right n (t' ∙ ap Some told) in
       seen m n low _ x.is y.is refl refl refl (heads m n low x.headed y.headed h)
+
+  pub headed_same : (tag ≡ AtomTag) ⊎ (tag ≡ FactTag) → ComparesHeads left_bytes right_bytes parts l r → Tagged
+  headed_same (inl told) = atom_same told
+  headed_same (inr told) = fact_same told
 
   pub order_same : tag ≡ OrderTag → ComparesPlaces left_bytes right_bytes 2 parts l r → Tagged
   unfolding same need as_order ◌>>=◌
   order_same told h t t' F G m n low =
-      let x = shapes.order_shape left_bytes d left m (t ∙ told) in
-      let y = shapes.order_shape right_bytes d right n (t' ∙ told) in
+      let x = shapes.order_shape left_bytes d left m (t ∙ ap Some told) in
+      let y = shapes.order_shape right_bytes d right n (t' ∙ ap Some told) in
       let times_stand = two_stand left_bytes d left m.few x.first x.second in
       let times_stand' = two_stand right_bytes d right n.few y.first y.second in
       seen m n low _ x.is y.is (sym (two_places q x.left x.right y.left y.right)) refl refl
       ((rw (at_parts m n low) at h) _ _ m.end n.end times_stand times_stand')
-
-  pub no_formula : tag ≡ NoFormulaTag → Tagged
-  no_formula told t t' F G m n low = absurd (shapes.tagged left_bytes d left m (t ∙ told))

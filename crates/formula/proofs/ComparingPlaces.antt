@@ -2,13 +2,15 @@
 use Prim.Native.Nat.{ℕ, suc}
 use mathlib.Core.Path.{◌≡◌, refl, sym, ap, ap₂, ◌∙◌}
 use mathlib.Core.List.{List, [], ◌∷◌, map}
-use Rattle.std.specs.Prelude.{Some}
+use Rattle.std.proofs.lemmas.Option.{none-some, same_Some}
+use Rattle.std.specs.Prelude.{None, Option, Some}
 use Rattle.procap.specs.Bytes.{then, many}
 use Rattle.procap.specs.declared.time.Time.{Time}
 use Rattle.procap.specs.declared.fact.Term.{Term}
 use Rattle.procap.specs.declared.fact.Term.TheVariants.{Name, When}
 use Rattle.procap.proofs.ReadApart.{first_of, none_of}
-use Rattle.bl.specs.Trees.{Place, fixed, Sort}
+use Rattle.bl.specs.declared.Sort.{Sort}
+use Rattle.bl.specs.Trees.{Place, fixed}
 use Rattle.bl.specs.Formulas.{argument}
 use Rattle.bl.specs.Questions.{done, misfit, ◌>>=◌, ◌>>◌, ask_order, need, need_equal}
 use Rattle.bl.specs.Kinds.{as_name, as_time, as_variable}
@@ -17,14 +19,12 @@ use Rattle.ledger.specs.declared.Ledger.{Ledger}
 use Rattle.formula.specs.declared.terms.Place as code
 use Rattle.formula.specs.declared.terms.Place.TheVariants.{Fixed, Bound}
 use Rattle.formula.specs.declared.parts.FormulaAt.{FormulaAt}
-use Rattle.formula.specs.declared.parts.PlaceRead.{PlaceRead}
-use Rattle.formula.specs.declared.compare.Pair.{Pair}
 use Rattle.formula.specs.declared.compare.Compared.{Compared}
 use Rattle.ledger.specs.Books.{book, misfitted}
 use Rattle.formula.specs.PutIn.{terms_of, FewTerms, place_of, fill_place}
-use Rattle.formula.specs.Meaning.{begin}
+use Rattle.formula.specs.Meaning.{begin, PlaceReads}
 use Rattle.ledger.specs.Books.{Leads}
-use Rattle.formula.specs.Comparing.{move, PlacesStand, ComparesPlaces}
+use Rattle.formula.specs.Comparing.{Two, move, PlacesStand, ComparesPlaces}
 use Rattle.ledger.proofs.Giving as giving
 use Rattle.formula.proofs.Shapes as shapes
 use Rattle.formula.proofs.Comparing.{test_done, equal_numbers, other_numbers, leads_as, agrees}
@@ -123,23 +123,30 @@ module _ (bytes : List ℕ) (d : ℕ) (f : FormulaAt) where
       (sym h.filled ∙ ap (map fill) found.0, found.1)
 
   -- What `place_at` promises of a place.
-  abbrev FindsPlace : ℕ → PlaceRead → Type 0
-  FindsPlace place r =
-      ((sorts : List Sort) (x : Place) (e : ℕ) → FewTerms f.terms → argument bytes sorts place ≡ Some (x, e) → place_of r.place ≡ fill x)
-      × ((sorts : List Sort) (x : Place) (e : ℕ) → argument bytes sorts place ≡ Some (x, e) → r.next ≡ e)
+  abbrev FindsPlace : ℕ → Option (code.Place × ℕ) → Type 0
+  FindsPlace place r = PlaceReads bytes place f.terms d r
+
+  -- Where it finds none there are no places.
+  none_there : (place count : ℕ) (xs : List Place) (e : ℕ) → FindsPlace place None → PlacesStand bytes d (suc count) (begin f place) xs e → ⊥
+  none_there place count xs e finds h =
+      let one = first_of (argument bytes h.sorts) count place h.written e h.reads in
+      let found = finds h.sorts one.first one.next one.first_reads in
+      none-some _ found.1
 
   -- Where it finds the first of some places, the others stand after it.
-  record MoreStand (found : PlaceRead) (count : ℕ) (xs : List Place) (e : ℕ) : Type 0 where
+  record MoreStand (found : code.Place) (next count : ℕ) (xs : List Place) (e : ℕ) : Type 0 where
     others : List Place
-    is : xs ≡ place_of found.place ∷ others
-    places : PlacesStand bytes d count (begin f found.next) others e
+    is : xs ≡ place_of found ∷ others
+    places : PlacesStand bytes d count (begin f next) others e
 
-  more_stand : (place count : ℕ) (found : PlaceRead) (xs : List Place) (e : ℕ) → FindsPlace place found
-      → PlacesStand bytes d (suc count) (begin f place) xs e → MoreStand found count xs e
-  more_stand place count found xs e finds h =
+  more_stand : (place count : ℕ) (found : code.Place) (next : ℕ) (xs : List Place) (e : ℕ) → FindsPlace place (Some (found, next))
+      → PlacesStand bytes d (suc count) (begin f place) xs e → MoreStand found next count xs e
+  more_stand place count found next xs e finds h =
       let one = first_of (argument bytes h.sorts) count place h.written e h.reads in
-      let place_is = finds.0 h.sorts one.first one.next h.few one.first_reads in
-      let next_is = finds.1 h.sorts one.first one.next one.first_reads in
+      let there = finds h.sorts one.first one.next one.first_reads in
+      let same = same_Some (found, next) (there.0, one.next) there.1 in
+      let place_is = ap (λ r. place_of r.0) same ∙ there.2 h.few in
+      let next_is = ap (λ r. r.1) same in
       record {
         others = map fill one.others;
         is = sym h.filled ∙ ap (map fill) one.is ∙ ap (λ x. x ∷ map fill one.others) (sym place_is);
@@ -158,7 +165,7 @@ pub two_places : (q : ℕ) (x x' y y' : Place) → same_places q (x ∷ x' ∷ [
 unfolding same_places
 two_places q x x' y y' = ap (λ w. same_place q x y >> w) (one_place q x' y')
 
-module _ (left_bytes right_bytes : List ℕ) (pair : Pair) (x y : ℕ) (l : Ledger) where
+module _ (left_bytes right_bytes : List ℕ) (pair : Two) (x y : ℕ) (l : Ledger) where
   abbrev d : ℕ
   d = pair.under
 
@@ -175,16 +182,25 @@ module _ (left_bytes right_bytes : List ℕ) (pair : Pair) (x y : ℕ) (l : Ledg
       let r : Compared = record { ledger = l; left_next = x; right_next = y } in
       leads_as l _ (done tt) r x e y e' (ap₂ (same_places q) a.0 b.0) a.1 b.1 (agrees l r refl)
 
+  -- With no place on a side there is nothing to compare.
+  pub no_left_place : (count more : ℕ) (r : Compared) → more ≡ suc count → FindsPlace left_bytes d pair.left x None
+      → ComparesPlaces left_bytes right_bytes more (move pair x y) l r
+  no_left_place count more r is finds xs ys e e' h h' = absurd (none_there left_bytes d pair.left x count xs e finds (rw is at h))
+
+  pub no_right_place : (count more : ℕ) (r : Compared) → more ≡ suc count → FindsPlace right_bytes d pair.right y None
+      → ComparesPlaces left_bytes right_bytes more (move pair x y) l r
+  no_right_place count more r is finds xs ys e e' h h' = absurd (none_there right_bytes d pair.right y count ys e' finds (rw is at h'))
+
   -- One place, and then the others.
-  pub next_places : (count more : ℕ) (one other : PlaceRead) (m : Ledger) (r : Compared) → more ≡ suc count
-      → FindsPlace left_bytes d pair.left x one → FindsPlace right_bytes d pair.right y other
-      → Leads l (same_place q (place_of one.place) (place_of other.place)) m
-      → ComparesPlaces left_bytes right_bytes count (move pair one.next other.next) m r
+  pub next_places : (count more : ℕ) (one other : code.Place) (next next' : ℕ) (m : Ledger) (r : Compared) → more ≡ suc count
+      → FindsPlace left_bytes d pair.left x (Some (one, next)) → FindsPlace right_bytes d pair.right y (Some (other, next'))
+      → Leads l (same_place q (place_of one) (place_of other)) m
+      → ComparesPlaces left_bytes right_bytes count (move pair next next') m r
       → ComparesPlaces left_bytes right_bytes more (move pair x y) l r
   unfolding same_places
-  next_places count more one other m r is finds finds' test rest xs ys e e' h h' state list s =
-      let a = more_stand left_bytes d pair.left x count one xs e finds (rw is at h) in
-      let b = more_stand right_bytes d pair.right y count other ys e' finds' (rw is at h') in
+  next_places count more one other next next' m r is finds finds' test rest xs ys e e' h h' state list s =
+      let a = more_stand left_bytes d pair.left x count one next xs e finds (rw is at h) in
+      let b = more_stand right_bytes d pair.right y count other next' ys e' finds' (rw is at h') in
       let first = test state list s in
       let others = rest a.others b.others e e' a.places b.places state list first.sound in
       let after = same_places q a.others b.others in

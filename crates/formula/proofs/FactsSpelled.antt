@@ -1,37 +1,35 @@
 -- A fact read from the bytes of a formula spells the places there, if no variable is left among them.
-use Prim.Native.Nat.{ℕ, ◌+◌, ◌-◌, ◌≤◌, ◌<◌}
-use mathlib.Core.Bool.{Bool, true}
-use mathlib.Core.Path.{◌≡◌, refl, sym, ap, ap₂, subst₂, ◌∙◌}
+use Prim.Native.Nat.{ℕ, suc, ◌+◌, ◌-◌, ◌≤◌, ◌<◌}
+use mathlib.Core.Path.{◌≡◌, refl, sym, ap, subst, subst₂, ◌∙◌}
 use mathlib.Core.List.{List, [], ◌∷◌, map}
 use Rattle.std.proofs.lemmas.Option.{none-some, same_Some}
-use Rattle.std.specs.Prelude.{None, Option, Some}
-use native.Mathlib.Decide.{ℕ_discrete}
+use Rattle.std.specs.Prelude.{None, Option, Some, option_map}
 use native.Mathlib.Omega.{arith}
 use lib.ListN.{length, set}
 use Rattle.procap.specs.Lists.{pad}
 use Rattle.procap.specs.Facts.{most_terms, no_argument, argument_of, spelled}
 use Rattle.procap.specs.Bytes.{Reader, many, number}
-use Rattle.procap.specs.Reading.{FactFound, with_predicate}
+use Rattle.procap.specs.Reading.{FactReads, with_predicate}
 use Rattle.procap.specs.declared.fact.Term.{Term}
 use Rattle.procap.specs.declared.fact.Argument.{Argument}
 use Rattle.procap.specs.declared.fact.Fact.{Fact}
-use Rattle.procap.proofs.ReadApart.{none_of}
+use Rattle.procap.proofs.ReadApart.{first_of, none_of}
 use Rattle.procap.proofs.ReadSoFar.{led_by, ReadSoFar, none_yet, one_more, none_more, rest_is}
 use Rattle.procap.proofs.WithPredicate.{fact_with}
 use Rattle.bl.specs.declared.FormulaTag.TheVariants.{FactTag}
-use Rattle.bl.specs.Trees.{Place, fixed, bound, Sort, fact}
+use Rattle.bl.specs.declared.Sort.{Sort}
+use Rattle.bl.specs.Trees.{Place, fixed, bound, fact}
 use Rattle.bl.specs.Formulas.{argument}
-use Rattle.bl.specs.Kinds.{as_term, terms_too, as_terms, as_fact}
+use Rattle.bl.specs.Kinds.{as_term, terms_too, as_terms}
 use Rattle.formula.specs.declared.terms.Terms.{Terms}
+use Rattle.formula.specs.declared.terms.Place as code
 use Rattle.formula.specs.declared.terms.Place.TheVariants.{Fixed, Bound}
-use Rattle.formula.specs.declared.parts.PlaceRead.{PlaceRead}
 use Rattle.formula.specs.declared.parts.Head.{Head}
 use Rattle.formula.specs.declared.parts.FormulaAt.{FormulaAt}
-use Rattle.formula.specs.TagBytes.{tag_byte}
 use Rattle.formula.specs.PutIn.{terms_of, FewTerms, place_of, fill_place}
-use Rattle.formula.specs.Meaning.{tag_of, Means, SpellsPlaces}
-use Rattle.formula.proofs.PartsRead.{same_tags, PlaceFound, HeadFound, next_of}
-use Rattle.formula.proofs.Shapes.{inside, fact_shape, not_fact}
+use Rattle.formula.specs.Meaning.{tag_of, Means, PlaceReads, HeadReads, SpellsPlaces}
+use Rattle.formula.proofs.PartsRead.{EndsAt, next_of}
+use Rattle.formula.proofs.Shapes.{kind, tag_is, inside, fact_shape}
 
 -- ── Places as terms ──
 
@@ -69,11 +67,11 @@ not_terms xs e = by (as_terms xs) e
     by None q = refl
     by (Some u) q = absurd (none-some (u.0, 0) (sym q))
 
-spells_terms : (p : ℕ) (xs : List Place) (f : Fact) → FactFound (with_predicate p (terms_in xs)) true f 0 → SpellsPlaces p xs true f
+spells_terms : (p : ℕ) (xs : List Place) (f : Fact) → FactReads (with_predicate p (terms_in xs)) (Some (f, 0)) → SpellsPlaces p xs (Some f)
 unfolding seen SpellsPlaces
 spells_terms p xs f h = by (as_terms xs) refl h
   where
-    by : (o : Option ((ts : List Term) × (xs ≡ map fixed ts))) → as_terms xs ≡ o → FactFound (with_predicate p (seen o)) true f 0 → SpellsPlaces p xs true f
+    by : (o : Option ((ts : List Term) × (xs ≡ map fixed ts))) → as_terms xs ≡ o → FactReads (with_predicate p (seen o)) (Some (f, 0)) → SpellsPlaces p xs (Some f)
     by None q h = absurd (none-some (spelled f, 0) h.0)
     by (Some u) q h = (u.0, u.1, q, ap (λ s. s.0) (sym (same_Some ((p, u.0), 0) (spelled f, 0) h.0)), h.1)
 
@@ -111,51 +109,64 @@ module _ {bytes : List ℕ} {terms : Terms} {count at : ℕ} {arguments : List A
     };
   }
 
-  module _ {next i : ℕ} (h : PlacesKept bytes terms count at arguments next i) (r : PlaceRead) (found : PlaceFound bytes next terms 0 r) (l : i < count) where
-    -- The next place, which is what was handed back, and those after it.
-    record NextPlace (x : Place) (sorts : List Sort) (xs : List Place) (e : ℕ) : Type 0 where
-      rest : List Place
-      reads : many (argument bytes sorts) (count - (i + 1)) r.next ≡ Some (rest, e)
-      kept : ReadSoFar most_terms no_argument argument_of (terms_in (filled terms xs)) (terms_in (x ∷ filled terms rest)) arguments i
-
-    next_place : (x : Place) → place_of r.place ≡ x → (sorts : List Sort) (xs : List Place) (e : ℕ) → FewTerms terms
-        → many (argument bytes sorts) count at ≡ Some (xs, e) → NextPlace x sorts xs e
-    next_place x is sorts xs e few q =
+  module _ {next i : ℕ} (h : PlacesKept bytes terms count at arguments next i) (l : i < count) where
+    -- Where there is no next place there are not so many.
+    pub place_missing : PlaceReads bytes next terms 0 None → (sorts : List Sort) (xs : List Place) (e : ℕ) → FewTerms terms
+        → many (argument bytes sorts) count at ≡ Some (xs, e) → as_terms (filled terms xs) ≡ None
+    place_missing found sorts xs e few q =
         let before = h.so_far sorts xs e few q in
-        let one = next_of (argument bytes sorts) count i next r.next before.left e l (found.1 sorts) before.reads in
-        record {
-          rest = one.rest;
-          reads = one.more;
-          kept = rest_is before.kept _ (first_filled terms before.left one.value one.rest x one.is
-              (sym is ∙ found.0 sorts one.value r.next few one.reads));
-        }
+        let one_less : count - i ≡ suc (count - (i + 1)) = omega arith in
+        let one = first_of (argument bytes sorts) (count - (i + 1)) next before.left e (rw one_less at before.reads) in
+        absurd (none-some _ (found sorts one.first one.next one.first_reads).1)
 
-    -- A term more.
-    pub one_kept : (t : Term) → r.place ≡ Fixed t → count ≤ most_terms → PlacesKept bytes terms count at (set arguments i (argument_of t)) r.next (i + 1)
-    unfolding place_of
-    one_kept t e m = record {
-      few = omega arith;
-      so_far = λ sorts xs end few q.
-          let one = next_place (fixed t) (ap place_of e) sorts xs end few q in
+    module _ (place : code.Place) (after : ℕ) (found : PlaceReads bytes next terms 0 (Some (place, after))) where
+      -- The next place, which is what was handed back, and those after it.
+      record NextPlace (x : Place) (sorts : List Sort) (xs : List Place) (e : ℕ) : Type 0 where
+        rest : List Place
+        reads : many (argument bytes sorts) (count - (i + 1)) after ≡ Some (rest, e)
+        kept : ReadSoFar most_terms no_argument argument_of (terms_in (filled terms xs)) (terms_in (x ∷ filled terms rest)) arguments i
+
+      next_place : (x : Place) → place_of place ≡ x → (sorts : List Sort) (xs : List Place) (e : ℕ) → FewTerms terms
+          → many (argument bytes sorts) count at ≡ Some (xs, e) → NextPlace x sorts xs e
+      next_place x is sorts xs e few q =
+          let before = h.so_far sorts xs e few q in
+          let ends : EndsAt (argument bytes sorts next) (Some after) = λ y e r. ap (option_map (λ p. p.1)) (found sorts y e r).1 in
+          let one = next_of (argument bytes sorts) count i next after before.left e l ends before.reads in
+          let there = found sorts one.value after one.reads in
+          let same = same_Some (place, after) (there.0, after) there.1 in
           record {
-            left = one.rest;
-            reads = one.reads;
-            kept = one_more one.kept t _ (omega arith) refl (fixed_before t _);
-          };
-    }
+            rest = one.rest;
+            reads = one.more;
+            kept = rest_is before.kept _ (first_filled terms before.left one.value one.rest x one.is
+                (sym is ∙ ap (λ p. place_of p.0) same ∙ there.2 few));
+          }
 
-    -- A variable leaves no fact.
-    pub variable_left : (j : ℕ) → r.place ≡ Bound j → (sorts : List Sort) (xs : List Place) (e : ℕ) → FewTerms terms → many (argument bytes sorts) count at ≡ Some (xs, e)
-        → as_terms (filled terms xs) ≡ None
-    unfolding place_of
-    variable_left j e sorts xs end few q =
-        let one = next_place (bound j) (ap place_of e) sorts xs end few q in
-        not_terms _ (none_more one.kept (bound_before j _))
+      -- A term more.
+      pub one_kept : (t : Term) → place ≡ Fixed t → count ≤ most_terms → PlacesKept bytes terms count at (set arguments i (argument_of t)) after (i + 1)
+      unfolding place_of
+      one_kept t e m = record {
+        few = omega arith;
+        so_far = λ sorts xs end few q.
+            let one = next_place (fixed t) (ap place_of e) sorts xs end few q in
+            record {
+              left = one.rest;
+              reads = one.reads;
+              kept = one_more one.kept t _ (omega arith) refl (fixed_before t _);
+            };
+      }
+
+      -- A variable leaves no fact.
+      pub variable_left : (j : ℕ) → place ≡ Bound j → (sorts : List Sort) (xs : List Place) (e : ℕ) → FewTerms terms → many (argument bytes sorts) count at ≡ Some (xs, e)
+          → as_terms (filled terms xs) ≡ None
+      unfolding place_of
+      variable_left j e sorts xs end few q =
+          let one = next_place (bound j) (ap place_of e) sorts xs end few q in
+          not_terms _ (none_more one.kept (bound_before j _))
 
   -- All of them.
   pub all_kept : {next i : ℕ} → PlacesKept bytes terms count at arguments next i → count ≤ i → (p : ℕ)
       → (sorts : List Sort) (xs : List Place) (e : ℕ) → FewTerms terms → many (argument bytes sorts) count at ≡ Some (xs, e)
-      → SpellsPlaces p (filled terms xs) true (record { predicate = p; count = count; arguments = arguments })
+      → SpellsPlaces p (filled terms xs) (Some (record { predicate = p; count = count; arguments = arguments }))
   all_kept {next} {i} h l p sorts xs e few q =
       let all : i ≡ count = omega (arith, h.few) in
       let before = h.so_far sorts xs e few q in
@@ -165,11 +176,9 @@ module _ {bytes : List ℕ} {terms : Terms} {count at : ℕ} {arguments : List A
 -- ── The fact that a formula is ──
 
 -- A formula that means a fact has its tag.
-fact_tagged : (bytes : List ℕ) (f : FormulaAt) (p : ℕ) (xs : List Place) → Means bytes 0 f (fact p xs) → tag_of bytes f.at ≡ FactTag
-unfolding as_fact
-fact_tagged bytes f p xs m =
-    elim (ℕ_discrete (tag_byte (tag_of bytes f.at)) (tag_byte FactTag))
-    [ yes e ↦ same_tags _ FactTag e | no n ↦ absurd (none-some (p, xs, refl) (sym (not_fact bytes 0 f m (λ e. n (ap tag_byte e))))) ]
+fact_tagged : (bytes : List ℕ) (f : FormulaAt) (p : ℕ) (xs : List Place) → Means bytes 0 f (fact p xs) → tag_of bytes f.at ≡ Some FactTag
+unfolding kind
+fact_tagged bytes f p xs m = tag_is bytes 0 f m refl
 
 -- The code's head of it: the predicate, and as many places as the fact has.
 record FactHeaded (bytes : List ℕ) (f : FormulaAt) (head : Head) (p : ℕ) (xs : List Place) (sorts : List Sort) (e : ℕ) : Type 0 where
@@ -179,32 +188,44 @@ record FactHeaded (bytes : List ℕ) (f : FormulaAt) (head : Head) (p : ℕ) (xs
   reads : many (argument bytes sorts) head.count head.next ≡ Some (written, e)
   is : filled f.terms written ≡ xs
 
-module _ (bytes : List ℕ) (f : FormulaAt) (after : ℕ) (past : f.at < length bytes → after ≡ f.at + 1) (head : Head)
-    (found : HeadFound bytes after head)
+module _ (bytes : List ℕ) (f : FormulaAt) (after : ℕ) (past : f.at < length bytes → after ≡ f.at + 1)
     (p : ℕ) (xs : List Place) (m : Means bytes 0 f (fact p xs)) where
-  fact_headed : FactHeaded bytes f head p xs m.sorts m.end
-  fact_headed =
+  fact_headed : (r : Option Head) → HeadReads bytes after r
+      → (head : Head) × (r ≡ Some head) × FactHeaded bytes f head p xs m.sorts m.end
+  fact_headed r found =
       let shape = fact_shape bytes 0 f m (fact_tagged bytes f p xs m) in
       let headed = shape.headed in
       let is = shape.is in
-      let same = found shape.predicate headed.count headed.after_predicate headed.after_count
-      (ap (number bytes 2) (past (inside bytes 0 f m)) ∙ headed.predicate_reads) headed.count_reads in
-      record {
-        written = headed.written;
-        few = omega (arith, headed.few, same.1);
-        predicate = same.0 ∙ cc;
-        reads = ap₂ (many (argument bytes m.sorts)) same.1 same.2 ∙ headed.places_read;
-        is = headed.filled ∙ cc;
-      }
+      let there = found shape.predicate headed.count headed.after_predicate headed.after_count
+      (ap (number bytes 2) (past (inside bytes 0 f m)) ∙ headed.predicate_reads) headed.count_reads in (
+        _,
+        there,
+        record {
+          written = headed.written;
+          few = headed.few;
+          predicate = cc;
+          reads = headed.places_read;
+          is = headed.filled ∙ cc;
+        },
+      )
 
-  -- So it has no more terms than a fact may have, and what its places spell the fact spells.
-  pub few_read : head.count ≤ most_terms
-  few_read = fact_headed.few
+  -- There is a head, with no more terms than a fact may have; and what its places spell the fact spells.
+  pub no_head_read : HeadReads bytes after None → ⊥
+  no_head_read found = none-some _ (fact_headed None found).1
 
-  pub spells_fact : (found : Bool) (g : Fact)
-      → ((sorts : List Sort) (ys : List Place) (e : ℕ) → FewTerms f.terms → many (argument bytes sorts) head.count head.next ≡ Some (ys, e)
-      → SpellsPlaces head.predicate (filled f.terms ys) found g)
-      → SpellsPlaces p xs found g
-  spells_fact found g h =
-      let r = fact_headed in
-      subst₂ (λ q ys. SpellsPlaces q ys found g) r.predicate r.is (h m.sorts r.written m.end m.few r.reads)
+  module _ (head : Head) (found : HeadReads bytes after (Some head)) where
+    headed_so : FactHeaded bytes f head p xs m.sorts m.end
+    headed_so =
+        let there = fact_headed (Some head) found in
+        subst (λ h. FactHeaded bytes f h p xs m.sorts m.end) (sym (same_Some head there.0 there.1)) there.2
+
+    pub few_read : head.count ≤ most_terms
+    few_read = headed_so.few
+
+    pub spells_fact : (g : Option Fact)
+        → ((sorts : List Sort) (ys : List Place) (e : ℕ) → FewTerms f.terms → many (argument bytes sorts) head.count head.next ≡ Some (ys, e)
+        → SpellsPlaces head.predicate (filled f.terms ys) g)
+        → SpellsPlaces p xs g
+    spells_fact g h =
+        let r = headed_so in
+        subst₂ (λ q ys. SpellsPlaces q ys g) r.predicate r.is (h m.sorts r.written m.end m.few r.reads)

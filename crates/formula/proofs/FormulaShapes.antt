@@ -1,8 +1,9 @@
 -- What is seen of a formula in bytes from its tag: where its parts stand, and what they mean.
 -- Each law goes along the reader by that tag, line by line, and puts the terms into what was read.
 use Prim.Native.Nat.{ℕ, suc, ◌+◌, ◌≤◌, ◌<◌}
-use mathlib.Core.Path.{◌≡◌, refl, sym}
+use mathlib.Core.Path.{◌≡◌, refl, sym, ◌∙◌}
 use mathlib.Core.List.{List, ◌∷◌, map}
+use Rattle.std.proofs.lemmas.Option.{same_Some}
 use Rattle.std.specs.Prelude.{Option, Some}
 use native.Mathlib.Omega.{arith}
 use borrow.Author.Tests.{leb-true, ltb-true}
@@ -10,20 +11,22 @@ use lib.ListN.{length}
 use Rattle.procap.specs.Facts.{most_terms}
 use Rattle.procap.specs.Bytes.{◌>>=◌, give, number, byte, many, predicate_and}
 use Rattle.bl.specs.declared.FormulaTag.{FormulaTag}
-use Rattle.bl.specs.declared.FormulaTag.TheVariants.{TopTag, AndTag, ImpliesTag, AllNamesTag, AllTimesTag, SaysTag, AtTag, AtomTag, FactTag, OrderTag, OrTag, FalsityTag, NoFormulaTag}
-use Rattle.bl.specs.Trees.{Place, Sort, names, times, Formula, top, and, implies, all, says, at, atom, fact, order, or, falsity}
+use Rattle.bl.specs.declared.FormulaTag.TheVariants.{TopTag, AndTag, ImpliesTag, AllNamesTag, AllTimesTag, SaysTag, AtTag, AtomTag, FactTag, OrderTag, OrTag, FalsityTag}
+use Rattle.bl.specs.declared.Sort.{Sort}
+use Rattle.bl.specs.declared.Sort.TheVariants.{Names, Times}
+use Rattle.bl.specs.Trees.{Place, Formula, top, and, implies, all, says, at, atom, fact, order, or, falsity}
 use Rattle.bl.specs.Formulas.{most_binders, argument, for_all, formula_by, formula}
 use Rattle.formula.specs.declared.parts.FormulaAt.{FormulaAt}
 use Rattle.formula.specs.PutIn.{terms_of, fill_place, fill}
 use Rattle.formula.specs.Meaning.{tag_of, begin, Means}
-use Rattle.procap.proofs.Readers.{IfRead, unread, read, so_read, then_read, ensure_read, any_read, many_read}
+use Rattle.procap.proofs.Readers.{IfRead, read, so_read, then_read, ensure_read, any_read, many_read}
 use Rattle.procap.proofs.ReadApart.{as_read}
 use Rattle.formula.proofs.FormulasRead.{place_read, ReadByTag, read_by_tag}
 
 -- The tag of a binder of this sort.
 unfoldable pub binder_tag : Sort → FormulaTag
-binder_tag names = AllNamesTag
-binder_tag times = AllTimesTag
+binder_tag Names = AllNamesTag
+binder_tag Times = AllTimesTag
 
 module _ (bytes : List ℕ) (d : ℕ) (f : FormulaAt) where
   -- What stands at a place where a term may, up to the place e.
@@ -58,11 +61,12 @@ module _ (bytes : List ℕ) (d : ℕ) (f : FormulaAt) where
     by_its_tag = read_by_tag bytes m.sorts f.at m.level _ m.reads
 
     -- What follows from whatever the reader by the tag finds, over the readers of n levels, follows.
-    by_tag : {X : Type 0} (tag : FormulaTag) → tag_of bytes f.at ≡ tag
+    by_tag : {X : Type 0} (tag : FormulaTag) → tag_of bytes f.at ≡ Some tag
         → ((n : ℕ) → m.level ≡ suc n → Leads X (formula_by bytes (λ around. formula bytes n around) m.sorts tag (f.at + 1))) → X
     by_tag tag e h =
         let r = by_its_tag in
-        so_read _ (rw e at r.reads) (h r.below r.lower) (sym m.filled) refl
+        let same = same_Some r.tag tag (sym r.tagged ∙ e) in
+        so_read _ (rw same at r.reads) (h r.below r.lower) (sym m.filled) refl
 
     -- What is read one level lower is a part: under d' binders of these sorts, or under the same as the formula itself.
     part_under : (d' : ℕ) (sorts : List Sort) → length sorts ≡ d' + f.terms.count → (n : ℕ) → m.level ≡ suc n
@@ -89,20 +93,24 @@ module _ (bytes : List ℕ) (d : ℕ) (f : FormulaAt) where
     pub inside : f.at < length bytes
     inside = by_its_tag.inside
 
-    pub tagged : tag_of bytes f.at ≡ NoFormulaTag → ⊥
-    unfolding formula_by
-    tagged e = by_tag NoFormulaTag e λ n l. unread
+    -- There is a tag.
+    pub its_tag : FormulaTag
+    its_tag = by_its_tag.tag
+
+    pub tagged : tag_of bytes f.at ≡ Some its_tag
+    unfolding its_tag
+    tagged = by_its_tag.tagged
 
     -- A formula without parts.
     pub record LeafShape (leaf : Formula) : Type 0 where
       pub is : F ≡ leaf
       pub ends : f.at + 1 ≡ m.end
 
-    pub top_shape : tag_of bytes f.at ≡ TopTag → LeafShape top
+    pub top_shape : tag_of bytes f.at ≡ Some TopTag → LeafShape top
     unfolding formula_by fill
     top_shape e = by_tag TopTag e λ n l. read λ is ends. record { is = is; ends = ends }
 
-    pub falsity_shape : tag_of bytes f.at ≡ FalsityTag → LeafShape falsity
+    pub falsity_shape : tag_of bytes f.at ≡ Some FalsityTag → LeafShape falsity
     unfolding formula_by fill
     falsity_shape e = by_tag FalsityTag e λ n l. read λ is ends. record { is = is; ends = ends }
 
@@ -127,15 +135,15 @@ module _ (bytes : List ℕ) (d : ℕ) (f : FormulaAt) where
       pub is : F ≡ make left right
       pub parts : TwoParts left right
 
-    pub and_shape : tag_of bytes f.at ≡ AndTag → SidesShape and
+    pub and_shape : tag_of bytes f.at ≡ Some AndTag → SidesShape and
     unfolding formula_by fill
     and_shape e = by_tag AndTag e (two_parts and λ A B is parts. record { left = put_in A; right = put_in B; is = is; parts = parts })
 
-    pub implies_shape : tag_of bytes f.at ≡ ImpliesTag → SidesShape implies
+    pub implies_shape : tag_of bytes f.at ≡ Some ImpliesTag → SidesShape implies
     unfolding formula_by fill
     implies_shape e = by_tag ImpliesTag e (two_parts implies λ A B is parts. record { left = put_in A; right = put_in B; is = is; parts = parts })
 
-    pub or_shape : tag_of bytes f.at ≡ OrTag → SidesShape or
+    pub or_shape : tag_of bytes f.at ≡ Some OrTag → SidesShape or
     unfolding formula_by fill
     or_shape e = by_tag OrTag e (two_parts or λ A B is parts. record { left = put_in A; right = put_in B; is = is; parts = parts })
 
@@ -161,10 +169,10 @@ module _ (bytes : List ℕ) (d : ℕ) (f : FormulaAt) where
           ends = ends;
         }
 
-    pub all_shape : (s : Sort) → tag_of bytes f.at ≡ binder_tag s → AllShape s
+    pub all_shape : (s : Sort) → tag_of bytes f.at ≡ Some (binder_tag s) → AllShape s
     unfolding formula_by binder_tag
-    all_shape names e = by_tag AllNamesTag e (under_binder names)
-    all_shape times e = by_tag AllTimesTag e (under_binder times)
+    all_shape Names e = by_tag AllNamesTag e (under_binder Names)
+    all_shape Times e = by_tag AllTimesTag e (under_binder Times)
 
     pub record SaysShape : Type 0 where
       pub who : Place
@@ -175,10 +183,10 @@ module _ (bytes : List ℕ) (d : ℕ) (f : FormulaAt) where
       pub part : Part d after said
       pub ends : part.means.end ≡ m.end
 
-    pub says_shape : tag_of bytes f.at ≡ SaysTag → SaysShape
+    pub says_shape : tag_of bytes f.at ≡ Some SaysTag → SaysShape
     unfolding formula_by fill part_under
     says_shape e = by_tag SaysTag e λ n l.
-        then_read (place_read bytes m.sorts _ names) λ k i x.
+        then_read (place_read bytes m.sorts _ Names) λ k i x.
         then_read (as_read _) λ A j a.
         read λ is ends. record {
           who = put_in_place k;
@@ -202,11 +210,11 @@ module _ (bytes : List ℕ) (d : ℕ) (f : FormulaAt) where
       pub part : Part d after body
       pub ends : part.means.end ≡ m.end
 
-    pub at_shape : tag_of bytes f.at ≡ AtTag → AtShape
+    pub at_shape : tag_of bytes f.at ≡ Some AtTag → AtShape
     unfolding formula_by fill part_under
     at_shape e = by_tag AtTag e λ n l.
-        then_read (place_read bytes m.sorts _ times) λ t i x.
-        then_read (place_read bytes m.sorts _ times) λ u j y.
+        then_read (place_read bytes m.sorts _ Times) λ t i x.
+        then_read (place_read bytes m.sorts _ Times) λ u j y.
         then_read (as_read _) λ A k a.
         read λ is ends. record {
           from = put_in_place t;
@@ -262,7 +270,7 @@ module _ (bytes : List ℕ) (d : ℕ) (f : FormulaAt) where
       pub is : F ≡ atom predicate places
       pub headed : Headed predicate places
 
-    pub atom_shape : tag_of bytes f.at ≡ AtomTag → AtomShape
+    pub atom_shape : tag_of bytes f.at ≡ Some AtomTag → AtomShape
     unfolding formula_by fill
     atom_shape e = by_tag AtomTag e λ n l.
         then_read head_read λ (p, xs) i h. read λ is ends. record { predicate = p; places = map put_in_place xs; is = is; headed = h ends }
@@ -273,7 +281,7 @@ module _ (bytes : List ℕ) (d : ℕ) (f : FormulaAt) where
       pub is : F ≡ fact predicate places
       pub headed : Headed predicate places
 
-    pub fact_shape : tag_of bytes f.at ≡ FactTag → FactShape
+    pub fact_shape : tag_of bytes f.at ≡ Some FactTag → FactShape
     unfolding formula_by fill
     fact_shape e = by_tag FactTag e λ n l.
         then_read head_read λ (p, xs) i h. read λ is ends. record { predicate = p; places = map put_in_place xs; is = is; headed = h ends }
@@ -286,11 +294,11 @@ module _ (bytes : List ℕ) (d : ℕ) (f : FormulaAt) where
       pub first : Stands m.sorts (f.at + 1) left middle
       pub second : Stands m.sorts middle right m.end
 
-    pub order_shape : tag_of bytes f.at ≡ OrderTag → OrderShape
+    pub order_shape : tag_of bytes f.at ≡ Some OrderTag → OrderShape
     unfolding formula_by fill
     order_shape e = by_tag OrderTag e λ n l.
-        then_read (place_read bytes m.sorts _ times) λ t i x.
-        then_read (place_read bytes m.sorts _ times) λ u j y.
+        then_read (place_read bytes m.sorts _ Times) λ t i x.
+        then_read (place_read bytes m.sorts _ Times) λ u j y.
         read λ is ends. record {
           left = put_in_place t;
           right = put_in_place u;

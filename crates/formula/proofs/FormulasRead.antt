@@ -3,10 +3,13 @@ use Prim.Native.Nat.{ℕ, zero, suc, ◌+◌, ◌<◌}
 use mathlib.Core.Path.{◌≡◌, refl}
 use mathlib.Core.List.{List}
 use Rattle.std.proofs.lemmas.Option.{none-some}
-use Rattle.std.specs.Prelude.{Some}
+use Rattle.std.specs.Prelude.{None, Option, Some}
 use lib.ListN.{length}
-use Rattle.bl.specs.Trees.{Sort, Formula}
+use Rattle.bl.specs.declared.Sort.{Sort}
+use Rattle.bl.specs.declared.FormulaTag.{FormulaTag}
+use Rattle.bl.specs.Trees.{Formula}
 use Rattle.bl.specs.Formulas.{argument, place, formula_by, formula}
+use Rattle.procap.specs.Bytes.{then, present}
 use Rattle.formula.specs.Meaning.{tag_of}
 use Rattle.procap.proofs.Readers.{IfRead, read, then_read, ensure_read}
 use Rattle.procap.proofs.ReadApart.{as_read, after_byte}
@@ -22,11 +25,17 @@ module _ (bytes : List ℕ) (sorts : List Sort) (start : ℕ) where
     pub inside : start < length bytes
     pub below : ℕ
     pub lower : levels ≡ suc below
-    pub reads : formula_by bytes (λ around. formula bytes below around) sorts (tag_of bytes start) (start + 1) ≡ Some r
+    pub tag : FormulaTag
+    pub tagged : tag_of bytes start ≡ Some tag
+    pub reads : formula_by bytes (λ around. formula bytes below around) sorts tag (start + 1) ≡ Some r
 
   pub read_by_tag : (levels : ℕ) (r : Formula × ℕ) → formula bytes levels sorts start ≡ Some r → ReadByTag levels r
-  unfolding formula
+  unfolding formula then present
   read_by_tag zero r h = absurd (none-some r h)
   read_by_tag (suc n) r h =
-      let (inside, reads) = after_byte bytes start _ r h in
-      record { inside = inside; below = n; lower = refl; reads = reads }
+      let (inside, reads) = after_byte bytes start _ r h in by inside (tag_of bytes start) refl reads
+    where
+      by : start < length bytes → (o : Option FormulaTag) → tag_of bytes start ≡ o
+          → then (present o (start + 1)) (formula_by bytes (λ around. formula bytes n around) sorts) ≡ Some r → ReadByTag (suc n) r
+      by inside None e h = absurd (none-some r h)
+      by inside (Some tag) e h = record { inside = inside; below = n; lower = refl; tag = tag; tagged = e; reads = h }

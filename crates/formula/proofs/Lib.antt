@@ -1,4 +1,5 @@
 -- Laws on formulas in bytes.
+pub mod TagsTold
 pub mod FormulasRead
 pub mod Filling
 pub mod FormulaShapes

@@ -7,8 +7,10 @@ use Rattle.std.specs.Prelude.{None, Option, Some}
 use native.Mathlib.Omega.{arith}
 use Rattle.procap.specs.declared.fact.Term.{Term}
 use Rattle.bl.specs.declared.FormulaTag.{FormulaTag}
-use Rattle.bl.specs.declared.FormulaTag.TheVariants.{TopTag, AndTag, ImpliesTag, AllNamesTag, AllTimesTag, SaysTag, AtTag, AtomTag, FactTag, OrderTag, OrTag, FalsityTag, NoFormulaTag}
-use Rattle.bl.specs.Trees.{Sort, names, times, Formula, top, and, implies, all, says, at, atom, fact, order, or, falsity, put}
+use Rattle.bl.specs.declared.FormulaTag.TheVariants.{TopTag, AndTag, ImpliesTag, AllNamesTag, AllTimesTag, SaysTag, AtTag, AtomTag, FactTag, OrderTag, OrTag, FalsityTag}
+use Rattle.bl.specs.declared.Sort.{Sort}
+use Rattle.bl.specs.declared.Sort.TheVariants.{Names, Times}
+use Rattle.bl.specs.Trees.{Formula, top, and, implies, all, says, at, atom, fact, order, or, falsity, put}
 use Rattle.bl.specs.Kinds.{as_top, as_and, as_implies, as_all, as_says, as_at, as_atom, as_fact, as_order, as_or, as_falsity}
 use Rattle.formula.specs.declared.terms.Terms.{Terms}
 use Rattle.formula.specs.declared.parts.FormulaAt.{FormulaAt}
@@ -16,11 +18,11 @@ use Rattle.formula.specs.PutIn.{terms_of, FewTerms}
 use Rattle.formula.specs.Meaning.{tag_of, Means}
 use Rattle.formula.proofs.Filling.{put_fill}
 unfoldable pub use Rattle.formula.proofs.FormulaShapes.{binder_tag}
-pub use Rattle.formula.proofs.FormulaShapes.{Stands, Part, inside, tagged, LeafShape, top_shape, falsity_shape, TwoParts, SidesShape, and_shape, implies_shape, or_shape, AllShape, all_shape}
+pub use Rattle.formula.proofs.FormulaShapes.{Stands, Part, inside, its_tag, tagged, LeafShape, top_shape, falsity_shape, TwoParts, SidesShape, and_shape, implies_shape, or_shape, AllShape, all_shape}
 pub use Rattle.formula.proofs.FormulaShapes.{SaysShape, says_shape, AtShape, at_shape, Headed, AtomShape, atom_shape, FactShape, fact_shape, OrderShape, order_shape}
 
 -- The tag that a formula begins with.
-kind : Formula → FormulaTag
+unfoldable pub kind : Formula → FormulaTag
 kind top = TopTag
 kind (and A B) = AndTag
 kind (implies A B) = ImpliesTag
@@ -40,13 +42,13 @@ none_there (Some x) n = absurd (n x)
 
 module _ (bytes : List ℕ) (d : ℕ) (f : FormulaAt) {F : Formula} (m : Means bytes d f F) where
   -- The tag is that of the formula's kind.
-  kind_by : (tag : FormulaTag) → tag_of bytes f.at ≡ tag → kind F ≡ tag
+  kind_by : (tag : FormulaTag) → tag_of bytes f.at ≡ Some tag → kind F ≡ tag
   unfolding kind binder_tag
   kind_by TopTag e = ap kind (top_shape bytes d f m e).is
   kind_by AndTag e = ap kind (and_shape bytes d f m e).is
   kind_by ImpliesTag e = ap kind (implies_shape bytes d f m e).is
-  kind_by AllNamesTag e = ap kind (all_shape bytes d f m names e).is
-  kind_by AllTimesTag e = ap kind (all_shape bytes d f m times e).is
+  kind_by AllNamesTag e = ap kind (all_shape bytes d f m Names e).is
+  kind_by AllTimesTag e = ap kind (all_shape bytes d f m Times e).is
   kind_by SaysTag e = ap kind (says_shape bytes d f m e).is
   kind_by AtTag e = ap kind (at_shape bytes d f m e).is
   kind_by AtomTag e = ap kind (atom_shape bytes d f m e).is
@@ -54,58 +56,57 @@ module _ (bytes : List ℕ) (d : ℕ) (f : FormulaAt) {F : Formula} (m : Means b
   kind_by OrderTag e = ap kind (order_shape bytes d f m e).is
   kind_by OrTag e = ap kind (or_shape bytes d f m e).is
   kind_by FalsityTag e = ap kind (falsity_shape bytes d f m e).is
-  kind_by NoFormulaTag e = absurd (tagged bytes d f m e)
 
   -- So the tag is that of any formula that it is equal to.
-  tag_is : {G : Formula} → F ≡ G → tag_of bytes f.at ≡ kind G
-  tag_is e = sym (kind_by _ refl) ∙ ap kind e
+  pub tag_is : {G : Formula} → F ≡ G → tag_of bytes f.at ≡ Some (kind G)
+  tag_is e = tagged bytes d f m ∙ ap Some (sym (kind_by _ (tagged bytes d f m)) ∙ ap kind e)
 
   -- Another tag is another kind.
-  pub not_top : (tag_of bytes f.at ≡ TopTag → ⊥) → as_top F ≡ None
+  pub not_top : (tag_of bytes f.at ≡ Some TopTag → ⊥) → as_top F ≡ None
   unfolding kind
   not_top n = none_there (as_top F) λ x. n (tag_is x)
 
-  pub not_and : (tag_of bytes f.at ≡ AndTag → ⊥) → as_and F ≡ None
+  pub not_and : (tag_of bytes f.at ≡ Some AndTag → ⊥) → as_and F ≡ None
   unfolding kind
   not_and n = none_there (as_and F) λ x. n (tag_is x.2)
 
-  pub not_implies : (tag_of bytes f.at ≡ ImpliesTag → ⊥) → as_implies F ≡ None
+  pub not_implies : (tag_of bytes f.at ≡ Some ImpliesTag → ⊥) → as_implies F ≡ None
   unfolding kind
   not_implies n = none_there (as_implies F) λ x. n (tag_is x.2)
 
-  pub not_all : (tag_of bytes f.at ≡ AllNamesTag → ⊥) → (tag_of bytes f.at ≡ AllTimesTag → ⊥) → as_all F ≡ None
+  pub not_all : (tag_of bytes f.at ≡ Some AllNamesTag → ⊥) → (tag_of bytes f.at ≡ Some AllTimesTag → ⊥) → as_all F ≡ None
   unfolding kind binder_tag
   not_all n k = none_there (as_all F) λ x. by x.0 (tag_is x.2)
     where
-      by : (s : Sort) → tag_of bytes f.at ≡ binder_tag s → ⊥
-      by names e = n e
-      by times e = k e
+      by : (s : Sort) → tag_of bytes f.at ≡ Some (binder_tag s) → ⊥
+      by Names e = n e
+      by Times e = k e
 
-  pub not_says : (tag_of bytes f.at ≡ SaysTag → ⊥) → as_says F ≡ None
+  pub not_says : (tag_of bytes f.at ≡ Some SaysTag → ⊥) → as_says F ≡ None
   unfolding kind
   not_says n = none_there (as_says F) λ x. n (tag_is x.2)
 
-  pub not_at : (tag_of bytes f.at ≡ AtTag → ⊥) → as_at F ≡ None
+  pub not_at : (tag_of bytes f.at ≡ Some AtTag → ⊥) → as_at F ≡ None
   unfolding kind
   not_at n = none_there (as_at F) λ x. n (tag_is x.3)
 
-  pub not_atom : (tag_of bytes f.at ≡ AtomTag → ⊥) → as_atom F ≡ None
+  pub not_atom : (tag_of bytes f.at ≡ Some AtomTag → ⊥) → as_atom F ≡ None
   unfolding kind
   not_atom n = none_there (as_atom F) λ x. n (tag_is x.2)
 
-  pub not_fact : (tag_of bytes f.at ≡ FactTag → ⊥) → as_fact F ≡ None
+  pub not_fact : (tag_of bytes f.at ≡ Some FactTag → ⊥) → as_fact F ≡ None
   unfolding kind
   not_fact n = none_there (as_fact F) λ x. n (tag_is x.2)
 
-  pub not_order : (tag_of bytes f.at ≡ OrderTag → ⊥) → as_order F ≡ None
+  pub not_order : (tag_of bytes f.at ≡ Some OrderTag → ⊥) → as_order F ≡ None
   unfolding kind
   not_order n = none_there (as_order F) λ x. n (tag_is x.2)
 
-  pub not_or : (tag_of bytes f.at ≡ OrTag → ⊥) → as_or F ≡ None
+  pub not_or : (tag_of bytes f.at ≡ Some OrTag → ⊥) → as_or F ≡ None
   unfolding kind
   not_or n = none_there (as_or F) λ x. n (tag_is x.2)
 
-  pub not_falsity : (tag_of bytes f.at ≡ FalsityTag → ⊥) → as_falsity F ≡ None
+  pub not_falsity : (tag_of bytes f.at ≡ Some FalsityTag → ⊥) → as_falsity F ≡ None
   unfolding kind
   not_falsity n = none_there (as_falsity F) λ x. n (tag_is x)
 

@@ -10,13 +10,15 @@ use lib.ListN.{length, take, drop, length-drop}
 use lib.Seq.{length-take-le, take-take, drop-drop}
 use lib.Dec.{leb}
 use Rattle.procap.specs.Tells.{pick}
-use Rattle.procap.specs.Bytes.{Reader, then, ◌>>=◌, give, fail, ensure, many, next, number, term_tag, term_by, predicate_and, whole}
+use Rattle.procap.specs.Bytes.{Reader, then, ◌>>=◌, give, present, fail, ensure, many, next, number, term_tag, term_by, predicate_and, whole}
 use Rattle.procap.specs.declared.tag.TermTag.{TermTag}
-use Rattle.procap.specs.declared.tag.TermTag.TheVariants.{NameTag, MomentTag, MinusInfinityTag, PlusInfinityTag, CtimeTag, VariableTag, NoTermTag}
+use Rattle.procap.specs.declared.tag.TermTag.TheVariants.{NameTag, MomentTag, MinusInfinityTag, PlusInfinityTag, CtimeTag, VariableTag}
 use Rattle.procap.proofs.ReadApart.{at_the_end}
 use Rattle.bl.specs.declared.FormulaTag.{FormulaTag}
-use Rattle.bl.specs.declared.FormulaTag.TheVariants.{TopTag, AndTag, ImpliesTag, AllNamesTag, AllTimesTag, SaysTag, AtTag, AtomTag, FactTag, OrderTag, OrTag, FalsityTag, NoFormulaTag}
-use Rattle.bl.specs.Trees.{Sort, names, times, Formula}
+use Rattle.bl.specs.declared.FormulaTag.TheVariants.{TopTag, AndTag, ImpliesTag, AllNamesTag, AllTimesTag, SaysTag, AtTag, AtomTag, FactTag, OrderTag, OrTag, FalsityTag}
+use Rattle.bl.specs.declared.Sort.{Sort}
+use Rattle.bl.specs.declared.Sort.TheVariants.{Names, Times}
+use Rattle.bl.specs.Trees.{Formula}
 use Rattle.bl.specs.Tags.{formula_tag}
 use Rattle.bl.specs.Formulas.{most_formula_levels, fixed_by, place_by, argument, place, for_all, formula_by, formula, formula_in}
 
@@ -45,6 +47,14 @@ module _ {start : ℕ} where
 
   fail_shifts : {A : Type 0} → Shifts start (fail {A = A}) fail
   fail_shifts = record { at_each = λ at. nothing }
+
+  present_shifts : {A : Type 0} (o : Option A) → Shifts start (present o) (present o)
+  unfolding present
+  present_shifts {A} o = record { at_each = by o }
+    where
+      by : (o : Option A) (at : ℕ) → Shifted start (present o at) (present o (start + at))
+      by (Some a) at = later
+      by None at = nothing
 
   ensure_shifts : (b : Bool) → Shifts start (ensure b) (ensure b)
   unfolding ensure
@@ -113,7 +123,6 @@ module _ (buffer : List ℕ) (start size : ℕ) (fits : start + size ≤ length 
   term_by_shifts PlusInfinityTag = give_shifts
   term_by_shifts CtimeTag = give_shifts
   term_by_shifts VariableTag = fail_shifts
-  term_by_shifts NoTermTag = fail_shifts
 
   predicate_shifts : {A : Type 0} (here there : Reader A) → Shifts start here there → Shifts start (predicate_and part here) (predicate_and buffer there)
   unfolding predicate_and
@@ -142,11 +151,13 @@ module _ (buffer : List ℕ) (start size : ℕ) (fits : start + size ≤ length 
         both_shift (number_shifts 1) λ i.
         both_shift (ensure_shifts _) λ _.
         give_shifts
-    place_by_shifts NoTermTag = fail_shifts
 
     argument_shifts : Shifts start (argument part sorts) (argument buffer sorts)
     unfolding argument
-    argument_shifts = both_shift (number_shifts 1) λ b. place_by_shifts (term_tag b)
+    argument_shifts =
+        both_shift (number_shifts 1) λ b.
+        both_shift (present_shifts (term_tag b)) λ tag.
+        place_by_shifts tag
 
     place_shifts : (s : Sort) → Shifts start (place part s sorts) (place buffer s sorts)
     unfolding place
@@ -178,36 +189,36 @@ module _ (buffer : List ℕ) (start size : ℕ) (fits : start + size ≤ length 
         both_shift (below sorts) λ A.
         both_shift (below sorts) λ B.
         give_shifts
-    formula_by_shifts AllNamesTag = for_all_shifts names
-    formula_by_shifts AllTimesTag = for_all_shifts times
+    formula_by_shifts AllNamesTag = for_all_shifts Names
+    formula_by_shifts AllTimesTag = for_all_shifts Times
     formula_by_shifts SaysTag =
-        both_shift (place_shifts sorts names) λ k.
+        both_shift (place_shifts sorts Names) λ k.
         both_shift (below sorts) λ A.
         give_shifts
     formula_by_shifts AtTag =
-        both_shift (place_shifts sorts times) λ t1.
-        both_shift (place_shifts sorts times) λ t2.
+        both_shift (place_shifts sorts Times) λ t1.
+        both_shift (place_shifts sorts Times) λ t2.
         both_shift (below sorts) λ A.
         give_shifts
     formula_by_shifts AtomTag = both_shift (arguments_shift sorts) λ x. give_shifts
     formula_by_shifts FactTag = both_shift (arguments_shift sorts) λ x. give_shifts
     formula_by_shifts OrderTag =
-        both_shift (place_shifts sorts times) λ t1.
-        both_shift (place_shifts sorts times) λ t2.
+        both_shift (place_shifts sorts Times) λ t1.
+        both_shift (place_shifts sorts Times) λ t2.
         give_shifts
     formula_by_shifts OrTag =
         both_shift (below sorts) λ A.
         both_shift (below sorts) λ B.
         give_shifts
     formula_by_shifts FalsityTag = give_shifts
-    formula_by_shifts NoFormulaTag = fail_shifts
 
   formula_shifts : (n : ℕ) (sorts : List Sort) → Shifts start (formula part n sorts) (formula buffer n sorts)
   unfolding formula
   formula_shifts zero sorts = fail_shifts
   formula_shifts (suc n) sorts =
       both_shift (number_shifts 1) λ b.
-      formula_by_shifts (formula part n) (formula buffer n) (formula_shifts n) sorts (formula_tag b)
+      both_shift (present_shifts (formula_tag b)) λ tag.
+      formula_by_shifts (formula part n) (formula buffer n) (formula_shifts n) sorts tag
 
   -- A formula read in the part is read at its place in the buffer.
   formula_shifted : (n : ℕ) (sorts : List Sort) (at : ℕ) (A : Formula) (e : ℕ) → formula (take size (drop start buffer)) n sorts at ≡ Some (A, e)

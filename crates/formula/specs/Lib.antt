@@ -1,6 +1,6 @@
 -- What a formula in bytes means.
 pub mod PutIn
-pub mod TagBytes
+pub mod Binders
 pub mod Ends
 pub mod Meaning
 pub mod Comparing

@@ -1,12 +1,13 @@
 -- What a formula in bytes means: the tree that the bytes read as, with the terms put in.
-use Rattle.std.specs.Prelude.{ℕ, ◌+◌, ◌≤◌, ◌≡◌, Bool, true, false, List, length, get_or, None, Some}
+use Rattle.std.specs.Prelude.{ℕ, ◌+◌, ◌≤◌, ◌≡◌, List, length, get_or, None, Option, Some}
 use Rattle.procap.specs.Facts.{spelled, fact_of}
 use Rattle.procap.specs.Numbered.{time_of}
 use Rattle.procap.specs.declared.time.Time.{Time}
 use Rattle.procap.specs.declared.fact.Term.{Term}
 use Rattle.procap.specs.declared.fact.Fact.{Fact}
 use Rattle.bl.specs.declared.FormulaTag.{FormulaTag}
-use Rattle.bl.specs.Trees.{Place, Sort, Formula}
+use Rattle.bl.specs.declared.Sort.{Sort}
+use Rattle.bl.specs.Trees.{Place, Formula}
 use Rattle.procap.specs.Bytes.{number, byte}
 use Rattle.bl.specs.Tags.{formula_tag}
 use Rattle.bl.specs.Formulas.{most_formula_levels, argument, formula}
@@ -21,8 +22,8 @@ use Rattle.formula.specs.declared.parts.Judgement.{Judgement}
 use Rattle.ledger.specs.Books.{GoesOn, book, Sound, Gives}
 use Rattle.formula.specs.PutIn.{terms_of, FewTerms, fill, place_of, fill_place}
 
--- The tag at a place.
-abbrev pub tag_of : List ℕ → ℕ → FormulaTag
+-- The tag at a place, if there is one; past the end there is none.
+abbrev pub tag_of : List ℕ → ℕ → Option FormulaTag
 tag_of bytes at = formula_tag (get_or bytes at 0)
 
 -- A formula that begins at another place, with the same terms put in.
@@ -54,24 +55,27 @@ pub record On (bytes : List ℕ) (j : Judgement) (F : Formula) (a b : Time) : Ty
   pub from : from_of j ≡ a
   pub to : to_of j ≡ b
 
--- Where the reader finds something at a place, a value with the terms put in is that, and a place after it is where it ends.
-abbrev pub PlaceReads : List ℕ → ℕ → Terms → ℕ → code.Place → Type 0
-PlaceReads bytes at terms under place =
-    (sorts : List Sort) (x : Place) (e : ℕ) → FewTerms terms → argument bytes sorts at ≡ Some (x, e)
-    → place_of place ≡ fill_place under (terms_of terms) x
+-- A value that ends at e was found: with the terms put in, under binders of its own, it is the place x.
+abbrev pub PlaceFound : Terms → ℕ → Place → ℕ → Option (code.Place × ℕ) → Type 0
+PlaceFound terms under x e r = (found : code.Place) × (r ≡ Some (found, e)) × (FewTerms terms → place_of found ≡ fill_place under (terms_of terms) x)
 
-abbrev pub PlaceEnds : List ℕ → ℕ → ℕ → Type 0
-PlaceEnds bytes at next = (sorts : List Sort) (x : Place) (e : ℕ) → argument bytes sorts at ≡ Some (x, e) → next ≡ e
+-- Where the reader finds something at a place, it is found with the terms put in, and a place after it is where it ends.
+abbrev pub PlaceReads : List ℕ → ℕ → Terms → ℕ → Option (code.Place × ℕ) → Type 0
+PlaceReads bytes at terms under r = (sorts : List Sort) (x : Place) (e : ℕ) → argument bytes sorts at ≡ Some (x, e) → PlaceFound terms under x e r
+
+abbrev pub PlaceEnds : List ℕ → ℕ → Option ℕ → Type 0
+PlaceEnds bytes at r = (sorts : List Sort) (x : Place) (e : ℕ) → argument bytes sorts at ≡ Some (x, e) → r ≡ Some e
 
 -- A predicate and a count are what the readers find.
-abbrev pub HeadReads : List ℕ → ℕ → Head → Type 0
+abbrev pub HeadReads : List ℕ → ℕ → Option Head → Type 0
 HeadReads bytes at r =
     (p n e₁ e₂ : ℕ) → number bytes 2 at ≡ Some (p, e₁) → byte bytes e₁ ≡ Some (n, e₂)
-    → (r.predicate ≡ p) × (r.count ≡ n) × (r.next ≡ e₂)
+    → r ≡ Some (record { predicate = p; count = n; next = e₂ })
 
 -- A formula of at most so many levels ends there.
-abbrev pub FormulaEnds : List ℕ → ℕ → ℕ → ℕ → Type 0
-FormulaEnds bytes left at r = (n : ℕ) (sorts : List Sort) (A : Formula) (e : ℕ) → n ≤ left → formula bytes n sorts at ≡ Some (A, e) → r ≡ e
+abbrev pub FormulaEnds : List ℕ → ℕ → ℕ → Option ℕ → Type 0
+FormulaEnds bytes left at r =
+    (n : ℕ) (sorts : List Sort) (A : Formula) (e : ℕ) → n ≤ left → formula bytes n sorts at ≡ Some (A, e) → r ≡ Some e
 
 -- Comparing two formulas in bytes is comparing what they mean, and where it goes on it comes to their ends.
 abbrev pub Compares : List ℕ → FormulaAt → List ℕ → FormulaAt → ℕ → ℕ → Ledger → ℕ → Ledger → ℕ → ℕ → Type 0
@@ -80,7 +84,7 @@ Compares left_bytes left right_bytes right d q l levels r left_next right_next =
     → (state list : List ℕ) → Sound (book l list)
     → Gives state (book l list) (same q F G) (book r list) tt × (GoesOn r → (left_next ≡ m.end) × (right_next ≡ n.end))
 
--- A fact read from the bytes spells these places, or a variable is left among them, by the flag.
-unfoldable pub SpellsPlaces : ℕ → List Place → Bool → Fact → Type 0
-SpellsPlaces p xs true f = (ts : List Term) × (e : _) × (as_terms xs ≡ Some (ts, e)) × (spelled f ≡ (p, ts)) × (f ≡ fact_of (spelled f))
-SpellsPlaces p xs false f = as_terms xs ≡ None
+-- A fact read from the bytes spells these places; or there is none, since a variable is left among them.
+unfoldable pub SpellsPlaces : ℕ → List Place → Option Fact → Type 0
+SpellsPlaces p xs (Some f) = (ts : List Term) × (e : _) × (as_terms xs ≡ Some (ts, e)) × (spelled f ≡ (p, ts)) × (f ≡ fact_of (spelled f))
+SpellsPlaces p xs None = as_terms xs ≡ None

@@ -5,10 +5,10 @@ ghost use Rattle.bl.specs.Questions.{misfit, need_equal};
 ghost use Rattle.bl.specs.Walk.{same_place};
 ghost use Rattle.formula.specs.PutIn.{place_of};
 ghost use Rattle.ledger.specs.Books.{Leads};
-ghost use Rattle.formula.specs.Comparing.{LeadsTo, move, ComparesPlaces, ComparesHeads, ComparesPair, ComparesBody, ComparesAfter, ComparesTagged};
+ghost use Rattle.formula.specs.Comparing.{LeadsTo, ended, PlacesOf, HeadsOf, FormulasOf, BodiesOf, RestsOf, TaggedOf};
 ghost use Rattle.formula.specs.PartPromises.{ComparesOver, PastTags};
 
-use crate::parts::{FormulaAt, head_at, place_at, same_tag, tag_at};
+use crate::parts::{FormulaAt, head_at, is_a, place_at, tag_at};
 use crate::terms::{MOST_BINDERS, Place};
 use bl::FormulaTag;
 use ledger::{Ledger, ask_order};
@@ -23,143 +23,202 @@ pub struct Compared {
     pub right_next: usize,
 }
 
-// Two formulas to compare, under so many binders that no term was put in for, and the offset of the step that asks.
+// A formula to compare, and the bytes that it stands in.
 #[derive(Clone, Copy)]
-struct Pair {
-    left: FormulaAt,
-    right: FormulaAt,
-    under: usize,
+pub struct Side<'a> {
+    pub bytes: &'a [u8],
+    pub formula: FormulaAt,
+}
+
+// Two formulas to compare, and the offset of the step that asks.
+#[derive(Clone, Copy)]
+struct Pair<'a> {
+    left: Side<'a>,
+    right: Side<'a>,
     offset: usize,
 }
 
-impl Pair {
-    // The pair at other places.
-    fn at(self, left_at: usize, right_at: usize) -> Pair
-        ensures { result ≡ move self left_at right_at }
-    {
-        let left_terms = self.left.terms;
-        let right_terms = self.right.terms;
-        Pair {
-            left: FormulaAt {
-                at: left_at,
-                terms: left_terms,
-            },
-            right: FormulaAt {
-                at: right_at,
-                terms: right_terms,
-            },
-            under: self.under,
-            offset: self.offset,
-        }
-    }
+// Where two parts of them stand, under so many binders that no term was put in for.
+#[derive(Clone, Copy)]
+struct Spot {
+    left: usize,
+    right: usize,
+    under: usize,
 }
 
 // Whether the left formula is the right one; both may stand under so many binders that no term was put in for.
 pub fn same(
-    left_bytes: &[u8],
-    left: FormulaAt,
-    right_bytes: &[u8],
-    right: FormulaAt,
+    left: Side<'_>,
+    right: Side<'_>,
     under: usize,
     offset: usize,
     ledger: Ledger,
     levels: u64,
 ) -> Compared
-    ensures { ComparesOver left_bytes left right_bytes right under offset ledger levels result }
+    ensures { ComparesOver left.entry right.entry under offset ledger levels result }
 {
-    let pair = Pair {
-        left: left,
-        right: right,
-        under: under,
-        offset: offset,
+    let spot = Spot {
+        left: left.formula.at,
+        right: right.formula.at,
+        under,
     };
-    same_pair(left_bytes, right_bytes, pair, ledger, levels)
+    let pair = Pair {
+        left,
+        right,
+        offset,
+    };
+    pair.same_formulas(spot, ledger, levels)
 }
 
-// Whether the formulas of a pair, of at most so many levels, are the same.
-#[cycle(same_after_same_body_same_pair_same_tagged)]
-fn same_pair(
-    left_bytes: &[u8],
-    right_bytes: &[u8],
-    pair: Pair,
-    ledger: Ledger,
-    levels: u64,
-) -> Compared
-    ensures { ComparesPair left_bytes.now right_bytes.now pair ledger levels result }
-{
-    if levels == 0 {
-        return different(ledger, pair.offset);
+impl Pair<'_> {
+    // Whether the formulas at a spot, of at most so many levels, are the same.
+    #[cycle(same_after_same_body_same_formulas_same_tagged)]
+    fn same_formulas(&self, spot: Spot, ledger: Ledger, levels: u64) -> Compared
+        ensures { FormulasOf self.now spot ledger levels result }
+    {
+        if levels == 0 {
+            return different(ledger, self.offset);
+        }
+        let Some(tag) = tag_at(self.left.bytes, spot.left) else {
+            return different(ledger, self.offset);
+        };
+        if !is_a(self.right.bytes, spot.right, tag) {
+            return different(ledger, self.offset);
+        }
+        self.same_tagged(tag, spot, ledger, levels - 1)
     }
-    let tag = tag_at(left_bytes, pair.left.at);
-    if !same_tag(tag, tag_at(right_bytes, pair.right.at)) {
-        return different(ledger, pair.offset);
+
+    // Whether two formulas of this tag are the same, part by part.
+    #[cycle(same_after_same_body_same_formulas_same_tagged)]
+    fn same_tagged(&self, tag: FormulaTag, spot: Spot, ledger: Ledger, levels: u64) -> Compared
+        ensures { TaggedOf self.now tag spot ledger levels result }
+    {
+        let parts = self.past_tags(spot);
+        match tag {
+            FormulaTag::TopTag | FormulaTag::FalsityTag => equal(ledger, parts),
+            FormulaTag::AndTag | FormulaTag::ImpliesTag | FormulaTag::OrTag => {
+                let one = self.same_formulas(parts, ledger, levels);
+                self.same_after(one, spot.under, levels)
+            }
+            FormulaTag::AllNamesTag | FormulaTag::AllTimesTag => {
+                self.same_body(parts, ledger, levels)
+            }
+            FormulaTag::SaysTag => {
+                let who = self.same_places(1, parts, ledger);
+                self.same_after(who, spot.under, levels)
+            }
+            FormulaTag::AtTag => {
+                let ends = self.same_places(2, parts, ledger);
+                self.same_after(ends, spot.under, levels)
+            }
+            FormulaTag::AtomTag | FormulaTag::FactTag => self.same_heads(parts, ledger),
+            FormulaTag::OrderTag => self.same_places(2, parts, ledger),
+        }
     }
-    same_tagged(left_bytes, right_bytes, tag, pair, ledger, levels - 1)
-}
 
-// Whether two formulas of this tag are the same, part by part.
-#[cycle(same_after_same_body_same_pair_same_tagged)]
-fn same_tagged(
-    left_bytes: &[u8],
-    right_bytes: &[u8],
-    tag: FormulaTag,
-    pair: Pair,
-    ledger: Ledger,
-    levels: u64,
-) -> Compared
-    ensures { ComparesTagged left_bytes.now right_bytes.now tag pair ledger levels result }
-{
-    let parts = after_tags(left_bytes, right_bytes, pair);
-    match tag {
-        FormulaTag::TopTag => equal(ledger, parts),
-        FormulaTag::AndTag => {
-            let one = same_pair(left_bytes, right_bytes, parts, ledger, levels);
-            same_after(left_bytes, right_bytes, one, pair, levels)
+    // The spot after the tags at a spot.
+    fn past_tags(&self, spot: Spot) -> Spot
+        ensures { PastTags self.now spot result }
+    {
+        Spot {
+            left: past(self.left.bytes, spot.left),
+            right: past(self.right.bytes, spot.right),
+            under: spot.under,
         }
-        FormulaTag::ImpliesTag => {
-            let one = same_pair(left_bytes, right_bytes, parts, ledger, levels);
-            same_after(left_bytes, right_bytes, one, pair, levels)
+    }
+
+    // Whether the formulas under a binder are the same; a ninth binder stands nowhere.
+    #[cycle(same_after_same_body_same_formulas_same_tagged)]
+    fn same_body(&self, spot: Spot, ledger: Ledger, levels: u64) -> Compared
+        ensures { BodiesOf self.now spot ledger levels result }
+    {
+        if MOST_BINDERS <= spot.under {
+            return different(ledger, self.offset);
         }
-        FormulaTag::AllNamesTag => same_body(left_bytes, right_bytes, parts, ledger, levels),
-        FormulaTag::AllTimesTag => same_body(left_bytes, right_bytes, parts, ledger, levels),
-        FormulaTag::SaysTag => {
-            let who = same_places(left_bytes, right_bytes, 1, parts, ledger);
-            same_after(left_bytes, right_bytes, who, pair, levels)
+        let body = Spot {
+            left: spot.left,
+            right: spot.right,
+            under: spot.under + 1,
+        };
+        self.same_formulas(body, ledger, levels)
+    }
+
+    // What was compared before, and then the formulas that stand after it.
+    #[cycle(same_after_same_body_same_formulas_same_tagged)]
+    fn same_after(&self, before: Compared, under: usize, levels: u64) -> Compared
+        ensures { RestsOf self.now before under levels result }
+    {
+        if !before.ledger.goes_on() {
+            return before;
         }
-        FormulaTag::AtTag => {
-            let ends = same_places(left_bytes, right_bytes, 2, parts, ledger);
-            same_after(left_bytes, right_bytes, ends, pair, levels)
+        let rest = Spot {
+            left: before.left_next,
+            right: before.right_next,
+            under,
+        };
+        self.same_formulas(rest, before.ledger, levels)
+    }
+
+    // Whether two predicates, counts and then the places are the same.
+    fn same_heads(&self, spot: Spot, ledger: Ledger) -> Compared
+        ensures { HeadsOf self.now spot ledger result }
+    {
+        let Some(one) = head_at(self.left.bytes, spot.left) else {
+            return different(ledger, self.offset);
+        };
+        let Some(other) = head_at(self.right.bytes, spot.right) else {
+            return different(ledger, self.offset);
+        };
+        if one.predicate != other.predicate {
+            return different(ledger, self.offset);
         }
-        FormulaTag::AtomTag => same_heads(left_bytes, right_bytes, parts, ledger),
-        FormulaTag::FactTag => same_heads(left_bytes, right_bytes, parts, ledger),
-        FormulaTag::OrderTag => same_places(left_bytes, right_bytes, 2, parts, ledger),
-        FormulaTag::OrTag => {
-            let one = same_pair(left_bytes, right_bytes, parts, ledger, levels);
-            same_after(left_bytes, right_bytes, one, pair, levels)
+        if one.count != other.count {
+            return different(ledger, self.offset);
         }
-        FormulaTag::FalsityTag => equal(ledger, parts),
-        FormulaTag::NoFormulaTag => different(ledger, pair.offset),
+        let places = Spot {
+            left: one.next,
+            right: other.next,
+            under: spot.under,
+        };
+        self.same_places(one.count, places, ledger)
+    }
+
+    // Whether so many places, one after another, are the same.
+    fn same_places(&self, count: usize, spot: Spot, ledger: Ledger) -> Compared
+        ensures { PlacesOf self.now count spot ledger result }
+    {
+        let left_terms = self.left.formula.terms;
+        let right_terms = self.right.formula.terms;
+        let mut now = ledger;
+        let mut next = spot;
+        for _ in 0..count {
+            let one = place_at(self.left.bytes, next.left, left_terms, next.under);
+            let Some((one, left)) = one else {
+                return different(now, self.offset);
+            };
+            let other = place_at(self.right.bytes, next.right, right_terms, next.under);
+            let Some((other, right)) = other else {
+                return different(now, self.offset);
+            };
+            now = same_place(now, self.offset, one, other);
+            next = Spot {
+                left,
+                right,
+                under: next.under,
+            };
+        }
+        equal(now, next)
     }
 }
 
-// The pair at the places after its tags.
-fn after_tags(left_bytes: &[u8], right_bytes: &[u8], pair: Pair) -> Pair
-    ensures { PastTags left_bytes right_bytes pair result }
-{
-    pair.at(
-        past(left_bytes, pair.left.at),
-        past(right_bytes, pair.right.at),
-    )
-}
-
-// The formulas are the same, and end where the pair stands.
-fn equal(ledger: Ledger, pair: Pair) -> Compared
-    ensures { result ≡ record { ledger = ledger; left_next = pair.left.at; right_next = pair.right.at } }
+// The formulas are the same, and end at a spot.
+fn equal(ledger: Ledger, spot: Spot) -> Compared
+    ensures { result ≡ ended ledger spot }
 {
     Compared {
-        ledger: ledger,
-        left_next: pair.left.at,
-        right_next: pair.right.at,
+        ledger,
+        left_next: spot.left,
+        right_next: spot.right,
     }
 }
 
@@ -171,99 +230,6 @@ fn different(ledger: Ledger, offset: usize) -> Compared
         ledger: ledger.misfit(offset),
         left_next: 0,
         right_next: 0,
-    }
-}
-
-// Whether the formulas under a binder are the same; a ninth binder stands nowhere.
-#[cycle(same_after_same_body_same_pair_same_tagged)]
-fn same_body(
-    left_bytes: &[u8],
-    right_bytes: &[u8],
-    pair: Pair,
-    ledger: Ledger,
-    levels: u64,
-) -> Compared
-    ensures { ComparesBody left_bytes.now right_bytes.now pair ledger levels result }
-{
-    if MOST_BINDERS <= pair.under {
-        return different(ledger, pair.offset);
-    }
-    let left = pair.left;
-    let right = pair.right;
-    let body = Pair {
-        left: left,
-        right: right,
-        under: pair.under + 1,
-        offset: pair.offset,
-    };
-    same_pair(left_bytes, right_bytes, body, ledger, levels)
-}
-
-// What was compared before, and then the formulas of the pair that stand after it.
-#[cycle(same_after_same_body_same_pair_same_tagged)]
-fn same_after(
-    left_bytes: &[u8],
-    right_bytes: &[u8],
-    before: Compared,
-    pair: Pair,
-    levels: u64,
-) -> Compared
-    ensures { ComparesAfter left_bytes.now right_bytes.now before pair levels result }
-{
-    let ledger = before.ledger;
-    if !ledger.goes_on() {
-        return before;
-    }
-    let rest = pair.at(before.left_next, before.right_next);
-    same_pair(left_bytes, right_bytes, rest, ledger, levels)
-}
-
-// Whether two predicates, counts and then the places are the same.
-fn same_heads(left_bytes: &[u8], right_bytes: &[u8], pair: Pair, ledger: Ledger) -> Compared
-    ensures { ComparesHeads left_bytes.now right_bytes.now pair ledger result }
-{
-    let one = head_at(left_bytes, pair.left.at);
-    let other = head_at(right_bytes, pair.right.at);
-    if one.predicate != other.predicate {
-        return different(ledger, pair.offset);
-    }
-    if one.count != other.count {
-        return different(ledger, pair.offset);
-    }
-    let places = pair.at(one.next, other.next);
-    same_places(left_bytes, right_bytes, one.count, places, ledger)
-}
-
-// Whether so many places, one after another, are the same.
-fn same_places(
-    left_bytes: &[u8],
-    right_bytes: &[u8],
-    count: usize,
-    pair: Pair,
-    ledger: Ledger,
-) -> Compared
-    ensures { ComparesPlaces left_bytes.now right_bytes.now count pair ledger result }
-{
-    let left_terms = pair.left.terms;
-    let right_terms = pair.right.terms;
-    let mut now = ledger;
-    let mut left_next = pair.left.at;
-    let mut right_next = pair.right.at;
-    let mut i: usize = 0;
-    while i < count {
-        let one = place_at(left_bytes, left_next, left_terms, pair.under);
-        let other = place_at(right_bytes, right_next, right_terms, pair.under);
-        let one_place = one.place;
-        let other_place = other.place;
-        now = same_place(now, pair.offset, one_place, other_place);
-        left_next = one.next;
-        right_next = other.next;
-        i += 1;
-    }
-    Compared {
-        ledger: now,
-        left_next: left_next,
-        right_next: right_next,
     }
 }
 

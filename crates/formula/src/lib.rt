@@ -1,6 +1,7 @@
 // Formulas as they stand in bytes: well formed or not, taken apart, compared.
 #![tactic(auto)]
 
+mod binders; // the binders around a place
 pub mod compare; // whether two formulas are the same
 pub mod ends; // whether a part holds one formula
 pub mod parts; // tags, places and ends

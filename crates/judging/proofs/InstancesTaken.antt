@@ -9,7 +9,9 @@ use Rattle.procap.specs.Writable.{TermInForm}
 use Rattle.procap.specs.declared.time.Time.{Time}
 use Rattle.procap.specs.declared.fact.Term.{Term}
 use Rattle.procap.specs.declared.fact.Term.TheVariants.{Name, When}
-use Rattle.bl.specs.Trees.{Sort, names, times, Formula, all, put}
+use Rattle.bl.specs.declared.Sort.{Sort}
+use Rattle.bl.specs.declared.Sort.TheVariants.{Names, Times}
+use Rattle.bl.specs.Trees.{Formula, all, put}
 use Rattle.bl.specs.Formulas.{most_binders}
 use Rattle.bl.specs.Kinds.{as_all}
 use Rattle.bl.specs.Questions.{done, misfit}
@@ -29,8 +31,8 @@ use Rattle.judging.proofs.PartsTaken.{After}
 
 -- The sort of a term: that of its binder, which it fits.
 unfoldable sort_of : Term → Sort
-sort_of (Name n) = names
-sort_of (When t) = times
+sort_of (Name n) = Names
+sort_of (When t) = Times
 
 own_binder : (t : Term) → binder_of t ≡ binder_tag (sort_of t)
 unfolding sort_of binder_of binder_tag
@@ -45,28 +47,28 @@ own_sort q (When t) = refl
 -- A sort is the term's, or the term does not fit it.
 its_sort : (q : ℕ) (s : Sort) (t : Term) → (need_sort q s t ≡ misfit q) ⊎ (binder_tag s ≡ binder_of t)
 unfolding need_sort binder_of binder_tag
-its_sort q names (Name n) = inr refl
-its_sort q names (When t) = inl refl
-its_sort q times (Name n) = inl refl
-its_sort q times (When t) = inr refl
+its_sort q Names (Name n) = inr refl
+its_sort q Names (When t) = inl refl
+its_sort q Times (Name n) = inl refl
+its_sort q Times (When t) = inr refl
 
 -- A for-all is one, and of one sort.
 is_an_all : {F A : Formula} {s : Sort} → F ≡ all s A → as_all F ≡ None → ⊥
 unfolding as_all
 is_an_all {F} {A} {s} e n = let h : as_all (all s A) ≡ None = rw e at n in let z : ◌≡◌ {A = ℕ} 0 1 = cc in omega arith
 
-of_one_sort : {F A B : Formula} → F ≡ all names A → F ≡ all times B → ⊥
+of_one_sort : {F A B : Formula} → F ≡ all Names A → F ≡ all Times B → ⊥
 of_one_sort e f = let z : ◌≡◌ {A = ℕ} 0 1 = cc in omega arith
 
 module _ {bytes : List ℕ} {f : FormulaAt} {F : Formula} (m : Means bytes 0 f F) where
   -- It has the tag of its sort.
-  all_tagged : (s : Sort) {A : Formula} → F ≡ all s A → (tag_of bytes f.at ≡ binder_tag s → ⊥) → ⊥
+  all_tagged : (s : Sort) {A : Formula} → F ≡ all s A → (tag_of bytes f.at ≡ Some (binder_tag s) → ⊥) → ⊥
   unfolding binder_tag
-  all_tagged names e n = is_an_all e (not_all bytes 0 f m n (λ h. of_one_sort e (all_shape bytes 0 f m times h).is))
-  all_tagged times e n = is_an_all e (not_all bytes 0 f m (λ h. of_one_sort (all_shape bytes 0 f m names h).is e) n)
+  all_tagged Names e n = is_an_all e (not_all bytes 0 f m n (λ h. of_one_sort e (all_shape bytes 0 f m Times h).is))
+  all_tagged Times e n = is_an_all e (not_all bytes 0 f m (λ h. of_one_sort (all_shape bytes 0 f m Names h).is e) n)
 
   -- Another tag than that of the term's binder.
-  pub instance_missing : (q : ℕ) (t : Term) (a b : Time) → (tag_of bytes f.at ≡ binder_of t → ⊥) → put_in q t (F, a, b) ≡ misfit q
+  pub instance_missing : (q : ℕ) (t : Term) (a b : Time) → (tag_of bytes f.at ≡ Some (binder_of t) → ⊥) → put_in q t (F, a, b) ≡ misfit q
   instance_missing q t a b n = by (as_all F) refl
     where
       kind : {s : Sort} {A : Formula} → F ≡ all s A → (need_sort q s t ≡ misfit q) ⊎ (binder_tag s ≡ binder_of t) → put_in q t (F, a, b) ≡ misfit q
@@ -79,7 +81,7 @@ module _ {bytes : List ℕ} {f : FormulaAt} {F : Formula} (m : Means bytes 0 f F
 
 -- The tag of the term's binder: the body, with the term put in.
 pub instance_there : {bytes : List ℕ} (j : Judgement) {F : Formula} {a b : Time} {l : Ledger} {at : ℕ} {more : Terms} {body : Judgement}
-    (o : On bytes j F a b) (q : ℕ) (t : Term) → tag_of bytes j.formula.at ≡ binder_of t
+    (o : On bytes j F a b) (q : ℕ) (t : Term) → tag_of bytes j.formula.at ≡ Some (binder_of t)
     → After bytes j.formula.at at → TermInForm t → more ≡ terms_with j.formula.terms t
     → body ≡ record { formula = record { at = at; terms = more }; from = j.from; to = j.to }
     → Takes (put_in q t (F, a, b)) q l l (λ x. On bytes body x.0 x.1 x.2)

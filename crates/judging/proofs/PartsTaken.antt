@@ -5,8 +5,9 @@ use mathlib.Core.List.{List}
 use Rattle.std.specs.Prelude.{Some}
 use lib.ListN.{length}
 use Rattle.bl.specs.declared.FormulaTag.{FormulaTag}
-use Rattle.bl.specs.declared.FormulaTag.TheVariants.{TopTag, AndTag, ImpliesTag, AllNamesTag, AllTimesTag, SaysTag, AtTag, AtomTag, FactTag, OrderTag, OrTag, FalsityTag, NoFormulaTag}
-use Rattle.bl.specs.Trees.{Sort, Formula}
+use Rattle.bl.specs.declared.FormulaTag.TheVariants.{TopTag, AndTag, ImpliesTag, AllNamesTag, AllTimesTag, SaysTag, AtTag, AtomTag, FactTag, OrderTag, OrTag, FalsityTag}
+use Rattle.bl.specs.declared.Sort.{Sort}
+use Rattle.bl.specs.Trees.{Formula}
 use Rattle.bl.specs.Formulas.{most_formula_levels, formula}
 use Rattle.bl.specs.Questions.{done, misfit}
 use Rattle.ledger.specs.declared.Ledger.{Ledger}
@@ -36,9 +37,9 @@ part_on j e f m = rw (e, f) (record { means = m; from = refl; to = refl })
 module _ {bytes : List ℕ} {f : FormulaAt} {F : Formula} (m : Means bytes 0 f F) (q : ℕ) where
   -- By the tag that is wanted: its two parts, or nothing.
   record Sided (wanted : FormulaTag) : Type 0 where
-    there : tag_of bytes f.at ≡ wanted
+    there : tag_of bytes f.at ≡ Some wanted
         → (A : Formula) × (B : Formula) × (sides wanted q F ≡ done (A, B)) × TwoParts bytes 0 f m A B
-    missing : (tag_of bytes f.at ≡ wanted → ⊥) → sides wanted q F ≡ misfit q
+    missing : (tag_of bytes f.at ≡ Some wanted → ⊥) → sides wanted q F ≡ misfit q
 
   sided : (wanted : FormulaTag) → TwoSided wanted → Sided wanted
   unfolding TwoSided sides
@@ -70,12 +71,12 @@ module _ {bytes : List ℕ} {f : FormulaAt} {F : Formula} (m : Means bytes 0 f F
 
   -- Another tag than the one wanted.
   pub sides_missing : (wanted : FormulaTag) {l r : Ledger} {So : Formula × Formula → Type 0} → TwoSided wanted
-      → (tag_of bytes f.at ≡ wanted → ⊥) → r ≡ misfitted l q → Takes (sides wanted q F) q l r So
+      → (tag_of bytes f.at ≡ Some wanted → ⊥) → r ≡ misfitted l q → Takes (sides wanted q F) q l r So
   sides_missing wanted t n e = unfit ((sided wanted t).missing n) e
 
 -- The tag wanted: the first side after it, the second where the first ends.
 pub sides_there : {bytes : List ℕ} (j : Judgement) {F : Formula} (m : Means bytes 0 j.formula F) (q : ℕ) (wanted : FormulaTag)
-    {l : Ledger} {at end : ℕ} → TwoSided wanted → tag_of bytes j.formula.at ≡ wanted
+    {l : Ledger} {at end : ℕ} → TwoSided wanted → tag_of bytes j.formula.at ≡ Some wanted
     → After bytes j.formula.at at → EndsAt bytes at end
     → Takes (sides wanted q F) q l l (λ x. On bytes (part_of j at) x.0 (from_of j) (to_of j) × On bytes (part_of j end) x.1 (from_of j) (to_of j))
 sides_there {bytes} j m q wanted {l} {at} {end} two tag next ends =

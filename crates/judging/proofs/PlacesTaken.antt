@@ -13,7 +13,8 @@ use Rattle.procap.specs.declared.fact.Term.{Term}
 use Rattle.procap.specs.declared.fact.Term.TheVariants.{Name, When}
 use Rattle.bl.specs.declared.FormulaTag.TheVariants.{SaysTag, AtTag, FactTag, OrderTag}
 use Rattle.bl.specs.Trees as tree
-use Rattle.bl.specs.Trees.{Sort, Formula, says, fact, fixed, bound}
+use Rattle.bl.specs.declared.Sort.{Sort}
+use Rattle.bl.specs.Trees.{Formula, says, fact, fixed, bound}
 use Rattle.bl.specs.Formulas.{argument}
 use Rattle.bl.specs.Kinds.{as_name, as_time}
 use Rattle.bl.specs.Questions.{Walk, misfit, ask_order, ask_fact}
@@ -121,7 +122,7 @@ module _ {bytes : List ℕ} {f : FormulaAt} {F : Formula} (m : Means bytes 0 f F
       rw (one.filled, other.filled) at (told m.sorts one.written other.written middle end m.few reads other.reads)
 
   -- An "at", on its own interval.
-  pub at_taken : (q : ℕ) {l : Ledger} {span : Span} {part : Judgement} → tag_of bytes f.at ≡ AtTag → SpanTold bytes f.terms at q l span
+  pub at_taken : (q : ℕ) {l : Ledger} {span : Span} {part : Judgement} → tag_of bytes f.at ≡ Some AtTag → SpanTold bytes f.terms at q l span
       → part ≡ record { formula = begin f span.next; from = span.from; to = span.to }
       → Takes (at_parts q F) q l span.ledger (λ x. On bytes part x.0 x.1 x.2)
   at_taken q tag told e =
@@ -131,7 +132,7 @@ module _ {bytes : List ℕ} {f : FormulaAt} {F : Formula} (m : Means bytes 0 f F
       (span_there q s.first s.second told)
 
   -- An order, asked.
-  pub order_taken : (q : ℕ) {state list : List ℕ} {l r : Ledger} {span : Span} → tag_of bytes f.at ≡ OrderTag
+  pub order_taken : (q : ℕ) {state list : List ℕ} {l r : Ledger} {span : Span} → tag_of bytes f.at ≡ Some OrderTag
       → SpanTold bytes f.terms at q l span → Sound (book l list)
       → (Sound (book span.ledger list) → Gives state (book span.ledger list) (ask_order q (time_of span.from) (time_of span.to)) (book r list) tt)
       → Gives state (book l list) (order_goal q F) (book r list) tt
@@ -149,7 +150,7 @@ module _ {bytes : List ℕ} {f : FormulaAt} {F : Formula} (m : Means bytes 0 f F
       span_given (unfit d e) = stops sound d e
 
   -- Who says, and what.
-  pub says_read : {read : PlaceRead} → tag_of bytes f.at ≡ SaysTag → PlaceTold bytes f.terms at read → SaysRead bytes f F read
+  pub says_read : {read : PlaceRead} → tag_of bytes f.at ≡ Some SaysTag → PlaceTold bytes f.terms at read → SaysRead bytes f F read
   says_read tag told =
       let s = says_shape bytes 0 f m tag in
       let n = next (inside bytes 0 f m) in
@@ -164,7 +165,7 @@ module _ {bytes : List ℕ} {f : FormulaAt} {F : Formula} (m : Means bytes 0 f F
 
 -- ── State facts ──
 
-module _ {bytes : List ℕ} {f : FormulaAt} {F : Formula} (m : Means bytes 0 f F) (q : ℕ) (tag : tag_of bytes f.at ≡ FactTag) (r : FactRead)
+module _ {bytes : List ℕ} {f : FormulaAt} {F : Formula} (m : Means bytes 0 f F) (q : ℕ) (tag : tag_of bytes f.at ≡ Some FactTag) (r : FactRead)
     (told : (p : ℕ) (xs : List tree.Place) → Means bytes 0 f (fact p xs) → SpellsPlaces p xs r.found r.fact) where
   -- What is told of the places of this fact.
   spelled_there : (b : Bool) → r.found ≡ b

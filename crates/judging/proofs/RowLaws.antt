@@ -1,5 +1,6 @@
 -- Laws of rows: numbers stored one after another stand where they were stored and leave the others, a row goes by its own 16 numbers, and
 -- the numbers that a row is put as are read back as that row.
+use Rattle.std.specs.Prelude.{None, Option, Some}
 use Prim.Native.Nat.{ℕ, zero, suc, ◌+◌, ◌*◌, ◌≤◌, ◌<◌}
 use mathlib.Core.Bool.{Bool, true, false}
 use mathlib.Core.Path.{◌≡◌, refl, sym, ap, ap₂, ◌∙◌}
@@ -15,8 +16,6 @@ use lib.Dec.{ltb, eqb}
 use Rattle.procap.specs.Tells.{pick}
 use Rattle.ledger.proofs.Stored.{sets_after}
 use Rattle.judging.specs.declared.rows.Row.{Row}
-use Rattle.judging.specs.declared.rows.Whose.{Whose}
-use Rattle.judging.specs.declared.rows.Whose.TheVariants.{Plain, Claim}
 use Rattle.formula.specs.PutIn.{terms_numbers}
 use Rattle.formula.specs.PartPromises.{front_on_ctime}
 use Rattle.judging.specs.RowsOf.{numbers_in, time_in, whose_in, row_from, row_in, most_rows, row_numbers, all_numbers}
@@ -102,7 +101,7 @@ module _ (xs ys : List ℕ) (s t : ℕ) where
   whose_alike : Alike 2 xs s ys t → whose_in xs s ≡ whose_in ys t
   unfolding whose_in
   whose_alike same =
-      ap₂ (λ (a b : ℕ). pick (eqb a 0) Plain (Claim b)) (first_alike same) (same 1 (omega arith))
+      ap₂ (λ (a b : ℕ). pick (eqb a 0) None (Some b)) (first_alike same) (same 1 (omega arith))
 
   time_alike : Alike 2 xs s ys t → time_in xs s ≡ time_in ys t
   time_alike same = λ d. record { kind = first_alike same d; second = same 1 (omega arith) d }
@@ -138,11 +137,11 @@ rows_alike xs ys i j same =
 
 -- Whose a row is, by its first number.
 module _ (rows : List ℕ) (at : ℕ) {kind : ℕ} (e : kind ≡ get_or rows at 0) where
-  pub whose_plain : kind ≡ 0 → Plain ≡ whose_in rows at
+  pub whose_plain : kind ≡ 0 → None ≡ whose_in rows at
   unfolding whose_in
   whose_plain z = rw (← e, z)
 
-  pub whose_claimed : {value : ℕ} → (kind ≡ 0 → ⊥) → value ≡ get_or rows (at + 1) 0 → Claim value ≡ whose_in rows at
+  pub whose_claimed : {value : ℕ} → (kind ≡ 0 → ⊥) → value ≡ get_or rows (at + 1) 0 → Some value ≡ whose_in rows at
   unfolding whose_in
   whose_claimed other f = rw (← e, ne_eqb kind 0 other, ← f)
 
@@ -152,7 +151,7 @@ module _ (rows : List ℕ) (i : ℕ) where
   unfolding row_in
   row_whole all = rw (eq-eqb (length rows) all_numbers all)
 
-  pub row_of_none : (length rows ≡ all_numbers → ⊥) → row_in rows i ≡ record { whose = Plain; judgement = front_on_ctime }
+  pub row_of_none : (length rows ≡ all_numbers → ⊥) → row_in rows i ≡ record { whose = None; judgement = front_on_ctime }
   unfolding row_in
   row_of_none apart = rw (ne_eqb (length rows) all_numbers apart)
 
@@ -174,9 +173,9 @@ pub row_put : (before : List ℕ) (start : ℕ) {first second third fourth after
 row_put before start row a b one two three four five = rw (five, four, three, two, one, a, b) (simp towards_suc)
 
 -- Each part is read back.
-whose_back : (w : Whose) → pick (eqb (whose_kind w) 0) Plain (Claim (whose_value w)) ≡ w
-whose_back Plain = refl
-whose_back (Claim k) = refl
+whose_back : (w : Option ℕ) → pick (eqb (whose_kind w) 0) None (Some (whose_value w)) ≡ w
+whose_back None = refl
+whose_back (Some k) = refl
 
 row_back : (row : Row) → length row.judgement.formula.terms.numbers ≡ terms_numbers → row_from (numbers_of row) 0 ≡ row
 unfolding row_from whose_in

@@ -2,7 +2,7 @@
 use Prim.Native.Nat.{ℕ, zero, suc, ◌+◌, ◌-◌, ◌≤◌, ◌<◌}
 use mathlib.Core.Path.{◌≡◌, refl, ◌∙◌}
 use mathlib.Core.List.{List, [], ◌∷◌}
-use Rattle.std.specs.Prelude.{Some}
+use Rattle.std.specs.Prelude.{Some, None}
 use native.Mathlib.Omega.{arith}
 use lib.ListN.{length, get_or}
 use Rattle.procap.specs.Lists.{nth}
@@ -16,7 +16,6 @@ use Rattle.bl.specs.Questions.{◌>>=◌, need}
 use Rattle.bl.specs.Walk.{assumed, need_view}
 use Rattle.ledger.specs.declared.Ledger.{Ledger}
 use Rattle.judging.specs.declared.rows.Row.{Row}
-use Rattle.judging.specs.declared.rows.Whose.TheVariants.{Plain, Claim}
 use Rattle.judging.specs.declared.judge.Inferred.{Inferred}
 use Rattle.ledger.specs.Books.{Book, book, Sound, Gives, misfitted}
 use Rattle.formula.specs.Meaning.{from_of, to_of}
@@ -77,21 +76,21 @@ assumed_at buffer rows below (suc n) (x ∷ Γ) (suc i) a l =
 module _ {state buffer list : List ℕ} {l : Ledger} {row : Row} {index below next : ℕ} (ps : List Pair) (q : ℕ) (v : rules.View) (r : Inferred)
     (s : Sound (book l list)) where
   -- A plain row that is shut out, one that is not, and a claim.
-  pub shut_row : {x : Assumption} → RowIs buffer row index below x → row.whose ≡ Plain → index < below → r.ledger ≡ misfitted l q
+  pub shut_row : {x : Assumption} → RowIs buffer row index below x → row.whose ≡ None → index < below → r.ledger ≡ misfitted l q
       → Yields state buffer (book l list) (assumed ps q v x) next r list
   unfolding assumed
   shut_row (is_plain e n o) p h f = absurd (n h)
   shut_row (is_claim e o) p h f = let z : ◌≡◌ {A = ℕ} 0 1 = cc in absurd (omega arith)
   shut_row (is_shut e i) p h f = yields_nothing r s refl f
 
-  pub plain_row : {x : Assumption} → RowIs buffer row index below x → row.whose ≡ Plain → below ≤ index
+  pub plain_row : {x : Assumption} → RowIs buffer row index below x → row.whose ≡ None → below ≤ index
       → r.ledger ≡ l → r.judgement ≡ row.judgement → r.next ≡ next → Yields state buffer (book l list) (assumed ps q v x) next r list
   unfolding assumed
   plain_row (is_plain e n o) p h f j m = yields r s refl f (rw j o) m
   plain_row (is_claim e o) p h f j m = let z : ◌≡◌ {A = ℕ} 0 1 = cc in absurd (omega arith)
   plain_row (is_shut e i) p h f j m = absurd (omega arith)
 
-  pub claim_row : {x : Assumption} {k : ℕ} → RowIs buffer row index below x → row.whose ≡ Claim k
+  pub claim_row : {x : Assumption} {k : ℕ} → RowIs buffer row index below x → row.whose ≡ Some k
       → Gives state (book l list) (need_view ps q v k (from_of row.judgement) (to_of row.judgement)) (book r.ledger list) tt → r.judgement ≡ row.judgement → r.next ≡ next
       → Yields state buffer (book l list) (assumed ps q v x) next r list
   unfolding assumed

@@ -4,35 +4,32 @@ use mathlib.Core.Path.{◌≡◌, refl}
 use mathlib.Core.List.{List, map}
 use Rattle.std.specs.Prelude.{None, Option, Some}
 use mathlib.Core.Logic.{if_pos, if_neg}
-use borrow.Author.Tests.{ne_eqb}
 use Rattle.procap.specs.declared.time.Time.{Time}
 use Rattle.procap.specs.declared.fact.Term.{Term}
 use Rattle.procap.specs.declared.fact.Term.TheVariants.{Name, When}
-use Rattle.bl.specs.Trees.{Place, fixed, Sort, Formula, top, and, implies, all, says, at, fact, order, or, falsity, put}
+use Rattle.bl.specs.declared.Sort.{Sort}
+use Rattle.bl.specs.Trees.{Place, fixed, Formula, top, and, implies, all, says, at, fact, order, or, falsity, put}
 use Rattle.bl.specs.Questions.{Walk, done, misfit, ◌>>=◌, ask_order, ask_fact, need}
 use Rattle.bl.specs.Kinds.{as_name, as_time, as_terms, as_top, as_and, as_implies, as_all, as_says, as_at, as_fact, as_order, as_or, as_falsity}
 use Rattle.bl.specs.Strength.{Pair, AsStrong}
 use Rattle.bl.specs.Deciding.{as_strong?}
+use Rattle.bl.specs.Rules.{view_of}
 use Rattle.bl.specs.Walk.{need_cover, need_strength, need_view, need_sort}
-use Rattle.judging.specs.Judging.{view_by, and_sides, implies_sides, or_sides, falsity_inferred, at_parts, says_parts, top_goal, fact_goal, order_goal, put_in}
+use Rattle.judging.specs.Judging.{and_sides, implies_sides, or_sides, falsity_inferred, at_parts, says_parts, top_goal, fact_goal, order_goal, put_in}
 use Rattle.judging.specs.Pieces.{two_times}
 
 module _ (q : ℕ) where
   -- ── Views ──
 
-  -- The view of somebody whom the principal is as strong as, of another, of nobody.
-  module _ (ps : List Pair) (kind j k : ℕ) (a b c d : Time) where
-    pub own_view : (kind ≡ 0 → ⊥) → AsStrong ps k j → need_view ps q (view_by kind j c d) k a b ≡ need_cover q a b c d
-    unfolding need_view need_strength view_by ◌>>=◌
-    own_view somebodys strong = rw (ne_eqb kind 0 somebodys, if_pos (as_strong? ps k j) strong (done (tt {0})) (misfit q))
+  -- The view of somebody whom the principal is as strong as, and of another.
+  module _ (ps : List Pair) (j k : ℕ) (a b c d : Time) where
+    pub own_view : AsStrong ps k j → need_view ps q (view_of j c d) k a b ≡ need_cover q a b c d
+    unfolding need_view need_strength ◌>>=◌
+    own_view strong = rw (if_pos (as_strong? ps k j) strong (done (tt {0})) (misfit q))
 
-    pub other_view : (kind ≡ 0 → ⊥) → (AsStrong ps k j → ⊥) → need_view ps q (view_by kind j c d) k a b ≡ misfit q
-    unfolding need_view need_strength view_by ◌>>=◌
-    other_view somebodys weak = rw (ne_eqb kind 0 somebodys, if_neg (as_strong? ps k j) weak (done (tt {0})) (misfit q))
-
-    pub nobodys_view : kind ≡ 0 → need_view ps q (view_by kind j c d) k a b ≡ misfit q
-    unfolding need_view view_by
-    nobodys_view nobodys = rw nobodys
+    pub other_view : (AsStrong ps k j → ⊥) → need_view ps q (view_of j c d) k a b ≡ misfit q
+    unfolding need_view need_strength ◌>>=◌
+    other_view weak = rw (if_neg (as_strong? ps k j) weak (done (tt {0})) (misfit q))
 
   -- ── What must be there ──
 

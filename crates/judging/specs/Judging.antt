@@ -1,10 +1,9 @@
 -- What one step makes of a goal or of what was inferred: the parts of the walk that look at no other step.
-use Rattle.std.specs.Prelude.{ℕ, ◌+◌, ◌≡◌, List, eqb, ltb}
+use Rattle.std.specs.Prelude.{ℕ, ◌+◌, ◌≡◌, List, ltb, None, Option, Some}
 use Rattle.procap.specs.Tells.{pick}
-use Rattle.procap.specs.Numbered.{time_of, time_numbers}
+use Rattle.procap.specs.Numbered.{time_of}
 use Rattle.procap.specs.declared.time.Time.{Time}
 use Rattle.procap.specs.declared.time.TimeNumbers.{TimeNumbers}
-use Rattle.procap.specs.declared.time.Time.TheVariants.{Ctime}
 use Rattle.procap.specs.declared.fact.Term.{Term}
 use Rattle.bl.specs.declared.FormulaTag.{FormulaTag}
 use Rattle.bl.specs.declared.FormulaTag.TheVariants.{TopTag, AndTag, ImpliesTag, AllNamesTag, AllTimesTag, SaysTag, AtTag, AtomTag, FactTag, OrderTag, OrTag, FalsityTag, NoFormulaTag}
@@ -22,11 +21,11 @@ use Rattle.ledger.specs.declared.Ledger.{Ledger}
 use Rattle.formula.specs.declared.parts.Judgement.{Judgement}
 use Rattle.judging.specs.declared.judge.View.{View}
 use Rattle.judging.specs.declared.judge.Scope.{Scope}
+use Rattle.judging.specs.declared.judge.Side.{Side}
+use Rattle.judging.specs.declared.judge.Side.TheVariants.{First, Second}
 use Rattle.judging.specs.declared.judge.Shell.{Shell}
 use Rattle.judging.specs.declared.judge.Shell.TheVariants.{AtShell, SaysShell, LeftShell, RightShell}
 use Rattle.judging.specs.declared.rows.Row.{Row}
-use Rattle.judging.specs.declared.rows.Whose.{Whose}
-use Rattle.judging.specs.declared.rows.Whose.TheVariants.{Plain, Claim}
 use Rattle.judging.specs.declared.judge.Inferred.{Inferred}
 use Rattle.judging.specs.declared.judge.Checked.{Checked}
 use Rattle.judging.specs.declared.judge.Application.{Application}
@@ -39,21 +38,18 @@ use Rattle.judging.specs.RowsOf.{most_rows}
 abbrev pub and_then : {A B : Type 0} → Walk A → (A → Walk B) → Walk B
 and_then w g = w >>= g
 
--- Nobody's view, by the kind 0, or that of k on an interval.
-unfoldable pub view_by : ℕ → ℕ → Time → Time → rules.View
-view_by kind k c d = pick (eqb kind 0) no_view (view_of k c d)
+-- In whose view a step stands, and on which interval: nobody's, or that of a principal.
+unfoldable pub view_in : Option View → rules.View
+view_in None = no_view
+view_in (Some v) = view_of v.principal (time_of v.from) (time_of v.to)
 
--- In whose view a step stands, and on which interval.
-abbrev pub view_in : View → rules.View
-view_in v = view_by v.kind v.principal (time_of v.from) (time_of v.to)
-
--- [Rules, judgements] The scope at the start of a walk: nothing is assumed, and the view is nobody's; its interval says nothing.
+-- [Rules, judgements] The scope at the start of a walk: nothing is assumed, and the view is nobody's.
 abbrev pub outermost : Scope
-outermost = record { count = 0; shut = 0; view = record { kind = 0; principal = 0; from = time_numbers Ctime; to = time_numbers Ctime } }
+outermost = record { count = 0; shut = 0; view = None }
 
 -- The view of k on the interval of a judgement.
 abbrev pub view_on : ℕ → Judgement → View
-view_on k j = record { kind = 1; principal = k; from = j.from; to = j.to }
+view_on k j = record { principal = k; from = j.from; to = j.to }
 
 -- One assumption more; and the same where a row has room for it.
 abbrev pub one_more : Scope → Scope
@@ -63,9 +59,9 @@ unfoldable pub scope_with : Scope → Scope
 scope_with s = pick (ltb s.count most_rows) (one_more s) s
 
 -- The scope inside of a shell, by whose the row is that stands there, and by its judgement.
-abbrev pub scope_by : Scope → Whose → Judgement → Scope
-scope_by scope Plain j = scope
-scope_by scope (Claim k) j = record { count = scope.count; shut = scope.count; view = view_on k j }
+abbrev pub scope_by : Scope → Option ℕ → Judgement → Scope
+scope_by scope None j = scope
+scope_by scope (Some k) j = record { count = scope.count; shut = scope.count; view = Some (view_on k j) }
 
 -- [Rules 2A] The scope inside of a shell: in a "says" the view of who says it, on the interval that is checked, with the plain assumptions from outside shut out.
 abbrev pub scope_inside : Scope → Row → Scope
@@ -89,7 +85,7 @@ part_of j at = record { formula = begin j.formula at; from = j.from; to = j.to }
 
 -- The side of a formula that begins at a place, as a plain assumption on an interval.
 abbrev pub plain_side : Judgement → ℕ → TimeNumbers → TimeNumbers → Row
-plain_side j at from to = record { whose = Plain; judgement = record { formula = begin j.formula at; from = from; to = to } }
+plain_side j at from to = record { whose = None; judgement = record { formula = begin j.formula at; from = from; to = to } }
 
 -- Nothing is inferred: beside the ledger stand the front of the bytes on [ctime,ctime] and the place 0, which say nothing.
 abbrev pub nothing_inferred : Ledger → Inferred
@@ -214,6 +210,10 @@ unfoldable pub second_side : ℕ → walk.Judgement → Walk walk.Judgement
 second_side q (F, a, b) = do
   (A, B) ← and_sides q F
   done (B, a, b)
+
+abbrev pub side_of : Side → ℕ → walk.Judgement → Walk walk.Judgement
+side_of First q j = first_side q j
+side_of Second q j = second_side q j
 
 unfoldable pub put_in : ℕ → Term → walk.Judgement → Walk walk.Judgement
 put_in q t (F, a, b) = do

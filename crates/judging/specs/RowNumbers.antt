@@ -1,21 +1,19 @@
 -- The numbers that a row is put as, and the rows with one put among them.
-use Rattle.std.specs.Prelude.{ℕ, ◌*◌, List, ◌∷◌, length, ltb, eqb}
+use Rattle.std.specs.Prelude.{ℕ, ◌*◌, List, ◌∷◌, length, ltb, eqb, None, Option, Some}
 use Rattle.std.proofs.lemmas.List.Edits.{sets}
 use Rattle.procap.specs.Tells.{pick}
 use Rattle.judging.specs.declared.rows.Row.{Row}
-use Rattle.judging.specs.declared.rows.Whose.{Whose}
-use Rattle.judging.specs.declared.rows.Whose.TheVariants.{Plain, Claim}
 use Rattle.judging.specs.RowsOf.{most_rows, row_numbers, all_numbers}
 
 -- Whether it is a claim.
-abbrev pub whose_kind : Whose → ℕ
-whose_kind Plain = 0
-whose_kind (Claim k) = 1
+abbrev pub whose_kind : Option ℕ → ℕ
+whose_kind None = 0
+whose_kind (Some k) = 1
 
 -- The principal that claims it, 0 where none does.
-abbrev pub whose_value : Whose → ℕ
-whose_value Plain = 0
-whose_value (Claim k) = k
+abbrev pub whose_value : Option ℕ → ℕ
+whose_value None = 0
+whose_value (Some k) = k
 
 -- The numbers of a row, in order.
 abbrev pub numbers_of : Row → List ℕ

@@ -1,5 +1,5 @@
 -- Rows of numbers, and the assumptions and certificates that they stand for.
-use Rattle.std.specs.Prelude.{ℕ, zero, suc, ◌+◌, ◌*◌, ◌≤◌, ◌<◌, ◌≡◌, List, [], ◌∷◌, length, get_or, eqb, Some}
+use Rattle.std.specs.Prelude.{ℕ, zero, suc, ◌+◌, ◌*◌, ◌≤◌, ◌<◌, ◌≡◌, List, [], ◌∷◌, length, get_or, eqb, Some, None, Option}
 use Rattle.procap.specs.Lists.{nth}
 use Rattle.procap.specs.Tells.{pick}
 use Rattle.procap.specs.declared.time.Time.{Time}
@@ -8,8 +8,6 @@ use Rattle.bl.specs.Trees.{Formula}
 use Rattle.bl.specs.Rules.{Assumption, plain, claim, shut}
 use Rattle.bl.specs.Certificates.{Statement, most_certificates}
 use Rattle.judging.specs.declared.rows.Row.{Row}
-use Rattle.judging.specs.declared.rows.Whose.{Whose}
-use Rattle.judging.specs.declared.rows.Whose.TheVariants.{Plain, Claim}
 use Rattle.formula.specs.PutIn.{terms_numbers}
 use Rattle.formula.specs.Meaning.{On}
 use Rattle.formula.specs.PartPromises.{front_on_ctime}
@@ -36,8 +34,8 @@ abbrev pub time_in : List ℕ → ℕ → TimeNumbers
 time_in rows at = record { kind = get_or rows at 0; second = get_or rows (at + 1) 0 }
 
 -- Whose a row is.
-unfoldable pub whose_in : List ℕ → ℕ → Whose
-whose_in rows at = pick (eqb (get_or rows at 0) 0) Plain (Claim (get_or rows (at + 1) 0))
+unfoldable pub whose_in : List ℕ → ℕ → Option ℕ
+whose_in rows at = pick (eqb (get_or rows at 0) 0) None (Some (get_or rows (at + 1) 0))
 
 -- The row that sixteen numbers are, by its index.
 unfoldable pub row_from : List ℕ → ℕ → Row
@@ -57,13 +55,13 @@ row_from rows i =
 
 -- The row at an index, where all rows are there; else a plain one that says nothing.
 unfoldable pub row_in : List ℕ → ℕ → Row
-row_in rows i = pick (eqb (length rows) all_numbers) (row_from rows i) (record { whose = Plain; judgement = front_on_ctime })
+row_in rows i = pick (eqb (length rows) all_numbers) (row_from rows i) (record { whose = None; judgement = front_on_ctime })
 
 -- The row of an index is an assumption, where the plain ones below `below` are shut out.
 pub data RowIs (buffer : List ℕ) (row : Row) (index below : ℕ) : Assumption → Type 0 where
-  is_plain : {A : Formula} {a b : Time} → row.whose ≡ Plain → (index < below → ⊥) → On buffer row.judgement A a b → RowIs buffer row index below (plain A a b)
-  is_claim : {k : ℕ} {A : Formula} {a b : Time} → row.whose ≡ Claim k → On buffer row.judgement A a b → RowIs buffer row index below (claim k A a b)
-  is_shut : row.whose ≡ Plain → index < below → RowIs buffer row index below shut
+  is_plain : {A : Formula} {a b : Time} → row.whose ≡ None → (index < below → ⊥) → On buffer row.judgement A a b → RowIs buffer row index below (plain A a b)
+  is_claim : {k : ℕ} {A : Formula} {a b : Time} → row.whose ≡ Some k → On buffer row.judgement A a b → RowIs buffer row index below (claim k A a b)
+  is_shut : row.whose ≡ None → index < below → RowIs buffer row index below shut
 
 -- The first n rows are the assumptions Γ, the last row the latest.
 unfoldable pub Assumed : List ℕ → List ℕ → ℕ → ℕ → List Assumption → Type 0
@@ -74,7 +72,7 @@ Assumed buffer rows below (suc n) (x ∷ Γ) = RowIs buffer (row_in rows n) n be
 
 -- A row is what a certificate says: a claim of its principal.
 pub record Certifies (buffer : List ℕ) (row : Row) (s : Statement) : Type 0 where
-  pub whose : row.whose ≡ Claim s.by
+  pub whose : row.whose ≡ Some s.by
   pub on : On buffer row.judgement s.says s.from s.to
 
 -- The rows are the certificates, in order.

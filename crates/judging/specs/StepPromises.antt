@@ -1,10 +1,11 @@
 -- What the function of each single step promises, where the formulas that it is handed mean something.
-use Rattle.std.specs.Prelude.{ℕ, ◌+◌, ◌≤◌, ◌<◌, ◌≡◌, List, length, Some}
+use Rattle.std.specs.Prelude.{ℕ, ◌+◌, ◌≤◌, ◌<◌, ◌≡◌, List, length, Option, Some, None}
 use Rattle.procap.specs.Bytes.{byte}
 use Rattle.procap.specs.Numbered.{time_numbers}
 use Rattle.procap.specs.declared.time.Time.{Time}
 use Rattle.bl.specs.declared.FormulaTag.{FormulaTag}
-use Rattle.bl.specs.Trees.{Place, Sort, Formula}
+use Rattle.bl.specs.declared.Sort.{Sort}
+use Rattle.bl.specs.Trees.{Place, Formula}
 use Rattle.bl.specs.Formulas.{argument}
 use Rattle.bl.specs.Certificates.{Statement}
 use Rattle.bl.specs.Strength.{Pair}
@@ -12,7 +13,7 @@ use Rattle.bl.specs.Rules.{Assumption}
 use Rattle.bl.specs.Questions.{Walk, Test}
 use Rattle.bl.specs.Steps as steps
 use Rattle.bl.specs.Walk as walk
-use Rattle.strength.specs.Strengths.{StrengthsOf}
+use Rattle.strength.specs.Strengths.{StrengthsLent, LentStrengthsOf}
 use Rattle.ledger.specs.declared.Ledger.{Ledger}
 use Rattle.ledger.specs.Books.{GoesOn, Book, book, Sound, Gives, Leads}
 use Rattle.formula.specs.declared.parts.Judgement.{Judgement}
@@ -26,7 +27,6 @@ use Rattle.judging.specs.declared.judge.Checked.{Checked}
 use Rattle.judging.specs.declared.judge.Sides.{Sides}
 use Rattle.judging.specs.declared.judge.Shell.{Shell}
 use Rattle.judging.specs.declared.judge.Span.{Span}
-use Rattle.judging.specs.declared.rows.Whose.TheVariants.{Plain, Claim}
 use Rattle.judging.specs.declared.judge.Inside.{Inside}
 use Rattle.judging.specs.declared.judge.Application.{Application}
 use Rattle.judging.specs.RowsOf.{RowIs, Assumed, Certified, most_rows, row_in}
@@ -34,27 +34,27 @@ use Rattle.judging.specs.Judging.{view_in, use_local, use_certificate, part_of, 
 use Rattle.judging.specs.Pieces.{two_times}
 
 -- What a principal claims or certifies is usable in the view, by the pairs that gave the strengths.
-abbrev pub NeedsView : List ℕ → Ledger → ℕ → View → ℕ → Judgement → Ledger → Type 0
-NeedsView strengths l q v k j r = (ps : List Pair) → StrengthsOf strengths ps → Leads l (walk.need_view ps q (view_in v) k (from_of j) (to_of j)) r
+abbrev pub NeedsView : StrengthsLent → Ledger → ℕ → Option View → ℕ → Judgement → Ledger → Type 0
+NeedsView strengths l q v k j r = (ps : List Pair) → LentStrengthsOf strengths ps → Leads l (walk.need_view ps q (view_in v) k (from_of j) (to_of j)) r
 
 -- A row that is an assumption is used as it stands.
-abbrev pub UsesRow : List ℕ → List ℕ → ℕ → Scope → ℕ → Ledger → ℕ → Inferred → Type 0
+abbrev pub UsesRow : List ℕ → StrengthsLent → ℕ → Scope → ℕ → Ledger → ℕ → Inferred → Type 0
 UsesRow rows strengths index scope q l next r =
     (state buffer list : List ℕ) (ps : List Pair) (x : Assumption) → Sound (book l list) → index < most_rows
-    → StrengthsOf strengths ps → RowIs buffer (row_in rows index) index scope.shut x
+    → LentStrengthsOf strengths ps → RowIs buffer (row_in rows index) index scope.shut x
     → Yields state buffer (book l list) (walk.assumed ps q (view_in scope.view) x) next r list
 
 -- 20: where the rows are the assumptions Γ, and the byte after the tag names one of them, that one is used.
-abbrev pub UsesLocal : List ℕ → List ℕ → List ℕ → Scope → ℕ → Ledger → Inferred → Type 0
+abbrev pub UsesLocal : List ℕ → List ℕ → StrengthsLent → Scope → ℕ → Ledger → Inferred → Type 0
 UsesLocal proof rows strengths scope q l r =
-    (state buffer list : List ℕ) (ps : List Pair) (Γ : List Assumption) (i e : ℕ) → Sound (book l list) → StrengthsOf strengths ps → Assumed buffer rows scope.shut scope.count Γ
+    (state buffer list : List ℕ) (ps : List Pair) (Γ : List Assumption) (i e : ℕ) → Sound (book l list) → LentStrengthsOf strengths ps → Assumed buffer rows scope.shut scope.count Γ
     → scope.count ≤ most_rows → byte proof (q + 1) ≡ Some (i, e) → i < scope.count
     → Yields state buffer (book l list) (use_local ps q (view_in scope.view) Γ i) e r list
 
 -- 21: where the rows are the certificates cs, and the byte after the tag names one of them, that one is used.
-abbrev pub UsesCertificate : List ℕ → List ℕ → List ℕ → Scope → ℕ → Ledger → Inferred → Type 0
+abbrev pub UsesCertificate : List ℕ → List ℕ → StrengthsLent → Scope → ℕ → Ledger → Inferred → Type 0
 UsesCertificate proof rows strengths scope q l r =
-    (state buffer list : List ℕ) (ps : List Pair) (cs : List Statement) (i e : ℕ) → Sound (book l list) → StrengthsOf strengths ps → Certified buffer rows cs
+    (state buffer list : List ℕ) (ps : List Pair) (cs : List Statement) (i e : ℕ) → Sound (book l list) → LentStrengthsOf strengths ps → Certified buffer rows cs
     → byte proof (q + 1) ≡ Some (i, e) → i < length cs
     → Yields state buffer (book l list) (use_certificate ps q (view_in scope.view) cs i) e r list
 
@@ -83,13 +83,13 @@ TakesTimes bytes at terms q l r =
 abbrev pub TakesAt : List ℕ → ℕ → Judgement → Ledger → Inside → Type 0
 TakesAt bytes q j l r =
     (F : Formula) → Means bytes 0 j.formula F
-    → Takes (at_parts q F) q l r.ledger (λ x. (r.row.whose ≡ Plain) × On bytes r.row.judgement x.0 x.1 x.2)
+    → Takes (at_parts q F) q l r.ledger (λ x. (r.row.whose ≡ None) × On bytes r.row.judgement x.0 x.1 x.2)
 
 -- 2A, 2B: a "says" is taken apart; what is said keeps the interval.
 abbrev pub TakesSays : List ℕ → ℕ → Judgement → Ledger → Inside → Type 0
 TakesSays bytes q j l r =
     (F : Formula) → Means bytes 0 j.formula F
-    → Takes (says_parts q F) q l r.ledger (λ x. (r.row.whose ≡ Claim x.0) × On bytes r.row.judgement x.1 (from_of j) (to_of j))
+    → Takes (says_parts q F) q l r.ledger (λ x. (r.row.whose ≡ Some x.0) × On bytes r.row.judgement x.1 (from_of j) (to_of j))
 
 -- 28, 29, 2A, 2B, 2E, 2F: what stands inside of a shell is taken out, as a row that is that assumption.
 abbrev pub TakesInside : List ℕ → ℕ → Shell → Judgement → Ledger → Inside → Type 0

@@ -4,7 +4,7 @@ ghost use Rattle.judging.specs.Judging.{plain_side};
 ghost use Rattle.judging.specs.StepPromises.{ChecksFalsity};
 
 use crate::judge::{Checked, Inferred, Inside, Sides};
-use crate::rows::{Row, Whose};
+use crate::rows::Row;
 use bl::FormulaTag;
 use formula::parts::{FormulaAt, Judgement, is_a};
 use procap::time::TimeNumbers;
@@ -13,20 +13,16 @@ use procap::time::TimeNumbers;
 pub fn side_on(judgement: Judgement, at: usize, from: TimeNumbers, to: TimeNumbers) -> Row
     ensures { result ≡ plain_side judgement at from to }
 {
-    let formula = judgement.formula;
-    let terms = formula.terms;
-    let side = FormulaAt {
-        at: at,
-        terms: terms,
-    };
-    let assumed = Judgement {
-        formula: side,
-        from: from,
-        to: to,
-    };
     Row {
-        whose: Whose::Plain,
-        judgement: assumed,
+        whose: None,
+        judgement: Judgement {
+            formula: FormulaAt {
+                at,
+                ..judgement.formula
+            },
+            from,
+            to,
+        },
     }
 }
 
@@ -34,12 +30,9 @@ pub fn side_on(judgement: Judgement, at: usize, from: TimeNumbers, to: TimeNumbe
 pub(crate) fn side_inside(judgement: Judgement, sides: Sides, at: usize) -> Inside
     ensures { result ≡ record { ledger = sides.ledger; row = plain_side judgement at judgement.from judgement.to } }
 {
-    let ledger = sides.ledger;
-    let from = judgement.from;
-    let to = judgement.to;
     Inside {
-        ledger: ledger,
-        row: side_on(judgement, at, from, to),
+        ledger: sides.ledger,
+        row: side_on(judgement, at, judgement.from, judgement.to),
     }
 }
 
@@ -48,11 +41,10 @@ pub fn from_falsity(buffer: &[u8], offset: usize, inferred: Inferred) -> Checked
     ensures { ChecksFalsity buffer.now offset inferred result }
 {
     let ledger = inferred.ledger;
-    let judgement = inferred.judgement;
-    let formula = judgement.formula;
+    let formula = inferred.judgement.formula;
     if !ledger.goes_on() {
         return Checked {
-            ledger: ledger,
+            ledger,
             next: offset,
         };
     }
@@ -63,7 +55,7 @@ pub fn from_falsity(buffer: &[u8], offset: usize, inferred: Inferred) -> Checked
         };
     }
     Checked {
-        ledger: ledger,
+        ledger,
         next: inferred.next,
     }
 }

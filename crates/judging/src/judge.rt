@@ -4,13 +4,13 @@ ghost use Rattle.procap.specs.Writable.{TermInForm};
 ghost use Rattle.bl.specs.Walk as walk;
 ghost use Rattle.ledger.specs.Books.{misfitted, Leads};
 ghost use Rattle.formula.specs.Meaning.{from_of, to_of};
-ghost use Rattle.judging.specs.Judging.{outermost, scope_inside, scope_with, part_of, nothing_inferred, top_goal, order_goal, first_side, second_side, put_in};
+ghost use Rattle.judging.specs.Judging.{outermost, scope_inside, scope_with, part_of, nothing_inferred, top_goal, order_goal, side_of, put_in};
 ghost use Rattle.judging.specs.StepPromises.{NeedsView, UsesRow, UsesLocal, UsesCertificate, TakesSides, TakesSidesInferred, StaysStopped, TakesTimes, TakesAt, TakesSays, TakesInside, TakesInsideInferred, Continues, PutsToUse, MeetsGoal, MeetsFact, FitsGoal, ChecksInferred};
 ghost use Rattle.judging.specs.Pieces.{binder_of};
 ghost use Rattle.judging.specs.RowNumbers.{rows_with};
 
 use crate::either::side_inside;
-use crate::rows::{MOST_ROWS, Row, Whose, put_row, row_at};
+use crate::rows::{MOST_ROWS, Row, put_row, row_at};
 use bl::FormulaTag;
 use formula::compare::same;
 use formula::parts::{FormulaAt, Judgement, fact_at, is_a, past_formula, place_at};
@@ -21,23 +21,23 @@ use procap::fact::Term;
 use procap::time::{Time, TimeNumbers};
 use steps::reader::index_at;
 use steps::time_at;
-use strength::asking::as_strong;
+use strength::table::{Strengths, as_strong};
 
-// In whose view a step stands, and on which interval, in plain numbers: 0 for nobody's view, where the rest says nothing, and 1 for a principal's.
+// The view of a principal, and on which interval.
 #[derive(Clone, Copy)]
 pub struct View {
-    pub kind: u64,
     pub principal: u64,
     pub from: TimeNumbers,
     pub to: TimeNumbers,
 }
 
-// Where a step stands: how many assumptions are around it, below which of them the plain ones are shut out, and its view.
+// Where a step stands: how many assumptions are around it, below which of them the plain ones are shut out, and in whose view, if
+// in anybody's.
 #[derive(Clone, Copy)]
 pub struct Scope {
     pub count: usize,
     pub shut: usize,
-    pub view: View,
+    pub view: Option<View>,
 }
 
 // What a step infers, and where it ends. Where the ledger has stopped, the rest says nothing.
@@ -61,6 +61,13 @@ pub struct Sides {
     pub ledger: Ledger,
     pub first: usize,
     pub second: usize,
+}
+
+// A side of a formula with two.
+#[derive(Clone, Copy, Debug, PartialEq, Eq)]
+pub enum Side {
+    First,
+    Second,
 }
 
 // What stands around a formula that a step takes out, or puts in: an "at", a "says", or an "or" around its left or its right side.
@@ -98,40 +105,26 @@ pub struct Application {
     pub next: usize,
 }
 
-// A formula on an interval.
-fn on_interval(formula: FormulaAt, from: TimeNumbers, to: TimeNumbers) -> Judgement
-    ensures { result ≡ record { formula = formula; from = from; to = to } }
-{
-    Judgement {
-        formula: formula,
-        from: from,
-        to: to,
-    }
-}
-
 // The part of a judgement that begins at another place, on the same interval.
 pub fn part_at(judgement: Judgement, at: usize) -> Judgement
     ensures { result ≡ part_of judgement at }
 {
-    let formula = judgement.formula;
-    let terms = formula.terms;
-    let part = FormulaAt {
-        at: at,
-        terms: terms,
-    };
-    let from = judgement.from;
-    let to = judgement.to;
-    on_interval(part, from, to)
+    Judgement {
+        formula: FormulaAt {
+            at,
+            ..judgement.formula
+        },
+        ..judgement
+    }
 }
 
 // Nothing is inferred: the ledger has stopped, and the judgement says nothing.
 pub fn nothing(ledger: Ledger) -> Inferred
     ensures { result ≡ nothing_inferred ledger }
 {
-    let judgement = Judgement::front_on_ctime();
     Inferred {
-        ledger: ledger,
-        judgement: judgement,
+        ledger,
+        judgement: Judgement::front_on_ctime(),
         next: 0,
     }
 }
@@ -144,12 +137,7 @@ impl Scope {
         Scope {
             count: 0,
             shut: 0,
-            view: View {
-                kind: 0,
-                principal: 0,
-                from: Time::ctime().numbers(),
-                to: Time::ctime().numbers(),
-            },
+            view: None,
         }
     }
 
@@ -157,41 +145,34 @@ impl Scope {
     pub fn inside(self, row: Row) -> Scope
         ensures { result ≡ scope_inside self row }
     {
-        let whose = row.whose;
-        let judgement = row.judgement;
-        let from = judgement.from;
-        let to = judgement.to;
-        match whose {
-            Whose::Plain => self,
-            Whose::Claim(principal) => Scope {
+        match row.whose {
+            None => self,
+            Some(principal) => Scope {
                 count: self.count,
                 shut: self.count,
-                view: View {
-                    kind: 1,
-                    principal: principal,
-                    from: from,
-                    to: to,
-                },
+                view: Some(View {
+                    principal,
+                    from: row.judgement.from,
+                    to: row.judgement.to,
+                }),
             },
         }
     }
 }
 
 // One assumption more: its row is put past those that are there. Where no row has room any more, the scope stays as it was.
+#[tactic(auto, unfolding(crate::specs::Judging::scope_with))]
 pub fn assume(assumptions: &mut [u64], scope: Scope, row: Row) -> Scope
     ensures rows { assumptions.new ≡ rows_with assumptions.old scope.count row }
     ensures scope { result ≡ scope_with scope }
 {
-    let count = scope.count;
-    let view = scope.view;
-    put_row(assumptions, count, row);
-    if MOST_ROWS <= count {
+    put_row(assumptions, scope.count, row);
+    if MOST_ROWS <= scope.count {
         return scope;
     }
     Scope {
-        count: count + 1,
-        shut: scope.shut,
-        view: view,
+        count: scope.count + 1,
+        ..scope
     }
 }
 
@@ -199,72 +180,64 @@ pub fn assume(assumptions: &mut [u64], scope: Scope, row: Row) -> Scope
 fn covers(ledger: Ledger, offset: usize, judgement: Judgement, from: Time, to: Time) -> Ledger
     ensures { Leads ledger (walk.need_cover offset (from_of judgement) (to_of judgement) from to) result }
 {
-    let begin = judgement.from;
-    let end = judgement.to;
-    let asked = ask_order(ledger, offset, begin.time(), from);
-    ask_order(asked, offset, to, end.time())
+    let asked = ask_order(ledger, offset, judgement.from.time(), from);
+    ask_order(asked, offset, to, judgement.to.time())
 }
 
 // What a principal claims or certifies must be usable in the view: the principal must be at least as strong as the view's, and
 // then the judgement's interval must cover the view's.
 fn in_view(
-    strengths: &[u64],
+    strengths: Option<&Strengths>,
     ledger: Ledger,
     offset: usize,
-    view: View,
+    view: Option<View>,
     principal: u64,
     judgement: Judgement,
 ) -> Ledger
-    ensures { NeedsView strengths.now ledger offset view principal judgement result }
+    ensures { NeedsView strengths.entry ledger offset view principal judgement result }
 {
-    let from = view.from;
-    let to = view.to;
-    let covered = covers(ledger, offset, judgement, from.time(), to.time());
     let unfit = ledger.misfit(offset);
-    if view.kind == 0 {
+    let Some(view) = view else {
         return unfit;
-    }
+    };
     if !as_strong(strengths, principal, view.principal) {
         return unfit;
     }
-    covered
+    covers(ledger, offset, judgement, view.from.time(), view.to.time())
 }
 
 // A row, used as it stands: a plain assumption unless it is shut out, a claim in a view that it covers, of somebody whom its
 // principal is as strong as.
 fn row_used(
     rows: &[u64],
-    strengths: &[u64],
+    strengths: Option<&Strengths>,
     index: usize,
     scope: Scope,
     offset: usize,
     ledger: Ledger,
     next: usize,
 ) -> Inferred
-    ensures { UsesRow rows.now strengths.now index scope offset ledger next result }
+    ensures { UsesRow rows.now strengths.entry index scope offset ledger next result }
 {
     if MOST_ROWS <= index {
         return nothing(ledger.misfit(offset));
     }
-    let row = row_at(rows, index);
-    let whose = row.whose;
-    let judgement = row.judgement;
-    let view = scope.view;
+    let Row { whose, judgement } = row_at(rows, index);
     match whose {
-        Whose::Plain => {
+        None => {
             if index < scope.shut {
                 return nothing(ledger.misfit(offset));
             }
             Inferred {
-                ledger: ledger,
-                judgement: judgement,
-                next: next,
+                ledger,
+                judgement,
+                next,
             }
         }
-        Whose::Claim(principal) => Inferred {
-            ledger: in_view(strengths, ledger, offset, view, principal, judgement),
-            judgement: judgement,
-            next: next,
+        Some(principal) => Inferred {
+            ledger: in_view(strengths, ledger, offset, scope.view, principal, judgement),
+            judgement,
+            next,
         },
     }
 }
@@ -273,40 +246,32 @@ fn row_used(
 pub fn local(
     proof: &[u8],
     assumptions: &[u64],
-    strengths: &[u64],
+    strengths: Option<&Strengths>,
     scope: Scope,
     offset: usize,
     ledger: Ledger,
 ) -> Inferred
-    ensures { UsesLocal proof.now assumptions.now strengths.now scope offset ledger result }
+    ensures { UsesLocal proof.now assumptions.now strengths.entry scope offset ledger result }
 {
     let back = index_at(proof, offset) as usize;
-    let count = scope.count;
-    if count <= back {
+    if scope.count <= back {
         return nothing(ledger.misfit(offset));
     }
+    let index = scope.count - back - 1;
     let next = past(proof, past(proof, offset));
-    row_used(
-        assumptions,
-        strengths,
-        count - back - 1,
-        scope,
-        offset,
-        ledger,
-        next,
-    )
+    row_used(assumptions, strengths, index, scope, offset, ledger, next)
 }
 
 // 21: a certificate; its row is a claim of its principal, and needs the view that a claim needs.
 pub fn certificate(
     proof: &[u8],
     certificates: &[u64],
-    strengths: &[u64],
+    strengths: Option<&Strengths>,
     scope: Scope,
     offset: usize,
     ledger: Ledger,
 ) -> Inferred
-    ensures { UsesCertificate proof.now certificates.now strengths.now scope offset ledger result }
+    ensures { UsesCertificate proof.now certificates.now strengths.entry scope offset ledger result }
 {
     let index = index_at(proof, offset) as usize;
     let next = past(proof, past(proof, offset));
@@ -323,20 +288,18 @@ pub fn sides_of(
 ) -> Sides
     ensures { TakesSides bytes.now offset wanted judgement ledger result }
 {
-    let formula = judgement.formula;
-    if !is_a(bytes, formula.at, wanted) {
+    if !is_a(bytes, judgement.formula.at, wanted) {
         return Sides {
             ledger: ledger.misfit(offset),
             first: 0,
             second: 0,
         };
     }
-    let at = past(bytes, formula.at);
-    let end = past_formula(bytes, at, MOST_FORMULA_LEVELS);
+    let first = past(bytes, judgement.formula.at);
     Sides {
-        ledger: ledger,
-        first: at,
-        second: end,
+        ledger,
+        first,
+        second: past_formula(bytes, first, MOST_FORMULA_LEVELS),
     }
 }
 
@@ -346,41 +309,34 @@ pub fn sides_inferred(buffer: &[u8], offset: usize, wanted: FormulaTag, inferred
     ensures stopped { StaysStopped inferred result.ledger }
 {
     let ledger = inferred.ledger;
-    let judgement = inferred.judgement;
     if !ledger.goes_on() {
         return Sides {
-            ledger: ledger,
+            ledger,
             first: 0,
             second: 0,
         };
     }
-    sides_of(buffer, offset, wanted, judgement, ledger)
+    sides_of(buffer, offset, wanted, inferred.judgement, ledger)
 }
 
-// 23: the first side of the conjunction that was inferred.
-pub fn first(buffer: &[u8], offset: usize, inferred: Inferred) -> Inferred
-    ensures { Continues buffer.now inferred (first_side offset) result }
+// 23 and 24: a side of the conjunction that was inferred.
+pub fn conjunct(buffer: &[u8], offset: usize, side: Side, inferred: Inferred) -> Inferred
+    ensures { Continues buffer.now inferred (side_of side offset) result }
 {
-    let parts = sides_inferred(buffer, offset, FormulaTag::AndTag, inferred);
-    let after_parts = parts.ledger;
-    let judgement = inferred.judgement;
-    Inferred {
-        ledger: after_parts,
-        judgement: part_at(judgement, parts.first),
-        next: inferred.next,
+    let sides = sides_inferred(buffer, offset, FormulaTag::AndTag, inferred);
+    match side {
+        Side::First => part_inferred(inferred, sides.ledger, sides.first),
+        Side::Second => part_inferred(inferred, sides.ledger, sides.second),
     }
 }
 
-// 24: the second side of the conjunction that was inferred.
-pub fn second(buffer: &[u8], offset: usize, inferred: Inferred) -> Inferred
-    ensures { Continues buffer.now inferred (second_side offset) result }
+// The part of what was inferred that begins at a place, beside a ledger.
+fn part_inferred(inferred: Inferred, ledger: Ledger, at: usize) -> Inferred
+    ensures { result ≡ record { ledger = ledger; judgement = part_of inferred.judgement at; next = inferred.next } }
 {
-    let parts = sides_inferred(buffer, offset, FormulaTag::AndTag, inferred);
-    let after_parts = parts.ledger;
-    let judgement = inferred.judgement;
     Inferred {
-        ledger: after_parts,
-        judgement: part_at(judgement, parts.second),
+        ledger,
+        judgement: part_at(inferred.judgement, at),
         next: inferred.next,
     }
 }
@@ -397,17 +353,23 @@ pub fn put_to_use(
     ensures stopped { StaysStopped inferred result.ledger }
 {
     let ledger = inferred.ledger;
-    let judgement = inferred.judgement;
     if !ledger.goes_on() {
-        return Application {
-            ledger: ledger,
-            premise: judgement,
-            conclusion: 0,
-            middle: 0,
-            next: 0,
-        };
+        return unused(inferred.judgement, ledger);
     }
     applied(buffer, proof, offset, inferred, second_end)
+}
+
+// What is handed back where no implication is put to use.
+fn unused(judgement: Judgement, ledger: Ledger) -> Application
+    ensures { result ≡ record { ledger = ledger; premise = judgement; conclusion = 0; middle = 0; next = 0 } }
+{
+    Application {
+        ledger: ledger,
+        premise: judgement,
+        conclusion: 0,
+        middle: 0,
+        next: 0,
+    }
 }
 
 // Both sides of the implication that was inferred, on the times that stand at a place, and the two orders that they must be in.
@@ -420,29 +382,30 @@ fn applied(
 ) -> Application
     ensures { PutsToUse buffer.now proof.now offset inferred second_end result }
 {
-    let ledger = inferred.ledger;
     let judgement = inferred.judgement;
-    let parts = sides_of(buffer, offset, FormulaTag::ImpliesTag, judgement, ledger);
-    let after_parts = parts.ledger;
-    let formula = judgement.formula;
-    let terms = formula.terms;
-    let t1 = time_at(proof, second_end);
-    let t2 = time_at(proof, t1.next);
-    let begin = t1.time;
-    let end = t2.time;
-    let after_asked = covers(after_parts, offset, judgement, begin, end);
-    let starts = begin.numbers();
-    let ends = end.numbers();
-    let one = FormulaAt {
-        at: parts.first,
-        terms: terms,
+    let Some((begin, between)) = time_at(proof, second_end) else {
+        return unused(judgement, inferred.ledger.misfit(offset));
     };
+    let Some((end, next)) = time_at(proof, between) else {
+        return unused(judgement, inferred.ledger.misfit(offset));
+    };
+    let parts = sides_of(
+        buffer,
+        offset,
+        FormulaTag::ImpliesTag,
+        judgement,
+        inferred.ledger,
+    );
     Application {
-        ledger: after_asked,
-        premise: on_interval(one, starts, ends),
+        ledger: covers(parts.ledger, offset, judgement, begin, end),
+        premise: Judgement {
+            from: begin.numbers(),
+            to: end.numbers(),
+            ..part_at(judgement, parts.first)
+        },
         conclusion: parts.second,
         middle: inferred.next,
-        next: t2.next,
+        next,
     }
 }
 
@@ -450,27 +413,29 @@ fn applied(
 pub fn instance(buffer: &[u8], offset: usize, inferred: Inferred, term: Term) -> Inferred
     ensures { TermInForm term → Continues buffer.now inferred (put_in offset term) result }
 {
-    let ledger = inferred.ledger;
-    let judgement = inferred.judgement;
+    let Inferred {
+        ledger,
+        judgement,
+        next,
+    } = inferred;
     let formula = judgement.formula;
-    let terms = formula.terms;
-    let from = judgement.from;
-    let to = judgement.to;
     if !ledger.goes_on() {
         return inferred;
     }
     if !is_a(buffer, formula.at, binder_of(term)) {
         return nothing(ledger.misfit(offset));
     }
-    let more = terms.with(term);
     let body = FormulaAt {
         at: past(buffer, formula.at),
-        terms: more,
+        terms: formula.terms.with(term),
     };
     Inferred {
-        ledger: ledger,
-        judgement: on_interval(body, from, to),
-        next: inferred.next,
+        ledger,
+        judgement: Judgement {
+            formula: body,
+            ..judgement
+        },
+        next,
     }
 }
 
@@ -513,17 +478,17 @@ pub fn inside_inferred(buffer: &[u8], offset: usize, shell: Shell, inferred: Inf
     ensures going { TakesInsideInferred buffer.now offset shell inferred result }
     ensures stopped { StaysStopped inferred result.ledger }
 {
-    let ledger = inferred.ledger;
-    let judgement = inferred.judgement;
+    let Inferred {
+        ledger,
+        judgement,
+        ..
+    } = inferred;
     if !ledger.goes_on() {
         let row = Row {
-            whose: Whose::Plain,
-            judgement: judgement,
+            whose: None,
+            judgement,
         };
-        return Inside {
-            ledger: ledger,
-            row: row,
-        };
+        return Inside { ledger, row };
     }
     inside_of(buffer, offset, shell, judgement, ledger)
 }
@@ -533,25 +498,30 @@ fn lifted(bytes: &[u8], offset: usize, judgement: Judgement, ledger: Ledger) -> 
     ensures { TakesAt bytes.now offset judgement ledger result }
 {
     let formula = judgement.formula;
-    let terms = formula.terms;
     if !is_a(bytes, formula.at, FormulaTag::AtTag) {
         return not_inside(judgement, ledger, offset);
     }
-    let span = span_at(bytes, past(bytes, formula.at), terms, offset, ledger);
-    let after_span = span.ledger;
-    let from = span.from;
-    let to = span.to;
-    let body = FormulaAt {
-        at: span.next,
-        terms: terms,
-    };
-    let row = Row {
-        whose: Whose::Plain,
-        judgement: on_interval(body, from, to),
+    let span = span_at(
+        bytes,
+        past(bytes, formula.at),
+        formula.terms,
+        offset,
+        ledger,
+    );
+    let inside = Judgement {
+        formula: FormulaAt {
+            at: span.next,
+            ..formula
+        },
+        from: span.from,
+        to: span.to,
     };
     Inside {
-        ledger: after_span,
-        row: row,
+        ledger: span.ledger,
+        row: Row {
+            whose: None,
+            judgement: inside,
+        },
     }
 }
 
@@ -613,7 +583,7 @@ fn said(bytes: &[u8], offset: usize, judgement: Judgement, ledger: Ledger) -> In
         return not_inside(judgement, ledger, offset);
     };
     let row = Row {
-        whose: Whose::Claim(principal as u64),
+        whose: Some(principal as u64),
         judgement: part_at(judgement, read.next),
     };
     Inside {
@@ -627,12 +597,12 @@ fn not_inside(judgement: Judgement, ledger: Ledger, offset: usize) -> Inside
     ensures { result.ledger ≡ misfitted ledger offset }
 {
     let row = Row {
-        whose: Whose::Plain,
-        judgement: judgement,
+        whose: None,
+        judgement,
     };
     Inside {
         ledger: ledger.misfit(offset),
-        row: row,
+        row,
     }
 }
 
@@ -640,8 +610,7 @@ fn not_inside(judgement: Judgement, ledger: Ledger, offset: usize) -> Inside
 pub fn top(bytes: &[u8], offset: usize, goal: Judgement, ledger: Ledger) -> Ledger
     ensures { MeetsGoal bytes.now goal ledger (top_goal offset) result }
 {
-    let formula = goal.formula;
-    if is_a(bytes, formula.at, FormulaTag::TopTag) {
+    if is_a(bytes, goal.formula.at, FormulaTag::TopTag) {
         ledger
     } else {
         ledger.misfit(offset)
@@ -659,16 +628,14 @@ pub fn state_fact(
 ) -> Ledger
     ensures { MeetsFact bytes.now state.now facts.old offset goal ledger result facts.new }
 {
-    let formula = goal.formula;
-    if !is_a(bytes, formula.at, FormulaTag::FactTag) {
+    if !is_a(bytes, goal.formula.at, FormulaTag::FactTag) {
         return ledger.misfit(offset);
     }
-    let read = fact_at(bytes, formula);
+    let read = fact_at(bytes, goal.formula);
     if !read.found {
         return ledger.misfit(offset);
     }
-    let fact = read.fact;
-    ask_fact(state, facts, ledger, offset, fact)
+    ask_fact(state, facts, ledger, offset, read.fact)
 }
 
 // 2D: the goal must be an order, and hold.
@@ -676,39 +643,40 @@ pub fn order(bytes: &[u8], offset: usize, goal: Judgement, ledger: Ledger) -> Le
     ensures { MeetsGoal bytes.now goal ledger (order_goal offset) result }
 {
     let formula = goal.formula;
-    let terms = formula.terms;
     if !is_a(bytes, formula.at, FormulaTag::OrderTag) {
         return ledger.misfit(offset);
     }
-    let span = span_at(bytes, past(bytes, formula.at), terms, offset, ledger);
-    let after_span = span.ledger;
-    let left = span.from;
-    let right = span.to;
-    ask_order(after_span, offset, left.time(), right.time())
+    let span = span_at(
+        bytes,
+        past(bytes, formula.at),
+        formula.terms,
+        offset,
+        ledger,
+    );
+    ask_order(span.ledger, offset, span.from.time(), span.to.time())
 }
 
 // An inferring step where one is checked: the same formula, on an interval around the goal's.
 fn within(buffer: &[u8], bytes: &[u8], offset: usize, inferred: Inferred, goal: Judgement) -> Ledger
     ensures { FitsGoal buffer.now bytes.now offset inferred goal result }
 {
-    let ledger = inferred.ledger;
-    let judgement = inferred.judgement;
-    let formula = judgement.formula;
-    let goal_formula = goal.formula;
-    let from = goal.from;
-    let to = goal.to;
     let compared = same(
         buffer,
-        formula,
+        inferred.judgement.formula,
         bytes,
-        goal_formula,
+        goal.formula,
         0,
         offset,
-        ledger,
+        inferred.ledger,
         MOST_FORMULA_LEVELS,
     );
-    let after_compared = compared.ledger;
-    covers(after_compared, offset, judgement, from.time(), to.time())
+    covers(
+        compared.ledger,
+        offset,
+        inferred.judgement,
+        goal.from.time(),
+        goal.to.time(),
+    )
 }
 
 // An inferring step where one is checked: where it has stopped, so has the whole.
@@ -723,10 +691,7 @@ pub fn checked_by(
 {
     let ledger = inferred.ledger;
     if !ledger.goes_on() {
-        return Checked {
-            ledger: ledger,
-            next: at,
-        };
+        return Checked { ledger, next: at };
     }
     Checked {
         ledger: within(buffer, goal_bytes, at, inferred, goal),

@@ -17,39 +17,10 @@ pub const ROW_NUMBERS: usize = 16;
 // How many numbers all rows take.
 pub const ALL_NUMBERS: usize = 512;
 
-// Whose an assumption is: a plain one, or a claim of this principal.
-#[derive(Clone, Copy)]
-pub enum Whose {
-    Plain,
-    Claim(u64),
-}
-
-impl Whose {
-    // Whether it is a claim, as a number.
-    fn kind(self) -> u64
-        ensures { result ≡ whose_kind self }
-    {
-        match self {
-            Whose::Plain => 0,
-            Whose::Claim(_) => 1,
-        }
-    }
-
-    // The principal that claims it, 0 where none does.
-    fn value(self) -> u64
-        ensures { result ≡ whose_value self }
-    {
-        match self {
-            Whose::Plain => 0,
-            Whose::Claim(principal) => principal,
-        }
-    }
-}
-
-// An assumption, or a certificate, which is a claim of its principal.
+// An assumption, or a certificate: a claim of a principal, or nobody's, which is a plain assumption.
 #[derive(Clone, Copy)]
 pub struct Row {
-    pub whose: Whose,
+    pub whose: Option<u64>,
     pub judgement: Judgement,
 }
 
@@ -70,23 +41,21 @@ fn numbers_in(rows: &[u64], at: usize) -> [u64; TERMS_NUMBERS]
     ensures { result ≡ numbers_in rows.now at terms_numbers }
 {
     let mut numbers = [0u64; TERMS_NUMBERS];
-    let mut i: usize = 0;
-    while i < TERMS_NUMBERS {
-        numbers[i] = number_in(rows, at + i);
-        i += 1;
+    for (i, number) in numbers.iter_mut().enumerate() {
+        *number = number_in(rows, at + i);
     }
     numbers
 }
 
 // Whose a row is, from its first two numbers.
-fn whose_in(rows: &[u64], at: usize) -> Whose
+fn whose_in(rows: &[u64], at: usize) -> Option<u64>
     requires { at < 1000 }
     ensures { result ≡ whose_in rows.now at }
 {
     if number_in(rows, at) == 0 {
-        Whose::Plain
+        None
     } else {
-        Whose::Claim(number_in(rows, at + 1))
+        Some(number_in(rows, at + 1))
     }
 }
 
@@ -102,16 +71,16 @@ fn row_from(rows: &[u64], index: usize) -> Row
     };
     let formula = FormulaAt {
         at: number_in(rows, start + 6) as usize,
-        terms: terms,
+        terms,
     };
     let judgement = Judgement {
-        formula: formula,
+        formula,
         from: time_in(rows, start + 2),
         to: time_in(rows, start + 4),
     };
     Row {
         whose: whose_in(rows, start),
-        judgement: judgement,
+        judgement,
     }
 }
 
@@ -124,7 +93,7 @@ pub(crate) fn row_at(rows: &[u64], index: usize) -> Row
         return row_from(rows, index);
     }
     Row {
-        whose: Whose::Plain,
+        whose: None,
         judgement: Judgement::front_on_ctime(),
     }
 }
@@ -139,15 +108,11 @@ fn put_two(rows: &mut [u64], at: usize, first: u64, second: u64)
 }
 
 // Puts the numbers of terms.
-fn put_numbers(rows: &mut [u64], at: usize, numbers: [u64; TERMS_NUMBERS])
+fn put_numbers(rows: &mut [u64], at: usize, numbers: &[u64; TERMS_NUMBERS])
     requires { at + terms_numbers ≤ length rows.old }
-    ensures { rows.new ≡ sets rows.old at numbers }
+    ensures { rows.new ≡ sets rows.old at numbers.now }
 {
-    let mut i: usize = 0;
-    while i < TERMS_NUMBERS {
-        rows[at + i] = numbers[i];
-        i += 1;
-    }
+    rows[at..at + TERMS_NUMBERS].copy_from_slice(numbers);
 }
 
 // Puts a row at an index; where the rows are not all there, or have no such index, nothing.
@@ -161,16 +126,16 @@ pub fn put_row(rows: &mut [u64], index: usize, row: Row)
         return;
     }
     let start = index * ROW_NUMBERS;
-    let whose = row.whose;
-    let judgement = row.judgement;
-    let from = judgement.from;
-    let to = judgement.to;
-    let formula = judgement.formula;
-    let terms = formula.terms;
-    let numbers = terms.numbers;
-    put_two(rows, start, whose.kind(), whose.value());
+    let Judgement { formula, from, to } = row.judgement;
+    let FormulaAt { at, terms } = formula;
+    put_two(
+        rows,
+        start,
+        u64::from(row.whose.is_some()),
+        row.whose.unwrap_or(0),
+    );
     put_two(rows, start + 2, from.kind, from.second);
     put_two(rows, start + 4, to.kind, to.second);
-    put_two(rows, start + 6, formula.at as u64, terms.count as u64);
-    put_numbers(rows, start + 8, numbers);
+    put_two(rows, start + 6, at as u64, terms.count as u64);
+    put_numbers(rows, start + 8, &terms.numbers);
 }

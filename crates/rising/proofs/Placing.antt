@@ -39,7 +39,7 @@ placed_within (there e) = omega arith
 placed_within (behind l p) = omega (arith, placed_within p)
 
 -- The first of rising numbers is the least.
-least_first : (k : ℕ) (ks : List ℕ) (m : ℕ) → Rising (k ∷ ks) → m < length (k ∷ ks) → k ≤ get_or (k ∷ ks) m 0
+pub least_first : (k : ℕ) (ks : List ℕ) (m : ℕ) → Rising (k ∷ ks) → m < length (k ∷ ks) → k ≤ get_or (k ∷ ks) m 0
 unfolding Rising
 least_first k ks zero r b = omega arith
 least_first k ks (suc m) r b = omega (arith, all_at (λ x. k < x) 0 ks m (omega arith) r.0)

@@ -5,6 +5,7 @@ use mathlib.Core.List.{List, [], ◌∷◌}
 use mathlib.Core.Logic.{◌⊎◌, inl, inr}
 use native.Mathlib.Omega.{arith}
 use lib.ListN.{length, get_or}
+use Rattle.std.specs.Coded.{×_prop, Unit-prop, le_prop}
 use Rattle.procap.specs.Lists.{All, In}
 use Rattle.procap.proofs.Indices.{in_rest}
 use Rattle.procap.proofs.Each.{each_in}
@@ -97,3 +98,14 @@ stands_at n ks = put_found (placing n ks)
 
 pub found_stands : (n : ℕ) (ks : List ℕ) → below n ks < length ks → get_or ks (below n ks) 0 ≡ n → In n ks
 found_stands n ks l e = subst (λ x. In x ks) e (in_rest 0 ks 0 (below n ks) (omega arith) l)
+
+-- That numbers rise has at most one proof.
+all_prop : (P : ℕ → Type 0) → ((k : ℕ) → IsProp (P k)) → (ks : List ℕ) → IsProp (All P ks)
+unfolding All
+all_prop P each [] = Unit-prop
+all_prop P each (k ∷ ks) = ×_prop (each k) (all_prop P each ks)
+
+pub rising_prop : (ks : List ℕ) → IsProp (Rising ks)
+unfolding Rising
+rising_prop [] = Unit-prop
+rising_prop (k ∷ ks) = ×_prop (all_prop (λ x. k < x) (λ x. le_prop) ks) (rising_prop ks)

@@ -1,53 +1,38 @@
--- A search by halves keeps the place of the number between its two bounds, where the numbers rise.
-use Prim.Native.Nat.{ℕ, ◌+◌, ◌≤◌, ◌<◌, min}
+-- Where numbers rise, those below a number stand before the others, so the point that parts them tells how many they are.
+use Prim.Native.Nat.{ℕ, zero, suc, ◌≤◌, ◌<◌}
 use mathlib.Core.Path.{◌≡◌}
-use mathlib.Core.List.{List}
+use mathlib.Core.Bool.{true, false}
+use mathlib.Core.List.{List, [], ◌∷◌}
 use native.Mathlib.Omega.{arith}
-use lib.ListN.{length, get_or, take, length-take}
-use lib.Seq.{get_or-take}
-use Rattle.rising.specs.Rising.{Rising, below, CountsBelow}
-use Rattle.rising.proofs.Placing.{placing, placed_within, past_lower, not_past}
+use native.Mathlib.Decide.{dec_lt}
+use borrow.Author.Tests.{ltb-true, ltb-false}
+use lib.Dec.{ltb}
+use lib.ListN.{length, get_or}
+use Rattle.std.specs.List.Sorted.{IsNonDecreasingBy, IsPartitionPoint}
+use Rattle.std.proofs.lemmas.List.{get_or_default}
+use Rattle.rising.specs.Rising.{Rising, below}
+use Rattle.rising.proofs.Placing.{placing, placed_within, least_first, past_lower, not_past}
 
--- The bounds are in order and no further than the first numbers go, and between them is the place of the number where these rise.
-pub record Between (numbers : List ℕ) (count number low high : ℕ) : Type 0 where
-  pub ordered : low ≤ high
-  pub within : high ≤ min count (length numbers)
-  pub from : Rising (take count numbers) → low ≤ below number (take count numbers)
-  pub to : Rising (take count numbers) → below number (take count numbers) ≤ high
+-- No number is above a later one.
+pub rising_sorted : (ks : List ℕ) → Rising ks → IsNonDecreasingBy (λ k. k) ks
+unfolding Rising
+rising_sorted [] r i j d l m = absurd (omega arith)
+rising_sorted (k ∷ ks) r zero j d l m = omega (arith, least_first k ks j r m, get_or_default (k ∷ ks) j 0 d m)
+rising_sorted (k ∷ ks) r (suc i) zero d l m = absurd (omega arith)
+rising_sorted (k ∷ ks) r (suc i) (suc j) d l m = rising_sorted ks r.1 i j d (omega arith) (omega arith)
 
-module _ (numbers : List ℕ) (count number : ℕ) where
-  pub all_between : {high : ℕ} → high ≡ min count (length numbers) → Between numbers count number 0 high
-  all_between all = record {
-    ordered = omega arith;
-    within = omega arith;
-    from = λ rise. omega arith;
-    to = λ rise. omega (arith, length-take count numbers, placed_within (placing number (take count numbers)));
-  }
+-- The point before which all are below the number, and from which on none is, is the place of the number.
+module _ (ks : List ℕ) (n i : ℕ) (r : Rising ks) (parts : IsPartitionPoint (λ k. ltb k n ≡ true) (λ k. ltb k n ≡ false) ks i) where
+  not_before : i < below n ks → ⊥
+  not_before l =
+      let inside = placed_within (placing n ks) in
+      omega (arith, not_past i (placing n ks) (ltb-false (get_or ks i 0) n (parts.1 i 0 (omega arith) (omega arith))))
 
-  module _ {low high middle : ℕ} (after : low ≤ middle) (inside : middle < high) (between : Between numbers count number low high) where
-    at : get_or (take count numbers) middle 0 ≡ get_or numbers middle 0
-    at = get_or-take count numbers middle 0 (omega arith)
+  not_behind : i ≤ length ks → below n ks < i → ⊥
+  not_behind w l =
+      let at = below n ks in
+      omega (arith, past_lower at (placing n ks) r (omega arith) (ltb-true (get_or ks at 0) n (parts.0 at 0 (omega arith) (omega arith))))
 
-    behind_middle : get_or numbers middle 0 < number → Rising (take count numbers) → middle < below number (take count numbers)
-    behind_middle less rise =
-        past_lower middle (placing number (take count numbers)) rise (omega (arith, length-take count numbers)) (omega (arith, at))
-
-    pub upper_half : get_or numbers middle 0 < number → Between numbers count number (middle + 1) high
-    upper_half less = record {
-      ordered = omega arith;
-      within = omega arith;
-      from = λ rise. omega (arith, behind_middle less rise);
-      to = between.to;
-    }
-
-    pub lower_half : number ≤ get_or numbers middle 0 → Between numbers count number low middle
-    lower_half more = record {
-      ordered = omega arith;
-      within = omega arith;
-      from = between.from;
-      to = λ rise. not_past middle (placing number (take count numbers)) (omega (arith, at));
-    }
-
-  -- Bounds that have met are the place.
-  pub bounds_met : {low high : ℕ} → high ≤ low → Between numbers count number low high → CountsBelow numbers count number low
-  bounds_met met between few rise = omega (arith, between.from rise, between.to rise)
+  pub parted_at : i ≤ length ks → i ≡ below n ks
+  parted_at w =
+      elim (dec_lt i (below n ks)) [ yes l ↦ absurd (not_before l) | no g ↦ elim (dec_lt (below n ks) i) [ yes l ↦ absurd (not_behind w l) | no h ↦ omega arith ] ]

@@ -9,21 +9,8 @@ pub fn below(numbers: &[u64], count: usize, number: u64) -> usize
     ensures within { result ≤ count }
     ensures below { CountsBelow numbers.now count number result }
 {
-    let mut low: usize = 0;
-    let mut high = if count < numbers.len() {
-        count
-    } else {
-        numbers.len()
-    };
-    while low < high {
-        let middle = low + (high - low) / 2;
-        if numbers[middle] < number {
-            low = middle + 1;
-        } else {
-            high = middle;
-        }
-    }
-    low
+    let front = &numbers[..count.min(numbers.len())];
+    front.partition_point(|standing| *standing < number)
 }
 
 // Puts a number at a place among the first `count`, and moves those from there on up by one.
@@ -31,14 +18,8 @@ fn put_at(numbers: &mut [u64], count: usize, place: usize, number: u64)
     requires { (place ≤ count) × (count < length numbers.old) }
     ensures { take (count + 1) numbers.new ≡ with_at (take count numbers.old) place number }
 {
-    let mut carried = number;
-    let mut i = place;
-    while i <= count {
-        let moved = numbers[i];
-        numbers[i] = carried;
-        carried = moved;
-        i += 1;
-    }
+    numbers.copy_within(place..count, place + 1);
+    numbers[place] = number;
 }
 
 // Puts a number among the first `count`, which rise, unless it stands there or no room is left, and tells how many they are then.
@@ -51,10 +32,8 @@ pub fn put(numbers: &mut [u64], count: usize, number: u64) -> usize
         return count;
     }
     let place = below(numbers, count, number);
-    if place < count {
-        if numbers[place] == number {
-            return count;
-        }
+    if place < count && numbers[place] == number {
+        return count;
     }
     put_at(numbers, count, place, number);
     count + 1

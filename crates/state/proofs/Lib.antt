@@ -1,4 +1,3 @@
 -- Laws that the crate's proofs cite.
 pub mod Terms
 pub mod Passes
-pub mod Finding

@@ -10,12 +10,12 @@ use lib.ListN.{length}
 use Rattle.procap.specs.Tells.{Tells}
 use Rattle.procap.specs.Lists.{In}
 use Rattle.procap.specs.Facts.{Spelled}
-use Rattle.procap.specs.Bytes.{then, term_tag, predicate_and, to_the_end, whole}
+use Rattle.procap.specs.Bytes.{then, predicate_and, to_the_end, whole}
 use Rattle.procap.specs.States.{most_state_bytes, settled_term, fact, more, facts, stated}
 use Rattle.procap.proofs.Telling.{tells_by}
 use Rattle.procap.proofs.InMore.{in_more, in_last, in_before}
 use Rattle.procap.proofs.ReadSoFar.{led_by, led_by_nothing, led_by_one, led_more, led_none, led_all}
-use Rattle.procap.proofs.Readers.{unread, read, so_read, then_read, ensure_read, Ends, Between, number_ends, term_by_ends, many_ends}
+use Rattle.procap.proofs.Readers.{unread, read, so_read, then_read, present_read, ensure_read, Ends, Between, number_ends, term_by_ends, many_ends}
 
 -- ── Places ──
 
@@ -31,8 +31,9 @@ module _ (bytes : List ℕ) where
   unfolding settled_term
   settled_term_ends at l =
       then_read (number_ends bytes 1 at) λ b e i.
+      present_read _ _ _ λ tag _.
       ensure_read _ _ _ λ _.
-      ends_sooner bytes e at (omega arith) (term_by_ends bytes (term_tag b) e i.1)
+      ends_sooner bytes e at (omega arith) (term_by_ends bytes tag e i.1)
 
   -- A fact takes three bytes at the least.
   fact_ends : (at : ℕ) → Ends (Between bytes (at + 3)) (fact bytes at)

@@ -2,8 +2,8 @@
 use Prim.Native.Nat.{ℕ, suc, ◌+◌, ◌-◌, ◌≤◌, ◌<◌}
 use mathlib.Core.Path.{◌≡◌, refl, sym, ap, ◌∙◌, subst}
 use mathlib.Core.List.{List, [], ◌∷◌, ◌++◌}
-use Rattle.std.proofs.lemmas.Option.{none-some}
-use Rattle.std.specs.Prelude.{None, Option, Some}
+use Rattle.std.proofs.lemmas.Option.{none-some, same_Some}
+use Rattle.std.specs.Prelude.{None, Option, Some, option_map}
 use native.Mathlib.Nat.{add-zero, zero-add}
 use native.Mathlib.Omega.{arith}
 use borrow.Author.Tests.{eq-eqb, le-leb, lt-leb}
@@ -18,124 +18,114 @@ use Rattle.bl.specs.Trees.{Check, states}
 use Rattle.bl.specs.Steps.{most_proof_bytes, most_proof_levels, most_states, check_step, few_states, proof_in}
 use Rattle.bl.proofs.Called.{proof_step}
 use Rattle.steps.specs.Ends.{slot, most_ends, ToldChecking}
-use Rattle.steps.specs.Todo.{Parts, parts, noted, left, todo_in, Small}
+use Rattle.steps.specs.Rooms.{whole_room}
+use Rattle.steps.specs.Waiting.{most_waiting, popped}
+use Rattle.steps.specs.Todo.{Parts, parts, noted, left}
 use Rattle.steps.specs.declared.todo.Todo.{Todo}
 use Rattle.steps.specs.declared.todo.Todo.TheVariants.{Times, Inferring, Checking, Second, Both}
 use Rattle.steps.specs.declared.todo.Opened.{Opened}
-use Rattle.steps.specs.declared.todo.Opened.TheVariants.{Nothing, Leaf, One, Two}
+use Rattle.steps.specs.declared.todo.Opened.TheVariants.{Leaf, One, Two}
 use Rattle.steps.proofs.Marks.{marked, each_so, all_there}
 use Rattle.steps.proofs.StepPlaces.{marks_checking, told_checking, checks_there}
 use Rattle.steps.proofs.TodoRead.{Found, after_checking, all_read, first_read, alone_read}
-use Rattle.steps.proofs.TodoStack.{below, at_hand, below_length, in_hand, taken_up, puts_off, size, some_size, room, Fit, turns, Leaves, leaves}
+use Rattle.steps.proofs.TodoStack.{size, some_size, Fit, turns, Leaves, leaves}
 
 -- The table keeps its length.
 pub noted_length : (t : Todo) (at : ℕ) (ends : List ℕ) → length (noted t at ends) ≡ length ends
 unfolding noted
 noted_length (Times begin) at ends = length-set ends (slot begin) at
-noted_length (Inferring n h) at ends = refl
-noted_length (Checking n h) at ends = refl
-noted_length (Second n h) at ends = refl
-noted_length (Both n h) at ends = refl
+noted_length (Inferring r) at ends = refl
+noted_length (Checking r) at ends = refl
+noted_length (Second r) at ends = refl
+noted_length (Both r) at ends = refl
+
+-- ── The stack ──
+
+-- What was taken was the first of what waited; where none was taken, nothing waited.
+pub was_first : (ts us : List Todo) {o : Option Todo} (t : Todo) → popped ts ≡ (o, us) → o ≡ Some t → ts ≡ (t ∷ us)
+was_first [] us t p e = absurd (none-some t (ap (λ x. x.0) p ∙ e))
+was_first (u ∷ ts) us t p e =
+    let first = same_Some u t (ap (λ x. x.0) p ∙ e) in
+    let others = ap (λ x. x.1) p in
+    λ i. first i ∷ others i
+
+pub was_empty : (ts us : List Todo) {o : Option Todo} → popped ts ≡ (o, us) → o ≡ None → ts ≡ []
+was_empty [] us p e = refl
+was_empty (u ∷ ts) us p e = absurd (none-some u (sym (ap (λ x. x.0) p ∙ e)))
+
+-- What fits leaves a place for the first.
+pub a_place : (t : Todo) (ts : List Todo) → Fit (t ∷ ts) → length ts < most_waiting
+unfolding Fit
+a_place t ts fit = omega (arith, fit.0, some_size t)
 
 module _ (proof : List ℕ) (c : ℕ) (ends₀ : List ℕ) where
   -- The whole proof, read.
   abbrev pub Whole : Option (Found × ℕ) → Type 0
-  Whole o = all_read proof c (Checking most_proof_levels 0 ∷ []) (0, ends₀) 0 ≡ o
+  Whole o = all_read proof c (Checking whole_room ∷ []) (0, ends₀) 0 ≡ o
 
-  -- What is so before a turn: one thing is at hand, and others wait.
-  pub record SoFar (ends waiting : List ℕ) (todo : Todo) (count place states : ℕ) : Type 0 where
-    pub reads : Whole (all_read proof c (at_hand todo waiting count) (states, ends) place)
-    pub fit : Fit (at_hand todo waiting count)
+  -- What is so before a turn.
+  pub record SoFar (ends : List ℕ) (waiting : List Todo) (place states : ℕ) : Type 0 where
+    pub reads : Whole (all_read proof c waiting (states, ends) place)
+    pub fit : Fit waiting
     pub short : length proof ≤ most_proof_bytes
     pub inside : place ≤ length proof
     pub few : states ≤ place
 
   -- The whole proof is to be read at first.
-  pub begins : (waiting : List ℕ) → length proof ≤ most_proof_bytes → SoFar ends₀ waiting (Checking most_proof_levels 0) 1 0 0
-  unfolding at_hand below Fit size Small
-  begins waiting short = record { reads = refl; fit = (omega arith, omega arith, tt); short = short; inside = omega arith; few = omega arith }
+  pub begins : length proof ≤ most_proof_bytes → SoFar ends₀ (Checking whole_room ∷ []) 0 0
+  unfolding Fit size
+  begins short = record { reads = refl; fit = (omega arith, tt); short = short; inside = omega arith; few = omega arith }
 
   -- ── A turn ──
 
-  module _ (ends waiting : List ℕ) (todo : Todo) (count place states : ℕ) (so : SoFar ends waiting todo count place states) (more : 0 < count) where
-    abbrev others : List Todo
-    others = below waiting (count - 1)
-
-    one_more : count ≡ suc (count - 1)
-    one_more = omega arith
-
-    in_order : at_hand todo waiting count ≡ todo ∷ others
-    in_order = in_hand todo waiting count (count - 1) one_more
-
-    fits : Fit (todo ∷ others)
-    fits = rw in_order at so.fit
-
-    -- There is room for one more, and what is at hand is small.
-    pub count_fits : count ≤ room
-    unfolding Fit
-    count_fits = omega (arith, fits.0, some_size todo, below_length waiting (count - 1))
-
-    pub todo_small : Small todo
-    unfolding Fit
-    todo_small = fits.1
-
+  module _ (ends : List ℕ) (todo : Todo) (others : List Todo) (place states : ℕ) (so : SoFar ends (todo ∷ others) place states) where
     opens : Whole (then (parts proof c todo place) (λ x. all_read proof c (x.1 ++ others) (states + x.0, noted todo place ends)))
-    opens = so.reads ∙ ap (λ ts. all_read proof c ts (states, ends) place) in_order ∙ sym (first_read proof c todo others (states, ends) place)
+    opens = so.reads ∙ sym (first_read proof c todo others (states, ends) place)
 
     -- What is so after it.
-    pub record Turned (stack : List ℕ) (t : Todo) (n e k : ℕ) : Type 0 where
-      pub next : SoFar (noted todo place ends) stack t n e k
-      pub fewer : turns proof (at_hand t stack n) e < turns proof (at_hand todo waiting count) place
+    pub record Turned (waiting : List Todo) (e k : ℕ) : Type 0 where
+      pub next : SoFar (noted todo place ends) waiting e k
+      pub fewer : turns proof waiting e < turns proof (todo ∷ others) place
 
-    module _ (r : Opened) (is : left r ≡ parts proof c todo place) where
-      opened_leaves : (x : Parts) (e : ℕ) → left r ≡ Some (x, e) → Leaves proof todo others place x e
-      opened_leaves x e p = so_read _ (sym is ∙ p) (leaves proof c todo others place fits so.inside so.short)
-
-      turned : (x : Parts) (e : ℕ) (stack : List ℕ) (t : Todo) (n : ℕ) → left r ≡ Some (x, e) → at_hand t stack n ≡ x.1 ++ others
-          → Turned stack t n e (states + x.0)
+    module _ (r : Option Opened) (is : option_map left r ≡ parts proof c todo place) where
+      turned : (x : Parts) (e : ℕ) → option_map left r ≡ Some (x, e) → Turned (x.1 ++ others) e (states + x.0)
       unfolding then
-      turned x e stack t n p same =
-          let l = opened_leaves x e p in
+      turned x e p =
+          let l = so_read _ (sym is ∙ p) (leaves proof c others place todo so.fit so.inside) in
           record {
             next = record {
-              reads = rw same (opens ∙ (rw (sym is ∙ p) refl));
-              fit = rw same l.fit;
+              reads = opens ∙ (rw (sym is ∙ p) refl);
+              fit = l.fit;
               short = so.short;
               inside = l.inside;
               few = omega (arith, so.few, l.counted);
             };
-            fewer = rw (same, in_order) l.fewer;
+            fewer = l.fewer;
           }
 
-      pub nothing_there : r ≡ Nothing → Whole None
-      unfolding left then
+      pub nothing_there : r ≡ None → Whole None
+      unfolding then
       nothing_there e = opens ∙ (rw (← is, e) refl)
 
-      -- The newest of what waits is taken up, a part is taken up, and one of two parts waits.
-      pub leaf_turned : (next k : ℕ) (t : Todo) → r ≡ Leaf next k → t ≡ todo_in (get_or waiting (count - 1) 0) → Turned waiting t (count - 1) next (states + k)
+      -- Nothing takes its place, or a part, or two.
+      pub leaf_turned : (next k : ℕ) → r ≡ Some (Leaf next k) → Turned others next (states + k)
       unfolding left
-      leaf_turned next k t e taken = turned (k, []) next waiting t (count - 1) (ap left e) (rw taken (taken_up waiting (count - 1)))
+      leaf_turned next k e = turned (k, []) next (ap (option_map left) e)
 
-      pub one_turned : (next : ℕ) (t : Todo) → r ≡ One next t → Turned waiting t count next states
+      pub one_turned : (next : ℕ) (t : Todo) → r ≡ Some (One next t) → Turned (t ∷ others) next states
       unfolding left
-      one_turned next t e = rw add-zero at (turned (0, t ∷ []) next waiting t count (ap left e) (in_hand t waiting count (count - 1) one_more))
+      one_turned next t e = rw add-zero at (turned (0, t ∷ []) next (ap (option_map left) e))
 
-      pub later_small : (next : ℕ) (t u : Todo) → r ≡ Two next t u → Small u
-      unfolding left Fit
-      later_small next t u e = (opened_leaves (0, t ∷ u ∷ []) next (ap left e)).fit.2.1
-
-      pub two_turned : (next : ℕ) (t u : Todo) (x : ℕ) → count < length waiting → r ≡ Two next t u → todo_in x ≡ u
-          → Turned (set waiting count x) t (count + 1) next states
+      pub two_turned : (next : ℕ) (t u : Todo) → r ≡ Some (Two next t u) → Turned (t ∷ u ∷ others) next states
       unfolding left
-      two_turned next t u x l e put =
-          rw add-zero at (turned (0, t ∷ u ∷ []) next (set waiting count x) t (count + 1) (ap left e) (puts_off t u waiting count (count - 1) x one_more l put))
+      two_turned next t u e = rw add-zero at (turned (0, t ∷ u ∷ []) next (ap (option_map left) e))
 
   -- ── What is said of the proof in the end ──
 
   -- Nothing is left to be read.
-  pub ended : (ends waiting : List ℕ) (todo : Todo) (count place states : ℕ) → SoFar ends waiting todo count place states → count ≡ 0 → Whole (Some ((states, ends), place))
-  unfolding at_hand all_read
-  ended ends waiting todo count place states so z = subst (λ n. Whole (all_read proof c (at_hand todo waiting n) (states, ends) place)) z so.reads
+  pub ended : (ends : List ℕ) (place states : ℕ) → SoFar ends [] place states → Whole (Some ((states, ends), place))
+  unfolding all_read
+  ended ends place states so = so.reads
 
   -- The step that was read, with its steps 2C and its marks.
   pub record IsRead (place found : ℕ) (ends : List ℕ) : Type 0 where
@@ -146,7 +136,7 @@ module _ (proof : List ℕ) (c : ℕ) (ends₀ : List ℕ) where
 
   is_read : (place found : ℕ) (ends : List ℕ) → Whole (Some ((found, ends), place)) → IsRead place found ends
   unfolding then after_checking
-  is_read place found ends w = by (check_step proof c most_proof_levels 0 0) refl (sym (alone_read proof c most_proof_levels 0 0 (0, ends₀)) ∙ w)
+  is_read place found ends w = by (check_step proof c most_proof_levels 0 0) refl (sym (alone_read proof c whole_room 0 (0, ends₀)) ∙ w)
     where
       by : (o : Option (Check × ℕ)) → check_step proof c most_proof_levels 0 0 ≡ o → then o (λ N. give (after_checking proof c N (0, ends₀))) ≡ Some ((found, ends), place)
           → IsRead place found ends
@@ -169,7 +159,7 @@ module _ (proof : List ℕ) (c : ℕ) (ends₀ : List ℕ) where
 
   pub unread_proof : Whole None → A_proof → ⊥
   unfolding then
-  unread_proof w p = none-some _ (rw (proof_step c proof p.0 p.1) at (sym w ∙ alone_read proof c most_proof_levels 0 0 (0, ends₀)))
+  unread_proof w p = none-some _ (rw (proof_step c proof p.0 p.1) at (sym w ∙ alone_read proof c whole_room 0 (0, ends₀)))
 
   module _ (place found : ℕ) (ends : List ℕ) (w : Whole (Some ((found, ends), place))) where
     is : IsRead place found ends

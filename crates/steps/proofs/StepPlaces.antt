@@ -12,16 +12,16 @@ use lib.Dec.{leb}
 use Rattle.procap.specs.Tells.{pick}
 use Rattle.procap.specs.Bytes.{Reader, next, number, term_by, term, term_tag}
 use Rattle.procap.specs.declared.tag.TermTag.{TermTag}
-use Rattle.procap.specs.declared.tag.TermTag.TheVariants.{NameTag, MomentTag, MinusInfinityTag, PlusInfinityTag, CtimeTag, VariableTag, NoTermTag}
+use Rattle.procap.specs.declared.tag.TermTag.TheVariants.{NameTag, MomentTag, MinusInfinityTag, PlusInfinityTag, CtimeTag, VariableTag}
 use Rattle.procap.specs.declared.time.Time.{Time}
 use Rattle.procap.specs.declared.time.Time.TheVariants.{Moment, MinusInfinity, PlusInfinity, Ctime}
 use Rattle.procap.specs.declared.fact.Term.{Term}
 use Rattle.procap.specs.declared.fact.Term.TheVariants.{Name, When}
-use Rattle.procap.proofs.Readers.{IfRead, read, unread, so_read, then_read, ensure_read}
+use Rattle.procap.proofs.Readers.{IfRead, read, unread, so_read, then_read, present_read, ensure_read}
 use Rattle.bl.specs.declared.InferTag.{InferTag}
-use Rattle.bl.specs.declared.InferTag.TheVariants.{LocalTag, CertificateTag, FirstTag, SecondTag, ApplyTag, InstanceTag, NoInferTag}
+use Rattle.bl.specs.declared.InferTag.TheVariants.{LocalTag, CertificateTag, FirstTag, SecondTag, ApplyTag, InstanceTag}
 use Rattle.bl.specs.declared.CheckTag.{CheckTag}
-use Rattle.bl.specs.declared.CheckTag.TheVariants.{PairTag, TopStepTag, AtInTag, AtOutTag, SaysInTag, SaysOutTag, StateTag, OrderStepTag, OrLeftTag, OrRightTag, OrOutTag, FalsityOutTag, InferredTag, NoCheckTag}
+use Rattle.bl.specs.declared.CheckTag.TheVariants.{PairTag, TopStepTag, AtInTag, AtOutTag, SaysInTag, SaysOutTag, StateTag, OrderStepTag, OrLeftTag, OrRightTag, OrOutTag, FalsityOutTag, InferredTag}
 use Rattle.bl.specs.Tags.{infer_tag, check_tag}
 use Rattle.bl.specs.Trees.{Infer, local, certificate, first, second, apply, instance, Check, pair, trivial, at_in, at_out, says_in, says_out, state, compare, or_left, or_right, or_out, falsity_out, inferred, offset}
 use Rattle.bl.specs.Steps.{only_time, time, infer_by, check_by, infer_step, check_step}
@@ -134,11 +134,10 @@ module _ (proof : List ℕ) where
   term_by_takes PlusInfinityTag q at b l = read (b, l)
   term_by_takes CtimeTag q at b l = read (b, l)
   term_by_takes VariableTag q at b l = unread
-  term_by_takes NoTermTag q at b l = unread
 
   pub term_takes : (q : ℕ) → Takes term_bytes q (term proof q)
   unfolding term
-  term_takes q = then_read (number_takes 1 q) λ b at h. term_by_takes (term_tag b) q at h.0 h.1
+  term_takes q = then_read (number_takes 1 q) λ b at h. present_read (term_tag b) at _ λ tag _. term_by_takes tag q at h.0 h.1
 
   module _ (c : ℕ) where
     pub time_takes : (q : ℕ) → Takes time_bytes q (time proof c q)
@@ -191,7 +190,6 @@ module _ (proof : List ℕ) where
           then_read (term_takes at) λ t m b1.
           then_read (infers_placed h m) λ M e b2.
           read record { begins = refl; ends = omega arith; long = omega arith; inside = b2.inside; spread = wider q e b2.spread (omega arith) (omega arith) }
-      infer_by_placed NoInferTag = unread
 
       -- No part, one, and two.
       still : Spread q at []
@@ -200,48 +198,47 @@ module _ (proof : List ℕ) where
       after : {m e : ℕ} {ms ns : List Mark} → Spread at m ms → Spread m e ns → at ≤ m → m ≤ e → Spread q e (ms ++ ns)
       after {m} s r l k = both_parts (wider q m s (omega arith) (omega arith)) r (omega arith) (omega arith)
 
-      check_by_placed : (i : InferTag) (tag : CheckTag) → IfRead (Checks q) (check_by proof c infers checks h q i tag at)
+      check_by_placed : (tag : CheckTag) → IfRead (Checks q) (check_by proof c infers checks h q tag at)
       unfolding check_by place bytes_checking marks_checking
-      check_by_placed i PairTag =
+      check_by_placed PairTag =
           then_read (checks_placed h at) λ M1 m b1.
           then_read (checks_placed h m) λ M2 e b2.
           read record { begins = refl; ends = omega arith; long = omega arith; inside = b2.inside; spread = after b1.spread b2.spread (omega arith) (omega arith) }
-      check_by_placed i TopStepTag = read record { begins = refl; ends = before; long = omega arith; inside = inside; spread = still }
-      check_by_placed i AtInTag =
+      check_by_placed TopStepTag = read record { begins = refl; ends = before; long = omega arith; inside = inside; spread = still }
+      check_by_placed AtInTag =
           then_read (checks_placed h at) λ M e b.
           read record { begins = refl; ends = omega arith; long = omega arith; inside = b.inside; spread = wider q e b.spread (omega arith) (omega arith) }
-      check_by_placed i AtOutTag =
+      check_by_placed AtOutTag =
           then_read (infers_placed h at) λ M1 m b1.
           then_read (checks_placed (suc h) m) λ M2 e b2.
           read record { begins = refl; ends = omega arith; long = omega arith; inside = b2.inside; spread = after b1.spread b2.spread (omega arith) (omega arith) }
-      check_by_placed i SaysInTag =
+      check_by_placed SaysInTag =
           then_read (checks_placed h at) λ M e b.
           read record { begins = refl; ends = omega arith; long = omega arith; inside = b.inside; spread = wider q e b.spread (omega arith) (omega arith) }
-      check_by_placed i SaysOutTag =
+      check_by_placed SaysOutTag =
           then_read (infers_placed h at) λ M1 m b1.
           then_read (checks_placed (suc h) m) λ M2 e b2.
           read record { begins = refl; ends = omega arith; long = omega arith; inside = b2.inside; spread = after b1.spread b2.spread (omega arith) (omega arith) }
-      check_by_placed i StateTag = read record { begins = refl; ends = before; long = omega arith; inside = inside; spread = still }
-      check_by_placed i OrderStepTag = read record { begins = refl; ends = before; long = omega arith; inside = inside; spread = still }
-      check_by_placed i OrLeftTag =
+      check_by_placed StateTag = read record { begins = refl; ends = before; long = omega arith; inside = inside; spread = still }
+      check_by_placed OrderStepTag = read record { begins = refl; ends = before; long = omega arith; inside = inside; spread = still }
+      check_by_placed OrLeftTag =
           then_read (checks_placed h at) λ M e b.
           read record { begins = refl; ends = omega arith; long = omega arith; inside = b.inside; spread = wider q e b.spread (omega arith) (omega arith) }
-      check_by_placed i OrRightTag =
+      check_by_placed OrRightTag =
           then_read (checks_placed h at) λ M e b.
           read record { begins = refl; ends = omega arith; long = omega arith; inside = b.inside; spread = wider q e b.spread (omega arith) (omega arith) }
-      check_by_placed i OrOutTag =
+      check_by_placed OrOutTag =
           then_read (infers_placed h at) λ M1 m b1.
           then_read (checks_placed (suc h) m) λ M2 a b2.
           then_read (checks_placed (suc h) a) λ M3 e b3.
           let branches = both_parts b2.spread b3.spread (omega arith) (omega arith) in
           read record { begins = refl; ends = omega arith; long = omega arith; inside = b3.inside; spread = after b1.spread branches (omega arith) (omega arith) }
-      check_by_placed i FalsityOutTag =
+      check_by_placed FalsityOutTag =
           then_read (infers_placed h at) λ M e b.
           read record { begins = refl; ends = omega arith; long = omega arith; inside = b.inside; spread = wider q e b.spread (omega arith) (omega arith) }
-      check_by_placed i InferredTag =
-          then_read (infer_by_placed i) λ M e b.
+      check_by_placed (InferredTag tag) =
+          then_read (infer_by_placed tag) λ M e b.
           read record { begins = b.begins; ends = b.ends; long = omega arith; inside = b.inside; spread = b.spread }
-      check_by_placed i NoCheckTag = unread
 
     mutual
       unfolding infer_step check_step
@@ -250,13 +247,13 @@ module _ (proof : List ℕ) where
       infer_placed zero h q = unread
       infer_placed (suc n) h q =
           then_read (number_takes 1 q) λ b at t.
-          infer_by_placed _ _ (λ k o. infer_placed n k o) (λ k o. check_placed n k o) h q at t.0 t.1 (infer_tag b)
+          present_read (infer_tag b) at _ λ tag _. infer_by_placed _ _ (λ k o. infer_placed n k o) (λ k o. check_placed n k o) h q at t.0 t.1 tag
 
       check_placed : (n h q : ℕ) → IfRead (Checks q) (check_step proof c n h q)
       check_placed zero h q = unread
       check_placed (suc n) h q =
           then_read (number_takes 1 q) λ b at t.
-          check_by_placed _ _ (λ k o. infer_placed n k o) (λ k o. check_placed n k o) h q at t.0 t.1 (infer_tag b) (check_tag b)
+          present_read (check_tag b) at _ λ tag _. check_by_placed _ _ (λ k o. infer_placed n k o) (λ k o. check_placed n k o) h q at t.0 t.1 tag
 
 -- ── As others use it ──
 

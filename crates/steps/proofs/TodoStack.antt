@@ -1,90 +1,46 @@
--- What is to be read, one thing at hand and the others on a stack, the newest last: it has room, since each level needs one place and the second part of a 26, or both branches of a 30, one more; and opening goes forth.
+-- What waits has places enough, since each level needs one and the second part of a 26, or both branches of a 30, one more; and opening goes forth.
 use Prim.Native.Nat.{ℕ, zero, suc, ◌+◌, ◌-◌, ◌*◌, ◌≤◌, ◌<◌}
 use mathlib.Core.Path.{◌≡◌, refl, ap, ◌∙◌}
 use mathlib.Core.List.{List, [], ◌∷◌, ◌++◌}
 use native.Mathlib.Omega.{arith}
-use lib.ListN.{length, get_or, set}
-use lib.Seq.{get_or-set_same, get_or-set_other}
-use Rattle.procap.proofs.Readers.{IfRead, read, unread, then_read, ensure_read}
+use lib.ListN.{length, get_or}
+use Rattle.procap.specs.Bytes.{then, present}
+use Rattle.procap.proofs.Readers.{IfRead, read, unread, then_read, present_read, ensure_read}
 use Rattle.procap.proofs.ReadApart.{byte_then}
 use Rattle.bl.specs.declared.InferTag.{InferTag}
-use Rattle.bl.specs.declared.InferTag.TheVariants.{LocalTag, CertificateTag, FirstTag, SecondTag, ApplyTag, InstanceTag, NoInferTag}
+use Rattle.bl.specs.declared.InferTag.TheVariants.{LocalTag, CertificateTag, FirstTag, SecondTag, ApplyTag, InstanceTag}
 use Rattle.bl.specs.declared.CheckTag.{CheckTag}
-use Rattle.bl.specs.declared.CheckTag.TheVariants.{PairTag, TopStepTag, AtInTag, AtOutTag, SaysInTag, SaysOutTag, StateTag, OrderStepTag, OrLeftTag, OrRightTag, OrOutTag, FalsityOutTag, InferredTag, NoCheckTag}
+use Rattle.bl.specs.declared.CheckTag.TheVariants.{PairTag, TopStepTag, AtInTag, AtOutTag, SaysInTag, SaysOutTag, StateTag, OrderStepTag, OrLeftTag, OrRightTag, OrOutTag, FalsityOutTag, InferredTag}
 use Rattle.bl.specs.Tags.{infer_tag, check_tag}
-use Rattle.bl.specs.Steps.{most_proof_bytes, most_proof_levels}
-use Rattle.steps.specs.Todo.{Parts, index_parts, time_parts, times_parts, inferring_parts, checking_parts, parts, todo_in, Small}
+use Rattle.steps.specs.Rooms.{Room, assuming}
+use Rattle.steps.specs.Waiting.{most_waiting}
+use Rattle.steps.specs.Todo.{Parts, index_parts, time_parts, times_parts, inferring_parts, checking_parts, parts}
 use Rattle.steps.specs.declared.todo.Todo.{Todo}
 use Rattle.steps.specs.declared.todo.Todo.TheVariants.{Times, Inferring, Checking, Second, Both}
 use Rattle.steps.proofs.StepPlaces.{number_takes, term_takes, time_takes, some_bytes}
 
--- ── The stack ──
-
--- What waits at the places n to 1.
-unfoldable pub below : List ℕ → ℕ → List Todo
-below st zero = []
-below st (suc n) = todo_in (get_or st (suc n) 0) ∷ below st n
-
--- And before it what is at hand: so many things in all.
-unfoldable pub at_hand : Todo → List ℕ → ℕ → List Todo
-at_hand t st zero = []
-at_hand t st (suc n) = t ∷ below st n
-
-pub below_length : (st : List ℕ) (n : ℕ) → length (below st n) ≡ n
-unfolding below
-below_length st zero = refl
-below_length st (suc n) = ap suc (below_length st n)
-
-pub in_hand : (t : Todo) (st : List ℕ) (m n : ℕ) → m ≡ suc n → at_hand t st m ≡ t ∷ below st n
-unfolding at_hand
-in_hand t st m n e = rw e refl
-
--- The newest of what waits, taken up.
-pub taken_up : (st : List ℕ) (n : ℕ) → at_hand (todo_in (get_or st n 0)) st n ≡ below st n
-unfolding at_hand below
-taken_up st zero = refl
-taken_up st (suc n) = refl
-
--- Of what is put past the count the count takes no notice; and one put there waits.
-unnoticed : (st : List ℕ) (i x n : ℕ) → n < i → below (set st i x) n ≡ below st n
-unfolding below
-unnoticed st i x zero l = refl
-unnoticed st i x (suc n) l = rw (get_or-set_other st i (suc n) x 0 (λ e. omega arith), unnoticed st i x n (omega arith)) refl
-
-put_off : (st : List ℕ) (n x : ℕ) → suc n < length st → below (set st (suc n) x) (suc n) ≡ todo_in x ∷ below st n
-unfolding below
-put_off st n x l = rw (get_or-set_same st (suc n) x 0 l, unnoticed st (suc n) x n (omega arith)) refl
-
-pub puts_off : (t u : Todo) (st : List ℕ) (m n x : ℕ) → m ≡ suc n → m < length st → todo_in x ≡ u
-    → at_hand t (set st m x) (m + 1) ≡ t ∷ u ∷ below st n
-puts_off t u st m n x e l is =
-    in_hand t (set st m x) (m + 1) m (omega arith) ∙ ap (λ ts. t ∷ ts) (rw (e, ← is) (put_off st n x (rw e at l)))
-
--- ── Room ──
+-- ── Places ──
 
 -- How many places a thing needs until it is read.
 unfoldable pub size : Todo → ℕ
 size (Times begin) = 1
-size (Inferring n h) = n + 1
-size (Checking n h) = n + 1
-size (Second n h) = n + 2
-size (Both n h) = n + 2
+size (Inferring r) = r.levels + 1
+size (Checking r) = r.levels + 1
+size (Second r) = r.levels + 2
+size (Both r) = r.levels + 2
 
 -- All fit on a stack for a whole proof.
-abbrev pub room : ℕ
-room = most_proof_levels + 1
-
 unfoldable pub Fit : List Todo → Type 0
 Fit [] = Unit {0}
-Fit (t ∷ ts) = (length ts + size t ≤ room) × Small t × Fit ts
+Fit (t ∷ ts) = (length ts + size t ≤ most_waiting) × Fit ts
 
 pub some_size : (t : Todo) → 1 ≤ size t
 unfolding size
 some_size (Times begin) = omega arith
-some_size (Inferring n h) = omega arith
-some_size (Checking n h) = omega arith
-some_size (Second n h) = omega arith
-some_size (Both n h) = omega arith
+some_size (Inferring r) = omega arith
+some_size (Checking r) = omega arith
+some_size (Second r) = omega arith
+some_size (Both r) = omega arith
 
 -- ── Turns ──
 
@@ -92,19 +48,19 @@ some_size (Both n h) = omega arith
 unfoldable pub eager : List Todo → ℕ
 eager [] = 0
 eager (Times begin ∷ ts) = 0
-eager (Inferring n h ∷ ts) = 0
-eager (Checking n h ∷ ts) = 0
-eager (Second n h ∷ ts) = 1
-eager (Both n h ∷ ts) = 1
+eager (Inferring r ∷ ts) = 0
+eager (Checking r ∷ ts) = 0
+eager (Second r ∷ ts) = 1
+eager (Both r ∷ ts) = 1
 
 at_most_one : (ts : List Todo) → eager ts ≤ 1
 unfolding eager
 at_most_one [] = omega arith
 at_most_one (Times begin ∷ ts) = omega arith
-at_most_one (Inferring n h ∷ ts) = omega arith
-at_most_one (Checking n h ∷ ts) = omega arith
-at_most_one (Second n h ∷ ts) = omega arith
-at_most_one (Both n h ∷ ts) = omega arith
+at_most_one (Inferring r ∷ ts) = omega arith
+at_most_one (Checking r ∷ ts) = omega arith
+at_most_one (Second r ∷ ts) = omega arith
+at_most_one (Both r ∷ ts) = omega arith
 
 -- How many turns may be left.
 unfoldable pub turns : List ℕ → List Todo → ℕ → ℕ
@@ -134,84 +90,93 @@ module _ (proof : List ℕ) (c : ℕ) (t : Todo) (ts : List Todo) (at : ℕ) (re
       ensure_read _ e _ λ _. read (forth (0, []) e (omega arith) b.1 (omega arith) rest)
 
   -- The parts of a step fit where the step did.
-  module _ (n h : ℕ) (places : length ts + (n + 2) ≤ room) (small : suc n + h ≤ most_proof_levels) where
-    one_fits : Fit (Inferring n h ∷ ts)
-    unfolding Fit size Small
-    one_fits = (omega arith, omega arith, rest)
+  module _ (r : Room) (places : length ts + (r.levels + 2) ≤ most_waiting) where
+    one_fits : Fit (Inferring r ∷ ts)
+    unfolding Fit size
+    one_fits = (omega arith, rest)
 
-    check_fits : Fit (Checking n h ∷ ts)
-    unfolding Fit size Small
-    check_fits = (omega arith, omega arith, rest)
+    check_fits : Fit (Checking r ∷ ts)
+    unfolding Fit size
+    check_fits = (omega arith, rest)
 
-    two_fit : Fit (Checking n h ∷ Checking n h ∷ ts)
-    unfolding Fit size Small
-    two_fit = (omega arith, omega arith, check_fits)
+    two_fit : Fit (Checking r ∷ Checking r ∷ ts)
+    unfolding Fit size
+    two_fit = (omega arith, check_fits)
 
-    out_fit : Fit (Inferring n h ∷ Checking n (suc h) ∷ ts)
-    unfolding Fit size Small
-    out_fit = (omega arith, omega arith, (omega arith, omega arith, rest))
+    out_fit : Fit (Inferring r ∷ Checking (assuming r) ∷ ts)
+    unfolding Fit size
+    out_fit = (omega arith, (omega arith, rest))
 
-    branches_fit : Fit (Inferring n h ∷ Both n (suc h) ∷ ts)
-    unfolding Fit size Small
-    branches_fit = (omega arith, omega arith, (omega arith, omega arith, rest))
+    branches_fit : Fit (Inferring r ∷ Both (assuming r) ∷ ts)
+    unfolding Fit size
+    branches_fit = (omega arith, (omega arith, rest))
 
-    apply_fit : Fit (Inferring n h ∷ Second n h ∷ ts)
-    unfolding Fit size Small
-    apply_fit = (omega arith, omega arith, (omega arith, omega arith, rest))
+    apply_fit : Fit (Inferring r ∷ Second r ∷ ts)
+    unfolding Fit size
+    apply_fit = (omega arith, (omega arith, rest))
 
     module _ (inside : at + 1 ≤ length proof) where
-      inferring_leaves : (tag : InferTag) → IfRead (Leaves proof t ts at) (inferring_parts proof c n h tag (at + 1))
+      inferring_leaves : (tag : InferTag) → IfRead (Leaves proof t ts at) (inferring_parts proof c r tag (at + 1))
       unfolding inferring_parts
-      inferring_leaves LocalTag = index_leaves h (at + 1) (omega arith)
+      inferring_leaves LocalTag = index_leaves r.assumptions (at + 1) (omega arith)
       inferring_leaves CertificateTag = index_leaves c (at + 1) (omega arith)
-      inferring_leaves FirstTag = read (forth (0, Inferring n h ∷ []) (at + 1) (omega arith) inside (omega arith) one_fits)
-      inferring_leaves SecondTag = read (forth (0, Inferring n h ∷ []) (at + 1) (omega arith) inside (omega arith) one_fits)
-      inferring_leaves ApplyTag = read (forth (0, Inferring n h ∷ Second n h ∷ []) (at + 1) (omega arith) inside (omega arith) apply_fit)
-      inferring_leaves InstanceTag = then_read (term_takes proof (at + 1)) λ u e b. read (forth (0, Inferring n h ∷ []) e (omega arith) b.1 (omega arith) one_fits)
-      inferring_leaves NoInferTag = unread
+      inferring_leaves FirstTag = read (forth (0, Inferring r ∷ []) (at + 1) (omega arith) inside (omega arith) one_fits)
+      inferring_leaves SecondTag = read (forth (0, Inferring r ∷ []) (at + 1) (omega arith) inside (omega arith) one_fits)
+      inferring_leaves ApplyTag = read (forth (0, Inferring r ∷ Second r ∷ []) (at + 1) (omega arith) inside (omega arith) apply_fit)
+      inferring_leaves InstanceTag = then_read (term_takes proof (at + 1)) λ u e b. read (forth (0, Inferring r ∷ []) e (omega arith) b.1 (omega arith) one_fits)
 
-      checking_leaves : (i : InferTag) (tag : CheckTag) → IfRead (Leaves proof t ts at) (checking_parts proof c n h i tag (at + 1))
+      checking_leaves : (tag : CheckTag) → IfRead (Leaves proof t ts at) (checking_parts proof c r tag (at + 1))
       unfolding checking_parts
-      checking_leaves i PairTag = read (forth (0, Checking n h ∷ Checking n h ∷ []) (at + 1) (omega arith) inside (omega arith) two_fit)
-      checking_leaves i TopStepTag = read (forth (0, []) (at + 1) (omega arith) inside (omega arith) rest)
-      checking_leaves i AtInTag = read (forth (0, Checking n h ∷ []) (at + 1) (omega arith) inside (omega arith) check_fits)
-      checking_leaves i AtOutTag = read (forth (0, Inferring n h ∷ Checking n (suc h) ∷ []) (at + 1) (omega arith) inside (omega arith) out_fit)
-      checking_leaves i SaysInTag = read (forth (0, Checking n h ∷ []) (at + 1) (omega arith) inside (omega arith) check_fits)
-      checking_leaves i SaysOutTag = read (forth (0, Inferring n h ∷ Checking n (suc h) ∷ []) (at + 1) (omega arith) inside (omega arith) out_fit)
-      checking_leaves i StateTag = read (forth (1, []) (at + 1) (omega arith) inside (omega arith) rest)
-      checking_leaves i OrderStepTag = read (forth (0, []) (at + 1) (omega arith) inside (omega arith) rest)
-      checking_leaves i OrLeftTag = read (forth (0, Checking n h ∷ []) (at + 1) (omega arith) inside (omega arith) check_fits)
-      checking_leaves i OrRightTag = read (forth (0, Checking n h ∷ []) (at + 1) (omega arith) inside (omega arith) check_fits)
-      checking_leaves i OrOutTag = read (forth (0, Inferring n h ∷ Both n (suc h) ∷ []) (at + 1) (omega arith) inside (omega arith) branches_fit)
-      checking_leaves i FalsityOutTag = read (forth (0, Inferring n h ∷ []) (at + 1) (omega arith) inside (omega arith) one_fits)
-      checking_leaves i InferredTag = inferring_leaves i
-      checking_leaves i NoCheckTag = unread
+      checking_leaves PairTag = read (forth (0, Checking r ∷ Checking r ∷ []) (at + 1) (omega arith) inside (omega arith) two_fit)
+      checking_leaves TopStepTag = read (forth (0, []) (at + 1) (omega arith) inside (omega arith) rest)
+      checking_leaves AtInTag = read (forth (0, Checking r ∷ []) (at + 1) (omega arith) inside (omega arith) check_fits)
+      checking_leaves AtOutTag = read (forth (0, Inferring r ∷ Checking (assuming r) ∷ []) (at + 1) (omega arith) inside (omega arith) out_fit)
+      checking_leaves SaysInTag = read (forth (0, Checking r ∷ []) (at + 1) (omega arith) inside (omega arith) check_fits)
+      checking_leaves SaysOutTag = read (forth (0, Inferring r ∷ Checking (assuming r) ∷ []) (at + 1) (omega arith) inside (omega arith) out_fit)
+      checking_leaves StateTag = read (forth (1, []) (at + 1) (omega arith) inside (omega arith) rest)
+      checking_leaves OrderStepTag = read (forth (0, []) (at + 1) (omega arith) inside (omega arith) rest)
+      checking_leaves OrLeftTag = read (forth (0, Checking r ∷ []) (at + 1) (omega arith) inside (omega arith) check_fits)
+      checking_leaves OrRightTag = read (forth (0, Checking r ∷ []) (at + 1) (omega arith) inside (omega arith) check_fits)
+      checking_leaves OrOutTag = read (forth (0, Inferring r ∷ Both (assuming r) ∷ []) (at + 1) (omega arith) inside (omega arith) branches_fit)
+      checking_leaves FalsityOutTag = read (forth (0, Inferring r ∷ []) (at + 1) (omega arith) inside (omega arith) one_fits)
+      checking_leaves (InferredTag tag) = inferring_leaves tag
 
--- A second part, without a byte: itself, and its times.
-second_leaves : (proof : List ℕ) (n h : ℕ) (ts : List Todo) (at : ℕ) → Fit (Second n h ∷ ts) → at ≤ length proof → length proof ≤ most_proof_bytes
-    → Leaves proof (Second n h) ts at (0, Checking n h ∷ Times at ∷ []) at
-unfolding Fit size Small eager turns
-second_leaves proof n h ts at fit l short = record { counted = omega arith; inside = l; fewer = omega arith; fit = (omega arith, fit.1, (omega arith, omega arith, fit.2)) }
+module _ (proof : List ℕ) (c : ℕ) (ts : List Todo) (at : ℕ) where
+  -- A step leaves nothing where no level is left.
+  inferring_opened : (n h : ℕ) → length ts + (n + 1) ≤ most_waiting → Fit ts
+      → (let t = Inferring (record { levels = n; assumptions = h }) in IfRead (Leaves proof t ts at) (parts proof c t at))
+  unfolding parts eager then present
+  inferring_opened zero h places rest = unread
+  inferring_opened (suc n) h places rest =
+      byte_then proof at _ λ k. present_read (infer_tag (get_or proof at 0)) (at + 1) _ λ tag _.
+      inferring_leaves proof c _ ts at rest refl (record { levels = n; assumptions = h }) (omega arith) (omega arith) tag
 
--- Two steps that check, without a byte.
-both_leaves : (proof : List ℕ) (n h : ℕ) (ts : List Todo) (at : ℕ) → Fit (Both n h ∷ ts) → at ≤ length proof
-    → Leaves proof (Both n h) ts at (0, Checking n h ∷ Checking n h ∷ []) at
-unfolding Fit size Small eager turns
-both_leaves proof n h ts at fit l = record { counted = omega arith; inside = l; fewer = omega arith; fit = (omega arith, fit.1, (omega arith, fit.1, fit.2)) }
+  checking_opened : (n h : ℕ) → length ts + (n + 1) ≤ most_waiting → Fit ts
+      → (let t = Checking (record { levels = n; assumptions = h }) in IfRead (Leaves proof t ts at) (parts proof c t at))
+  unfolding parts eager then present
+  checking_opened zero h places rest = unread
+  checking_opened (suc n) h places rest =
+      byte_then proof at _ λ k. present_read (check_tag (get_or proof at 0)) (at + 1) _ λ tag _.
+      checking_leaves proof c _ ts at rest refl (record { levels = n; assumptions = h }) (omega arith) (omega arith) tag
 
--- What is opened leaves that.
-pub leaves : (proof : List ℕ) (c : ℕ) (t : Todo) (ts : List Todo) (at : ℕ) → Fit (t ∷ ts) → at ≤ length proof → length proof ≤ most_proof_bytes → IfRead (Leaves proof t ts at) (parts proof c t at)
-unfolding parts times_parts time_parts Fit size Small eager turns
-leaves proof c (Times begin) ts at fit l short =
-    then_read (time_takes proof c at) λ u b d.
-    then_read (time_takes proof c b) λ v e f.
-    let one = some_bytes u in
-    read (forth proof c (Times begin) ts at fit.2 refl (0, []) e (omega arith) f.1 (omega arith) fit.2)
-leaves proof c (Inferring zero h) ts at fit l short = unread
-leaves proof c (Inferring (suc n) h) ts at fit l short =
-    byte_then proof at _ λ k. inferring_leaves proof c (Inferring (suc n) h) ts at fit.2 refl n h (omega arith) fit.1 (omega arith) (infer_tag (get_or proof at 0))
-leaves proof c (Checking zero h) ts at fit l short = unread
-leaves proof c (Checking (suc n) h) ts at fit l short =
-    byte_then proof at _ λ k. checking_leaves proof c (Checking (suc n) h) ts at fit.2 refl n h (omega arith) fit.1 (omega arith) (infer_tag (get_or proof at 0)) (check_tag (get_or proof at 0))
-leaves proof c (Second n h) ts at fit l short = read (second_leaves proof n h ts at fit l short)
-leaves proof c (Both n h) ts at fit l short = read (both_leaves proof n h ts at fit l)
+  -- A second part, or two steps that check, without a byte.
+  second_leaves : (r : Room) → Fit (Second r ∷ ts) → at ≤ length proof → Leaves proof (Second r) ts at (0, Checking r ∷ Times at ∷ []) at
+  unfolding Fit size eager turns
+  second_leaves r fit l = record { counted = omega arith; inside = l; fewer = omega arith; fit = (omega arith, (omega arith, fit.1)) }
+
+  both_leaves : (r : Room) → Fit (Both r ∷ ts) → at ≤ length proof → Leaves proof (Both r) ts at (0, Checking r ∷ Checking r ∷ []) at
+  unfolding Fit size eager turns
+  both_leaves r fit l = record { counted = omega arith; inside = l; fewer = omega arith; fit = (omega arith, (omega arith, fit.1)) }
+
+  -- What is opened leaves that.
+  pub leaves : (t : Todo) → Fit (t ∷ ts) → at ≤ length proof → IfRead (Leaves proof t ts at) (parts proof c t at)
+  unfolding parts times_parts time_parts Fit size eager
+  leaves (Times begin) fit l =
+      then_read (time_takes proof c at) λ u b d.
+      then_read (time_takes proof c b) λ v e f.
+      let one = some_bytes u in
+      read (forth proof c (Times begin) ts at fit.1 refl (0, []) e (omega arith) f.1 (omega arith) fit.1)
+  leaves (Inferring r) fit l = inferring_opened r.levels r.assumptions fit.0 fit.1
+  leaves (Checking r) fit l = checking_opened r.levels r.assumptions fit.0 fit.1
+  leaves (Second r) fit l = read (second_leaves r fit l)
+  leaves (Both r) fit l = read (both_leaves r fit l)

@@ -23,20 +23,14 @@ pub fn end_in(ends: &[u16], at: usize) -> usize
 
 // Where the times of a 26 are to be read, its second part has ended.
 #[tactic(auto, unfolding(crate::specs::Todo::noted))]
-pub(crate) fn note_end(ends: &mut [u16], todo: Todo, place: usize)
+pub(crate) fn note_end(ends: &mut [u16], todo: &Todo, place: usize)
     requires { place ≤ most_proof_bytes }
-    ensures { Noted ends todo place }
+    ensures { Noted ends todo.now place }
 {
-    match todo {
-        Todo::Times(begin) => {
-            let slot = begin / 3;
-            if slot < ends.len() {
-                ends[slot] = place as u16;
-            }
+    if let Todo::Times(begin) = *todo {
+        let slot = begin / 3;
+        if slot < ends.len() {
+            ends[slot] = place as u16;
         }
-        Todo::Inferring(_, _) => {}
-        Todo::Checking(_, _) => {}
-        Todo::Second(_, _) => {}
-        Todo::Both(_, _) => {}
     }
 }

@@ -1,17 +1,15 @@
-// Whether bytes are a proof. No function calls itself: of what is still to be read one thing is at hand, and the others wait on a small stack, the newest last.
+// Whether bytes are a proof. No function calls itself: what is still to be read waits on a small stack.
 ghost use Rattle.procap.specs.Tells.{Tells};
 ghost use Rattle.steps.specs.Ends.{IsProof, EndsTold};
 
-use crate::MOST_PROOF_LEVELS;
 use crate::ends::note_end;
-use crate::todo::{Opened, Todo, number_of, open_todo, todo_of};
+use crate::todo::{Opened, Room, Source, Todo};
+use crate::waiting::Waiting;
 
 // How many bytes a proof may have.
 const MOST_PROOF_BYTES: usize = 4096;
 // How many steps 2C it may have.
 const MOST_STATES: usize = 16;
-// How many things may be at hand and wait: at most one for each level, and two more. The first place is not used.
-const MOST_WAITING: usize = 34;
 
 // Whether the bytes are a proof over so many certificates; where they are, the table has where the second part of each 26 ends.
 pub fn well_formed(proof: &[u8], certificates: usize, ends: &mut [u16]) -> bool
@@ -21,30 +19,34 @@ pub fn well_formed(proof: &[u8], certificates: usize, ends: &mut [u16]) -> bool
     if proof.len() > MOST_PROOF_BYTES {
         return false;
     }
-    let mut waiting = [0u64; MOST_WAITING];
-    let mut todo = Todo::Checking(MOST_PROOF_LEVELS, 0);
-    let mut count: usize = 1;
+    let source = Source {
+        proof,
+        certificates,
+    };
+    let mut waiting = Waiting::with(Todo::Checking(Room::whole()));
     let mut place: usize = 0;
     let mut states: usize = 0;
-    while 0 < count {
-        note_end(ends, todo, place);
-        match open_todo(proof, certificates, todo, place) {
-            Opened::Nothing => return false,
-            Opened::Leaf(next, found) => {
-                count -= 1;
-                todo = todo_of(waiting[count]);
+    while let Some(todo) = waiting.pop() {
+        note_end(ends, &todo, place);
+        let Some(opened) = source.open(todo, place) else {
+            return false;
+        };
+        match opened {
+            Opened::Leaf {
+                next,
+                states: found,
+            } => {
                 place = next;
                 states += found;
             }
-            Opened::One(next, part) => {
-                todo = part;
+            Opened::One { next, part } => {
                 place = next;
+                waiting.push(part);
             }
-            Opened::Two(next, first, later) => {
-                waiting[count] = number_of(later);
-                count += 1;
-                todo = first;
+            Opened::Two { next, first, later } => {
                 place = next;
+                waiting.push(later);
+                waiting.push(first);
             }
         }
     }

@@ -1,10 +1,7 @@
-// The reader of proof bytes: one value that holds the lent bytes and its place in them. Every byte of a proof that is read, to see that it is well formed or to walk it, is read by one of these steps.
-ghost use Rattle.std.specs.Prelude.{◌≡◌, ◌+◌, ◌≤◌, ◌<◌, length, get_or};
-ghost use Rattle.procap.specs.Bytes.{term};
-ghost use Rattle.procap.specs.Reading.{TermReads, InFormRead};
+// The reader of proof bytes: the lent bytes and a place in them. Every byte of a proof that is looked at, to see that it is well formed or to walk it, is read by it.
+ghost use Rattle.std.specs.Prelude.{◌≡◌, ◌+◌, ◌≤◌, ◌<◌, length, get_or, slice_get};
 
-use procap::bytes::{TermRead, past, term_by};
-use procap::tag::TermTag;
+use procap::bytes::past;
 
 // The lent bytes of a proof and a place in them.
 #[derive(Clone, Copy)]
@@ -14,19 +11,11 @@ pub struct Reader<'a> {
 }
 
 impl<'a> Reader<'a> {
-    // The byte at its place, 0 past the end.
-    fn byte(self) -> u8
-        ensures { result ≡ get_or self.entry.proof.now self.entry.at 0 }
+    // The byte at its place, if one is there.
+    pub(crate) fn byte(self) -> Option<u8>
+        ensures { result ≡ slice_get self.entry.proof.now self.entry.at }
     {
-        byte_in(self.proof, self.at)
-    }
-
-    // The term at its place and the place after it, or none.
-    fn term(self) -> TermRead
-        ensures reads { TermReads (term self.entry.proof.now self.entry.at) result }
-        ensures in_form { InFormRead result }
-    {
-        term_in(self.proof, self.at)
+        self.proof.get(self.at).copied()
     }
 
     // The reader of the same bytes at the place after a byte; past the end it stays.
@@ -42,55 +31,9 @@ impl<'a> Reader<'a> {
     }
 }
 
-// A byte of the proof, 0 past its end.
-pub(crate) fn byte_or_zero(proof: &[u8], at: usize) -> u8
-    ensures { result ≡ get_or proof.now at 0 }
-{
-    Reader {
-        proof: proof,
-        at: at,
-    }
-    .byte()
-}
-
 // The byte after the one at a place of the proof, which is the index of a step 20 or 21 there; 0 past the end.
 pub fn index_at(proof: &[u8], at: usize) -> u8
     ensures { result ≡ get_or proof.now (at + 1) 0 }
 {
-    Reader {
-        proof: proof,
-        at: at,
-    }
-    .past()
-    .byte()
-}
-
-// The term at a place of the proof and the place after it, or none.
-pub(crate) fn term_read(proof: &[u8], at: usize) -> TermRead
-    ensures reads { TermReads (term proof.now at) result }
-    ensures in_form { InFormRead result }
-{
-    Reader {
-        proof: proof,
-        at: at,
-    }
-    .term()
-}
-
-// A byte of the lent bytes, 0 past their end.
-fn byte_in(proof: &[u8], at: usize) -> u8
-    ensures { result ≡ get_or proof.now at 0 }
-{
-    if at < proof.len() { proof[at] } else { 0 }
-}
-
-// A term in the lent bytes and the place after it, or none.
-fn term_in(proof: &[u8], at: usize) -> TermRead
-    ensures reads { TermReads (term proof.now at) result }
-    ensures in_form { InFormRead result }
-{
-    if at >= proof.len() {
-        return TermRead::NoTerm;
-    }
-    term_by(proof, TermTag::of(proof[at]), at + 1)
+    Reader { proof, at }.past().byte().unwrap_or(0)
 }

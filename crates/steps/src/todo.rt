@@ -1,209 +1,206 @@
 // What is still to be read of a proof: a thing is opened at its place, and its parts take its place.
-ghost use Rattle.std.specs.Prelude.{◌≡◌, ◌+◌, ◌*◌, ◌≤◌, ◌<◌};
+ghost use Rattle.std.specs.Prelude.{◌≡◌, ◌+◌, ◌≤◌, ◌<◌, IfSome};
 ghost use Rattle.bl.specs.Steps.{most_proof_levels};
-ghost use Rattle.steps.specs.Todo.{Small, todo_in, OpensIndex, OpensInferring, OpensChecking, OpensTime, OpensTimes, Opens};
+ghost use Rattle.steps.specs.Rooms.{Room as RoomOf, whole_room, inner, assuming};
+ghost use Rattle.steps.specs.Todo.{OpensIndex, OpensInferring, OpensChecking, OpensTimes, Opens};
 
-use crate::reader::{byte_or_zero, term_read};
-use crate::{check_tag_at, infer_tag_at};
+use crate::reader::Reader;
+use crate::{MOST_PROOF_LEVELS, check_tag_at, infer_tag_at, term_at, time_at};
 use bl::{CheckTag, InferTag};
-use procap::bytes::{TermRead, past};
-use procap::fact::Term;
+use procap::bytes::past;
+use std::marker::Model;
 
-// The two times of the 26 whose second part began at a place; a step that must infer, or one that checks; the second part of a 26, which checks, and its times; two steps that check.
-// A step has at most so many levels, and so many assumptions around it.
+// How many levels a step may have, and how many assumptions stand around it; together they are within the levels of a proof.
 #[derive(Clone, Copy)]
-pub(crate) enum Todo {
-    Times(usize),
-    Inferring(u64, u64),
-    Checking(u64, u64),
-    Second(u64, u64),
-    Both(u64, u64),
+pub(crate) struct Room {
+    levels: u64,
+    assumptions: u64,
 }
 
-// What is there at a place: nothing of that kind; or something that goes on at a next place, and leaves nothing to be read (with so many steps 2C), one part, or two.
-#[derive(Clone, Copy)]
-pub(crate) enum Opened {
-    Nothing,
-    Leaf(usize, usize),
-    One(usize, Todo),
-    Two(usize, Todo, Todo),
+impl Model for Room {
+    ghost use Rattle.std.specs.Prelude.{◌+◌, ◌≤◌};
+    ghost use Rattle.bl.specs.Steps.{most_proof_levels};
+    ghost use Rattle.steps.specs.Rooms.{Room as RoomOf};
+
+    ghost Value = { RoomOf };
+
+    ghost view = { λ r. record { levels = r.levels; assumptions = r.assumptions } };
+
+    ghost inverse = { λ r. record { levels = r.levels; assumptions = r.assumptions } };
+
+    ghost invariant = { λ r. r.levels + r.assumptions ≤ most_proof_levels };
 }
 
-// A step that waits, or two, as a number: the kind in three bits, then levels and assumptions, in six bits each.
-fn step_number(kind: u64, levels: u64, assumptions: u64) -> u64
-    requires { (kind < 8) × (levels + assumptions ≤ most_proof_levels) }
-    ensures { result ≡ kind + 8 * levels + 512 * assumptions }
-{
-    kind + 8 * levels + 512 * assumptions
-}
+impl Room {
+    // The room of a whole proof: all its levels, and no assumption.
+    pub(crate) fn whole() -> Room
+        ensures { result ≡ whole_room }
+    {
+        Room {
+            levels: MOST_PROOF_LEVELS,
+            assumptions: 0,
+        }
+    }
 
-// What waits, as a number.
-#[tactic(auto, unfolding(crate::specs::Todo::todo_in, crate::specs::Todo::Small))]
-pub(crate) fn number_of(todo: Todo) -> u64
-    requires { Small todo }
-    ensures { todo_in result ≡ todo }
-{
-    match todo {
-        Todo::Times(begin) => 8 * (begin as u64),
-        Todo::Inferring(levels, assumptions) => step_number(1, levels, assumptions),
-        Todo::Checking(levels, assumptions) => step_number(2, levels, assumptions),
-        Todo::Second(levels, assumptions) => step_number(3, levels, assumptions),
-        Todo::Both(levels, assumptions) => step_number(4, levels, assumptions),
+    // The room of the parts of a step: a level less, if one is left.
+    fn inner(self) -> Option<Room>
+        ensures less { result ≡ inner self }
+        ensures spare { IfSome result (λ r. r.levels + r.assumptions < most_proof_levels) }
+    {
+        Some(Room {
+            levels: self.levels.checked_sub(1)?,
+            assumptions: self.assumptions,
+        })
+    }
+
+    // The same with one assumption more.
+    fn assuming(self) -> Room
+        requires { self.levels + self.assumptions < most_proof_levels }
+        ensures { result ≡ assuming self }
+    {
+        Room {
+            levels: self.levels,
+            assumptions: self.assumptions + 1,
+        }
+    }
+
+    // How many assumptions stand around.
+    fn around(self) -> usize
+        ensures { result ≡ self.assumptions }
+    {
+        self.assumptions as usize
     }
 }
 
-// What waits, from its number.
-#[tactic(auto, unfolding(crate::specs::Todo::todo_in))]
-pub(crate) fn todo_of(number: u64) -> Todo
-    ensures { result ≡ todo_in number }
-{
-    let levels = number / 8 % 64;
-    let assumptions = number / 512 % 64;
-    match number % 8 {
-        0 => Todo::Times((number / 8) as usize),
-        1 => Todo::Inferring(levels, assumptions),
-        2 => Todo::Checking(levels, assumptions),
-        3 => Todo::Second(levels, assumptions),
-        _ => Todo::Both(levels, assumptions),
+// The two times of the 26 whose second part began at a place; a step that must infer, or one that checks; the second part of a 26, which checks, and its times; two steps that check.
+#[derive(Clone, Copy)]
+pub(crate) enum Todo {
+    Times(usize),
+    Inferring(Room),
+    Checking(Room),
+    Second(Room),
+    Both(Room),
+}
+
+// What is there at a place goes on at a next place, and leaves nothing to be read (with so many steps 2C), one part, or two.
+#[derive(Clone, Copy)]
+pub(crate) enum Opened {
+    Leaf { next: usize, states: usize },
+    One { next: usize, part: Todo },
+    Two { next: usize, first: Todo, later: Todo },
+}
+
+// The bytes of a proof, and over how many certificates it is.
+#[derive(Clone, Copy)]
+pub(crate) struct Source<'a> {
+    pub proof: &'a [u8],
+    pub certificates: usize,
+}
+
+impl<'a> Source<'a> {
+    // What is to be read at a place, opened; nothing, where no such thing stands there.
+    pub(crate) fn open(&self, todo: Todo, at: usize) -> Option<Opened>
+        ensures { Opens self.now todo at result }
+    {
+        match todo {
+            Todo::Times(_) => open_times(self.proof, at),
+            Todo::Inferring(room) => {
+                let room = room.inner()?;
+                let tag = infer_tag_at(self.proof, at)?;
+                self.open_inferring(room, tag, past(self.proof, at))
+            }
+            Todo::Checking(room) => self.open_checking(room, at),
+            Todo::Second(room) => Some(Opened::Two {
+                next: at,
+                first: Todo::Checking(room),
+                later: Todo::Times(at),
+            }),
+            Todo::Both(room) => Some(Opened::Two {
+                next: at,
+                first: Todo::Checking(room),
+                later: Todo::Checking(room),
+            }),
+        }
+    }
+
+    // A step that infers, by its tag and the place after it; its parts have so much room.
+    fn open_inferring(&self, room: Room, tag: InferTag, at: usize) -> Option<Opened>
+        ensures { OpensInferring self.now room tag at result }
+    {
+        let part = Todo::Inferring(room);
+        match tag {
+            InferTag::LocalTag => open_index(self.proof, room.around(), at),
+            InferTag::CertificateTag => open_index(self.proof, self.certificates, at),
+            InferTag::FirstTag | InferTag::SecondTag => Some(Opened::One { next: at, part }),
+            InferTag::ApplyTag => Some(Opened::Two {
+                next: at,
+                first: part,
+                later: Todo::Second(room),
+            }),
+            InferTag::InstanceTag => {
+                let (_, next) = term_at(self.proof, at)?;
+                Some(Opened::One { next, part })
+            }
+        }
+    }
+
+    // A step that checks, at its tag.
+    fn open_checking(&self, room: Room, at: usize) -> Option<Opened>
+        ensures { OpensChecking self.now room at result }
+    {
+        let room = room.inner()?;
+        let more = room.assuming();
+        let tag = check_tag_at(self.proof, at)?;
+        let next = past(self.proof, at);
+        let part = Todo::Checking(room);
+        let inferring = Todo::Inferring(room);
+        match tag {
+            CheckTag::TopStepTag | CheckTag::OrderStepTag => Some(Opened::Leaf { next, states: 0 }),
+            CheckTag::StateTag => Some(Opened::Leaf { next, states: 1 }),
+            CheckTag::AtInTag | CheckTag::SaysInTag | CheckTag::OrLeftTag | CheckTag::OrRightTag => {
+                Some(Opened::One { next, part })
+            }
+            CheckTag::FalsityOutTag => Some(Opened::One { next, part: inferring }),
+            CheckTag::PairTag => Some(Opened::Two {
+                next,
+                first: part,
+                later: Todo::Checking(room),
+            }),
+            CheckTag::AtOutTag | CheckTag::SaysOutTag => Some(Opened::Two {
+                next,
+                first: inferring,
+                later: Todo::Checking(more),
+            }),
+            CheckTag::OrOutTag => Some(Opened::Two {
+                next,
+                first: inferring,
+                later: Todo::Both(more),
+            }),
+            CheckTag::InferredTag(tag) => self.open_inferring(room, tag, next),
+        }
     }
 }
 
 // An index below a limit.
-fn open_index(proof: &[u8], limit: usize, at: usize) -> Opened
+fn open_index(proof: &[u8], limit: usize, at: usize) -> Option<Opened>
     ensures { OpensIndex proof limit at result }
 {
-    if at >= proof.len() {
-        return Opened::Nothing;
-    }
-    if (byte_or_zero(proof, at) as usize) < limit {
-        Opened::Leaf(at + 1, 0)
+    let index = Reader { proof, at }.byte()?;
+    if usize::from(index) < limit {
+        Some(Opened::Leaf {
+            next: at + 1,
+            states: 0,
+        })
     } else {
-        Opened::Nothing
-    }
-}
-
-// A step that infers, by its tag and the place after it; its parts have at most so many levels.
-fn open_inferring(
-    proof: &[u8],
-    certificates: usize,
-    levels: u64,
-    assumptions: u64,
-    tag: InferTag,
-    at: usize,
-) -> Opened
-    ensures { OpensInferring proof certificates levels assumptions tag at result }
-{
-    match tag {
-        InferTag::LocalTag => open_index(proof, assumptions as usize, at),
-        InferTag::CertificateTag => open_index(proof, certificates, at),
-        InferTag::FirstTag => Opened::One(at, Todo::Inferring(levels, assumptions)),
-        InferTag::SecondTag => Opened::One(at, Todo::Inferring(levels, assumptions)),
-        InferTag::ApplyTag => Opened::Two(
-            at,
-            Todo::Inferring(levels, assumptions),
-            Todo::Second(levels, assumptions),
-        ),
-        InferTag::InstanceTag => match term_read(proof, at) {
-            TermRead::Found(_, next) => Opened::One(next, Todo::Inferring(levels, assumptions)),
-            TermRead::NoTerm => Opened::Nothing,
-        },
-        InferTag::NoInferTag => Opened::Nothing,
-    }
-}
-
-// A step that checks, at its tag; its parts have at most so many levels.
-fn open_checking(
-    proof: &[u8],
-    certificates: usize,
-    levels: u64,
-    assumptions: u64,
-    at: usize,
-) -> Opened
-    requires { levels + assumptions < most_proof_levels }
-    ensures { OpensChecking proof certificates levels assumptions at result }
-{
-    let begin = past(proof, at);
-    let part = Todo::Checking(levels, assumptions);
-    let inferring = Todo::Inferring(levels, assumptions);
-    let more = assumptions + 1;
-    let assuming = Todo::Checking(levels, more);
-    let both_assuming = Todo::Both(levels, more);
-    match check_tag_at(proof, at) {
-        CheckTag::PairTag => Opened::Two(begin, part, part),
-        CheckTag::TopStepTag => Opened::Leaf(begin, 0),
-        CheckTag::AtInTag => Opened::One(begin, part),
-        CheckTag::AtOutTag => Opened::Two(begin, inferring, assuming),
-        CheckTag::SaysInTag => Opened::One(begin, part),
-        CheckTag::SaysOutTag => Opened::Two(begin, inferring, assuming),
-        CheckTag::StateTag => Opened::Leaf(begin, 1),
-        CheckTag::OrderStepTag => Opened::Leaf(begin, 0),
-        CheckTag::OrLeftTag => Opened::One(begin, part),
-        CheckTag::OrRightTag => Opened::One(begin, part),
-        CheckTag::OrOutTag => Opened::Two(begin, inferring, both_assuming),
-        CheckTag::FalsityOutTag => Opened::One(begin, inferring),
-        CheckTag::InferredTag => {
-            let tag = infer_tag_at(proof, at);
-            open_inferring(proof, certificates, levels, assumptions, tag, begin)
-        }
-        CheckTag::NoCheckTag => Opened::Nothing,
-    }
-}
-
-// A time.
-fn open_time(proof: &[u8], at: usize) -> Opened
-    ensures { OpensTime proof at result }
-{
-    match term_read(proof, at) {
-        TermRead::Found(term, next) => match term {
-            Term::Name(_) => Opened::Nothing,
-            Term::When(_) => Opened::Leaf(next, 0),
-        },
-        TermRead::NoTerm => Opened::Nothing,
+        None
     }
 }
 
 // Two times.
-fn open_times(proof: &[u8], at: usize) -> Opened
+fn open_times(proof: &[u8], at: usize) -> Option<Opened>
     ensures { OpensTimes proof at result }
 {
-    match term_read(proof, at) {
-        TermRead::Found(term, next) => match term {
-            Term::Name(_) => Opened::Nothing,
-            Term::When(_) => open_time(proof, next),
-        },
-        TermRead::NoTerm => Opened::Nothing,
-    }
-}
-
-// What is to be read at a place, opened.
-pub(crate) fn open_todo(proof: &[u8], certificates: usize, todo: Todo, at: usize) -> Opened
-    requires { Small todo }
-    ensures { Opens proof certificates todo at result }
-{
-    match todo {
-        Todo::Times(_) => open_times(proof, at),
-        Todo::Inferring(levels, assumptions) => {
-            if levels == 0 {
-                return Opened::Nothing;
-            }
-            let tag = infer_tag_at(proof, at);
-            let begin = past(proof, at);
-            open_inferring(proof, certificates, levels - 1, assumptions, tag, begin)
-        }
-        Todo::Checking(levels, assumptions) => {
-            if levels == 0 {
-                return Opened::Nothing;
-            }
-            open_checking(proof, certificates, levels - 1, assumptions, at)
-        }
-        Todo::Second(levels, assumptions) => {
-            let part = Todo::Checking(levels, assumptions);
-            let times = Todo::Times(at);
-            Opened::Two(at, part, times)
-        }
-        Todo::Both(levels, assumptions) => {
-            let part = Todo::Checking(levels, assumptions);
-            Opened::Two(at, part, part)
-        }
-    }
+    let (_, between) = time_at(proof, at)?;
+    let (_, next) = time_at(proof, between)?;
+    Some(Opened::Leaf { next, states: 0 })
 }

@@ -1,105 +1,103 @@
--- Rows gain marks: one, some and then others, which are both as one, and the rows of a list one after another.
-use Prim.Native.Nat.{ℕ, ◌+◌, ◌*◌, ◌/◌, ◌<◌}
-use mathlib.Core.Path.{◌≡◌, refl, sym}
-use mathlib.Core.List.{List}
+-- Whoever is marked above a principal gains first, in the rows of the strongers, and then the principal itself, in its own row.
+use Prim.Native.Nat.{ℕ, ◌≤◌, ◌<◌}
+use mathlib.Core.Path.{◌≡◌, refl, sym, ap, ◌∙◌}
+use mathlib.Core.List.{List, ◌++◌}
 use mathlib.Core.Logic.{◌⊎◌, inl, inr, ◌↔◌}
 use native.Mathlib.Omega.{arith}
 use native.Mathlib.Decide.{ℕ_discrete}
 use lib.Bits.{bit_or}
-use lib.ListN.{length, get_or}
-use Rattle.bl.specs.Strength.{most_pairs}
-use Rattle.strength.specs.declared.marks.MarkRow.{MarkRow}
-use Rattle.strength.specs.declared.names.Listed.{Listed}
-use Rattle.strength.specs.declared.names.Listed.TheVariants.{Absent, At}
-use Rattle.strength.specs.Marks.{Marked}
-use Rattle.strength.specs.Gaining.{MarkedIn, ColumnMarked, Gains}
-use Rattle.strength.proofs.RowMarks.{or_marks, row_marks, with_row, row_put, others_stay}
+use lib.ListN.{length, get_or, take, set, length-take, get_or-append}
+use lib.Seq.{get_or-take, get_or-set_same, get_or-set_other}
+use Rattle.std.specs.Prelude.{None, Some}
+use Rattle.procap.specs.Lists.{In}
+use Rattle.rising.specs.Rising.{below}
+use Rattle.rising.proofs.RisingLaws.{stands_at}
+use Rattle.strength.specs.declared.table.Strengths.{Strengths}
+use Rattle.strength.specs.Marks.{Bit, RowsGain}
+use Rattle.strength.specs.Strengths.{names, MarkOf, MarkedAbove}
+use Rattle.strength.specs.Places.{PlacedIn}
+use Rattle.strength.specs.Taking.{SameNames, Gains}
+use Rattle.strength.proofs.BitLaws.{Bit-or}
+use Rattle.strength.proofs.Naming.{same_place}
 
--- A row that is joined with others gains their marks.
-pub row_gains : (words : List ℕ) (row : ℕ) (gained : MarkRow) → row * 2 + 1 < length words
-    → Gains words (with_row words row (bit_or (get_or words (row * 2) 0) gained.low) (bit_or (get_or words (row * 2 + 1) 0) gained.high))
-    (λ x. x ≡ row) gained
-row_gains words row gained inside = record { marked = λ x y l. elim (ℕ_discrete x row) [ yes e ↦ here x y l e | no n ↦ there x y l n ] }
-  where
-    low : ℕ
-    low = bit_or (get_or words (row * 2) 0) gained.low
+-- Those marked above a principal have gained.
+pub record AboveGain (s more : Strengths) (a gained : ℕ) : Type 0 where
+  pub same : SameNames s more
+  pub marked : (k j : ℕ) → In k (names s.strongers) → In j (names s.weakers)
+      → MarkOf more k j ↔ (MarkOf s k j ⊎ (MarkedAbove s k a × Bit gained (below j (names s.weakers))))
 
-    high : ℕ
-    high = bit_or (get_or words (row * 2 + 1) 0) gained.high
+-- A principal that stands below nobody has nobody above it.
+pub nobody_above : (s : Strengths) (a gained : ℕ) → PlacedIn (names s.weakers) a None → AboveGain s s a gained
+nobody_above s a gained n =
+    record { same = record { above = refl; under = refl }; marked = λ k j i h. (λ m. inl m, λ r. elim r [ inl m ↦ m | inr g ↦ absurd (n g.0.weaker) ]) }
 
-    here : (x y : ℕ) → y < most_pairs → x ≡ row → Marked (with_row words row low high) x y ↔ (Marked words x y ⊎ ((x ≡ row) × MarkedIn gained y))
-    here x y l e =
-        let both = or_marks (get_or words (row * 2) 0) gained.low (get_or words (row * 2 + 1) 0) gained.high y l in
-        rw (e, row_put words row low high inside (y / 64) (omega arith), ← row_marks words row y l)
-        (λ m. elim (both.0 m) [ inl w ↦ inl w | inr g ↦ inr (refl, g) ], λ s. both.1 (elim s [ inl w ↦ inl w | inr g ↦ inr g.1 ]))
-
-    there : (x y : ℕ) → y < most_pairs → (x ≡ row → ⊥)
-        → Marked (with_row words row low high) x y ↔ (Marked words x y ⊎ ((x ≡ row) × MarkedIn gained y))
-    there x y l n = rw (others_stay words row low high x (y / 64) (omega arith) n) (λ m. inl m, λ s. elim s [ inl w ↦ w | inr g ↦ absurd (n g.0) ])
-
--- The same marks gained by some rows, and then by others, are gained by both.
-pub gains_both : {words more most : List ℕ} {P Q : ℕ → Type 0} {gained : MarkRow} → Gains words more P gained → Gains more most Q gained
-    → Gains words most (λ x. P x ⊎ Q x) gained
-gains_both {words} {more} {most} {P} {Q} {gained} first second = record { marked = λ x y l. (to x y l, fro x y l) }
-  where
-    earlier : (x y : ℕ) → y < most_pairs → Marked more x y → Marked words x y ⊎ ((P x ⊎ Q x) × MarkedIn gained y)
-    earlier x y l m = elim ((first.marked x y l).0 m) [ inl w ↦ inl w | inr g ↦ inr (inl g.0, g.1) ]
-
-    to : (x y : ℕ) → y < most_pairs → Marked most x y → Marked words x y ⊎ ((P x ⊎ Q x) × MarkedIn gained y)
-    to x y l m = elim ((second.marked x y l).0 m) [ inl w ↦ earlier x y l w | inr g ↦ inr (inr g.0, g.1) ]
-
-    fro : (x y : ℕ) → y < most_pairs → Marked words x y ⊎ ((P x ⊎ Q x) × MarkedIn gained y) → Marked most x y
-    fro x y l (inl w) = (second.marked x y l).1 (inl ((first.marked x y l).1 (inl w)))
-    fro x y l (inr (inl p, g)) = (second.marked x y l).1 (inl ((first.marked x y l).1 (inr (p, g))))
-    fro x y l (inr (inr q, g)) = (second.marked x y l).1 (inr (q, g))
-
--- Rows that are the same ones gain the same.
-pub gains_as : {words more : List ℕ} {P Q : ℕ → Type 0} {gained : MarkRow} → Gains words more P gained → ((x : ℕ) → P x ↔ Q x) → Gains words more Q gained
-gains_as {words} {more} {P} {Q} {gained} gains same = record { marked = λ x y l. (to x y l, fro x y l) }
-  where
-    to : (x y : ℕ) → y < most_pairs → Marked more x y → Marked words x y ⊎ (Q x × MarkedIn gained y)
-    to x y l m = elim ((gains.marked x y l).0 m) [ inl w ↦ inl w | inr g ↦ inr ((same x).0 g.0, g.1) ]
-
-    fro : (x y : ℕ) → y < most_pairs → Marked words x y ⊎ (Q x × MarkedIn gained y) → Marked more x y
-    fro x y l (inl w) = (gains.marked x y l).1 (inl w)
-    fro x y l (inr g) = (gains.marked x y l).1 (inr ((same x).1 g.0, g.1))
-
--- Where no row gains, the words stay.
-pub nobody_gains : (words : List ℕ) (P : ℕ → Type 0) (gained : MarkRow) → ((x : ℕ) → P x → ⊥) → Gains words words P gained
-nobody_gains words P gained none = record { marked = λ x y l. (λ m. inl m, λ s. elim s [ inl m ↦ m | inr g ↦ absurd (none x g.0) ]) }
-
--- The rows before this one that had the mark of a column have gained; so has this one then, or it has no such mark.
-module _ (words more : List ℕ) (column row : ℕ) (gained : MarkRow) (l : column < most_pairs)
-    (gains : Gains words more (λ x. (x < row) × Marked words x column) gained) where
-  -- The mark is as it was, and stays.
-  mark_then : Marked more row column → Marked words row column
-  mark_then m = elim ((gains.marked row column l).0 m) [ inl w ↦ w | inr g ↦ absurd (omega (arith, g.0.0)) ]
-
-  mark_kept : Marked words row column → Marked more row column
-  mark_kept m = (gains.marked row column l).1 (inl m)
-
-  pub row_gained : (most : List ℕ) → Marked more row column → Gains more most (λ x. x ≡ row) gained
-      → Gains words most (λ x. (x < row + 1) × Marked words x column) gained
-  row_gained most m second = gains_as (gains_both gains second) (λ x. (to x, fro x))
+-- The rows of the strongers have gained that had the mark of its column.
+module _ (s : Strengths) (a gained column : ℕ) (q : PlacedIn (names s.weakers) a (Some column)) (rows rest : List ℕ)
+    (all : s.strongers.count ≤ length rows) (gains : RowsGain column gained (take s.strongers.count s.marks) rows) where
+  pub above_gain : AboveGain s (record { strongers = s.strongers; weakers = s.weakers; marks = rows ++ rest }) a gained
+  above_gain = record { same = record { above = refl; under = refl }; marked = marked }
     where
-      to : (x : ℕ) → ((x < row) × Marked words x column) ⊎ (x ≡ row) → (x < row + 1) × Marked words x column
-      to x (inl h) = (omega (arith, h.0), h.1)
-      to x (inr e) = (omega arith, rw e (mark_then m))
+      row_inside : (k : ℕ) → In k (names s.strongers) → below k (names s.strongers) < s.strongers.count
+      row_inside k i =
+          let ordered = s.strongers in
+          omega (arith, (stands_at k (names ordered) ordered.rising i).0, length-take ordered.count ordered.numbers)
 
-      fro : (x : ℕ) → (x < row + 1) × Marked words x column → ((x < row) × Marked words x column) ⊎ (x ≡ row)
-      fro x h = elim (ℕ_discrete x row) [ yes e ↦ inr e | no n ↦ inl (omega (arith, n, h.0), h.1) ]
+      marked : (k j : ℕ) → In k (names s.strongers) → In j (names s.weakers)
+          → Bit (get_or (rows ++ rest) (below k (names s.strongers)) 0) (below j (names s.weakers))
+          ↔ (MarkOf s k j ⊎ (MarkedAbove s k a × Bit gained (below j (names s.weakers))))
+      marked k j i h =
+          let row = below k (names s.strongers) in
+          let inside = row_inside k i in
+          let g = rw (get_or-take s.strongers.count s.marks row 0 inside) at (gains row (below j (names s.weakers))) in
+          rw (get_or-append rows rest 0 row (omega arith)) (
+            λ m. elim (g.0 m) [ inl w ↦ inl w | inr b ↦ inr (record { stronger = i; weaker = q.1; marked = rw q.2 at b.0 }, b.1) ],
+            λ r. elim r [ inl w ↦ g.1 (inl w) | inr b ↦ g.1 (inr (rw q.2 b.0.marked, b.1)) ],
+          )
 
-  pub row_passed : (Marked more row column → ⊥) → Gains words more (λ x. (x < row + 1) × Marked words x column) gained
-  row_passed none = gains_as gains (λ x. (λ h. (omega (arith, h.0), h.1), fro x))
+-- With the principal's own row joined too, the principal has gained as well.
+module _ (s middle : Strengths) (a own gained : ℕ) (p : PlacedIn (names s.strongers) a (Some own)) (inside : own < length middle.marks)
+    (first : AboveGain s middle a gained) where
+  abbrev joined : List ℕ
+  joined = set middle.marks own (bit_or (get_or middle.marks own 0) gained)
+
+  -- What is in a row then: in the own row what is gained besides, and in any other what was there.
+  own_row : (x y : ℕ) → x ≡ own → Bit (get_or joined x 0) y ↔ (Bit (get_or middle.marks x 0) y ⊎ Bit gained y)
+  own_row x y e = rw (e, get_or-set_same middle.marks own (bit_or (get_or middle.marks own 0) gained) 0 inside) (Bit-or (get_or middle.marks own 0) gained y)
+
+  other_row : (x : ℕ) → (x ≡ own → ⊥) → get_or joined x 0 ≡ get_or middle.marks x 0
+  other_row x n = get_or-set_other middle.marks own x _ 0 n
+
+  pub own_gains : Gains s (record { strongers = middle.strongers; weakers = middle.weakers; marks = joined }) a gained
+  own_gains = record { same = record { above = first.same.above; under = first.same.under }; marked = λ k j i h. elim (ℕ_discrete k a) [ yes e ↦ own_marked k j i h e | no n ↦ other_marked k j i h n ] }
     where
-      fro : (x : ℕ) → (x < row + 1) × Marked words x column → (x < row) × Marked words x column
-      fro x h = elim (ℕ_discrete x row) [ yes e ↦ absurd (none (mark_kept (rw e at h.1))) | no n ↦ (omega (arith, n, h.0), h.1) ]
+      place_is : (k : ℕ) → below k (names middle.strongers) ≡ below k (names s.strongers)
+      place_is k = ap (λ n. below k (names n)) first.same.above
 
--- With all rows passed, each has gained that has a mark in the column of the place.
-pub all_passed : (words more : List ℕ) (place : Listed) (column row count : ℕ) (gained : MarkRow) → place ≡ At column → row ≡ count
-    → Gains words more (λ x. (x < row) × Marked words x column) gained → Gains words more (λ x. (x < count) × ColumnMarked words x place) gained
-all_passed words more place column row count gained p e gains = rw (p, sym e) gains
+      column_is : (j : ℕ) → below j (names middle.weakers) ≡ below j (names s.weakers)
+      column_is j = ap (λ n. below j (names n)) first.same.under
 
-pub none_passed : (words : List ℕ) (place : Listed) (count : ℕ) (gained : MarkRow) → place ≡ Absent
-    → Gains words words (λ x. (x < count) × ColumnMarked words x place) gained
-none_passed words place count gained p = rw p (nobody_gains words _ gained (λ x h. h.1))
+      Then : ℕ → ℕ → Type 0
+      Then k j = Bit (get_or joined (below k (names middle.strongers)) 0) (below j (names middle.weakers))
+
+      Now : ℕ → ℕ → Type 0
+      Now k j = MarkOf s k j ⊎ (((k ≡ a) ⊎ MarkedAbove s k a) × Bit gained (below j (names s.weakers)))
+
+      own_marked : (k j : ℕ) → In k (names s.strongers) → In j (names s.weakers) → k ≡ a → Then k j ↔ Now k j
+      own_marked k j i h e =
+          let row = own_row (below k (names middle.strongers)) (below j (names middle.weakers)) (place_is k ∙ ap (λ n. below n (names s.strongers)) e ∙ sym p.2) in
+          let was = first.marked k j i h in (
+            λ m. elim (row.0 m) [
+              | inl w ↦ elim (was.0 w) [ inl l ↦ inl l | inr g ↦ inr (inl e, g.1) ]
+              | inr g ↦ inr (inl e, rw (column_is j) at g)
+            ],
+            λ r. row.1 (elim r [ inl w ↦ inl (was.1 (inl w)) | inr g ↦ inr (rw (column_is j) g.1) ]),
+          )
+
+      other_marked : (k j : ℕ) → In k (names s.strongers) → In j (names s.weakers) → (k ≡ a → ⊥) → Then k j ↔ Now k j
+      other_marked k j i h n =
+          let apart : below k (names middle.strongers) ≡ own → ⊥ = λ e. n (same_place (names s.strongers) k a s.strongers.rising i p.1 (sym (place_is k) ∙ e ∙ p.2)) in
+          let was = first.marked k j i h in
+          rw (other_row (below k (names middle.strongers)) apart) (
+            λ m. elim (was.0 m) [ inl l ↦ inl l | inr g ↦ inr (inr g.0, g.1) ],
+            λ r. was.1 (elim r [ inl w ↦ inl w | inr g ↦ inr (elim g.0 [ inl e ↦ absurd (n e) | inr m ↦ m ], g.1) ]),
+          )

@@ -1,40 +1,34 @@
--- Pairs are taken from the last to the first: the names stay in order and have both sides of all, and the strengths are those of
--- the pairs behind.
-use Prim.Native.Nat.{ℕ, suc, ◌-◌, ◌≤◌, ◌<◌}
-use mathlib.Core.Path.{◌≡◌, ap, ◌∙◌}
-use mathlib.Core.List.{List, [], ◌∷◌}
-use mathlib.Core.Logic.{inl, inr}
+-- Pairs are taken from the last to the first: the names have both sides of all, and the strengths are those of the pairs taken.
+use Prim.Native.Nat.{ℕ, ◌-◌, ◌<◌}
+use mathlib.Core.Path.{◌≡◌, sym, ap, ◌∙◌, subst}
+use mathlib.Core.List.{List, [], ◌∷◌, ◌++◌, map}
 use native.Mathlib.Omega.{arith}
-use lib.ListN.{length, get_or, drop}
-use lib.Seq.{drop-cons}
+use lib.ListN.{length, get_or}
+use denote.Ref.{Bor}
+use Rattle.std.specs.Prelude.{reverse}
+use Rattle.std.proofs.lemmas.List.{get_or-reverse, reverse-append, length-reverse, map-append, reverse-reverse}
 use Rattle.procap.specs.Lists.{In}
 use Rattle.procap.proofs.Indices.{in_rest}
-use Rattle.bl.specs.Strength.{pairs_of}
-use Rattle.strength.specs.Strengths.{StrengthsOf}
-use Rattle.strength.specs.Taking.{Standing, OnePairMore}
+use Rattle.strength.specs.declared.table.Strengths.{Strengths}
+use Rattle.strength.specs.Taking.{Stands, OnePairMore}
 
-module _ (pairs numbers : List ℕ) (s : Standing pairs numbers) where
-  -- What stands for all pairs stands for one of them.
-  pub one_stands : (i : ℕ) → i < length pairs → Standing (get_or pairs i 0 ∷ []) numbers
-  unfolding In
-  one_stands i l = record { ordered = s.ordered; above = λ n h. s.above n (among n h); under = λ n h. s.under n (among n h) }
-    where
-      among : (n : ℕ) → In n (get_or pairs i 0 ∷ []) → In n pairs
-      among n h = elim h [ inl e ↦ rw e (in_rest 0 pairs 0 i (omega arith) l) | inr n ↦ absurd n ]
+-- The pairs taken, where the last was taken first.
+abbrev pub taken : List (Bor ℕ) → List ℕ
+taken lent = reverse (map (λ p. p.now) lent)
 
-  -- It still does with a pair taken.
-  pub all_stand : (more : List ℕ) (pair : ℕ) → length more ≡ length numbers → OnePairMore pair numbers more → Standing pairs more
-  all_stand more pair e t =
-      record {
-        ordered = record { size = e ∙ s.ordered.size; above = rw t.above s.ordered.above; under = rw t.under s.ordered.under };
-        above = λ n h. rw t.above (s.above n h);
-        under = λ n h. rw t.under (s.under n h);
-      }
+pub taken_more : (lent : List (Bor ℕ)) (p : Bor ℕ) → taken (lent ++ p ∷ []) ≡ p.now ∷ taken lent
+taken_more lent p = ap reverse (map-append (λ x. x.now) lent (p ∷ [])) ∙ reverse-append (map (λ x. x.now) lent) (p.now ∷ [])
 
-  pub strengths_grow : (more : List ℕ) (i : ℕ) → 0 < i → i ≤ length pairs → OnePairMore (get_or pairs (i - 1) 0) numbers more
-      → StrengthsOf numbers (pairs_of (drop i pairs)) → StrengthsOf more (pairs_of (drop (i - 1) pairs))
-  strengths_grow more i b l t h =
-      let here : suc (i - 1) ≡ i = omega arith in
-      let next : drop (i - 1) pairs ≡ get_or pairs (i - 1) 0 ∷ drop i pairs =
-      drop-cons pairs (i - 1) 0 (omega arith) ∙ ap (λ n. get_or pairs (i - 1) 0 ∷ drop n pairs) here in
-      rw next (t.grown (pairs_of (drop i pairs)) h)
+pub all_taken : (lent : List (Bor ℕ)) (pairs : List ℕ) → map (λ p. p.now) lent ≡ reverse pairs → taken lent ≡ pairs
+all_taken lent pairs e = ap reverse e ∙ reverse-reverse pairs
+
+-- A pair that stands at a place of the list turned round is one of the list.
+pub turned_in : (pairs : List ℕ) (n i : ℕ) → i < length (reverse pairs) → n ≡ get_or (reverse pairs) i n → In n pairs
+turned_in pairs n i l e =
+    let same = length-reverse pairs in
+    let at = e ∙ get_or-reverse pairs i n (omega arith) in
+    subst (λ x. In x pairs) (sym at) (in_rest n pairs 0 (length pairs - 1 - i) (omega arith) (omega arith))
+
+-- Both sides of a pair stand there still when another was taken.
+pub still_stands : (n pair : ℕ) (s more : Strengths) → OnePairMore pair s more → Stands n s → Stands n more
+still_stands n pair s more t stands = record { above = rw t.same.above stands.above; under = rw t.same.under stands.under }

@@ -3,5 +3,4 @@ pub mod Marks
 pub mod Strengths
 pub mod Finding
 pub mod Places
-pub mod Gaining
 pub mod Taking

@@ -1,30 +1,43 @@
 -- Pairs that are taken one after another: what each brings, and what comes of it.
-use Rattle.std.specs.Prelude.{ℕ, ◌<◌, ◌≡◌, true, false, List, ◌∷◌, ◌↔◌, get_or}
+use Rattle.std.specs.Prelude.{ℕ, ◌≡◌, List, ◌∷◌, ◌⊎◌, ◌↔◌, replicate}
 use Rattle.procap.specs.Lists.{In}
 use Rattle.rising.specs.Rising.{below}
 use Rattle.bl.specs.Strength.{Pair, pair_of, most_pairs, AsStrong}
-use Rattle.strength.specs.declared.finding.Brought.{Brought}
-use Rattle.strength.specs.Strengths.{names, strongers, weakers, marks, InOrder, StrengthsOf}
-use Rattle.strength.specs.Places.{Within, side}
-use Rattle.strength.specs.Gaining.{MarkedIn, Reaching}
+use Rattle.strength.specs.declared.table.Strengths.{Strengths}
+use Rattle.strength.specs.Marks.{Bit}
+use Rattle.strength.specs.Strengths.{names, MarkOf, MarkedAbove, StrengthsOf}
 
--- The names are in order, and have both sides of each pair.
-pub record Standing (pairs numbers : List ℕ) : Type 0 where
-  pub ordered : InOrder numbers
-  pub above : (n : ℕ) → In n pairs → In (side true n) (names (strongers numbers))
-  pub under : (n : ℕ) → In n pairs → In (side false n) (names (weakers numbers))
+-- There are no names and no marks.
+pub record IsEmpty (s : Strengths) : Type 0 where
+  pub above : s.strongers.count ≡ 0
+  pub under : s.weakers.count ≡ 0
+  pub marks : s.marks ≡ replicate most_pairs 0
 
--- What a pair brings: rows of whoever is as strong as its stronger one gain marks of whomever its weaker one is as strong as.
-pub record Brings (numbers : List ℕ) (p : Pair) (brought : Brought) : Type 0 where
-  pub column : Within brought.column
-  pub row : brought.row < most_pairs
-  pub reaching : (ps : List Pair) → StrengthsOf numbers ps → (k : ℕ) → In k (names (strongers numbers))
-      → Reaching (marks numbers) (get_or numbers 0 0) brought.column brought.row (below k (names (strongers numbers))) ↔ AsStrong ps k p.stronger
-  pub gained : (ps : List Pair) → StrengthsOf numbers ps → (j : ℕ) → In j (names (weakers numbers))
-      → MarkedIn brought.gained (below j (names (weakers numbers))) ↔ AsStrong ps p.weaker j
+-- Both sides of a pair stand in the names.
+pub record Stands (pair : ℕ) (s : Strengths) : Type 0 where
+  pub above : In (pair_of pair).stronger (names s.strongers)
+  pub under : In (pair_of pair).weaker (names s.weakers)
+
+-- The names have both sides of each pair.
+abbrev pub Standing : List ℕ → Strengths → Type 0
+Standing pairs s = (n : ℕ) → In n pairs → Stands n s
+
+-- The marks in a row are those of whomever a principal is as strong as.
+abbrev pub Reaches : Strengths → ℕ → ℕ → Type 0
+Reaches s b row = (ps : List Pair) → StrengthsOf s ps → (j : ℕ) → In j (names s.weakers) → Bit row (below j (names s.weakers)) ↔ AsStrong ps b j
+
+-- The names stay.
+pub record SameNames (s more : Strengths) : Type 0 where
+  pub above : more.strongers ≡ s.strongers
+  pub under : more.weakers ≡ s.weakers
+
+-- The names stay; and a principal and whoever is marked above it have gained marks, and else nothing has changed.
+pub record Gains (s more : Strengths) (a gained : ℕ) : Type 0 where
+  pub same : SameNames s more
+  pub marked : (k j : ℕ) → In k (names s.strongers) → In j (names s.weakers)
+      → MarkOf more k j ↔ (MarkOf s k j ⊎ (((k ≡ a) ⊎ MarkedAbove s k a) × Bit gained (below j (names s.weakers))))
 
 -- One pair more is taken: the names stay, and the strengths are those of one pair more.
-pub record OnePairMore (pair : ℕ) (numbers more : List ℕ) : Type 0 where
-  pub above : strongers more ≡ strongers numbers
-  pub under : weakers more ≡ weakers numbers
-  pub grown : (ps : List Pair) → StrengthsOf numbers ps → StrengthsOf more (pair_of pair ∷ ps)
+pub record OnePairMore (pair : ℕ) (s more : Strengths) : Type 0 where
+  pub same : SameNames s more
+  pub grown : (ps : List Pair) → StrengthsOf s ps → StrengthsOf more (pair_of pair ∷ ps)

@@ -1,74 +1,64 @@
-// Lists of names in rising order, each behind its count.
-ghost use Rattle.std.specs.Prelude.{◌≤◌, ◌≡◌, length};
+// Names of principals in rising order, at most as many as pairs are taken.
+ghost use Rattle.std.specs.Prelude.{◌≤◌, take};
+ghost use Rattle.rising.specs.Rising.{Rising};
+ghost use Rattle.rising.proofs.RisingLaws.{rising_prop};
 ghost use Rattle.bl.specs.Strength.{most_pairs};
-ghost use Rattle.strength.specs.declared.names.Listed.TheVariants.{At};
-ghost use Rattle.strength.specs.Strengths.{names_numbers};
-ghost use Rattle.strength.specs.Places.{PlacedIn, KnownIn, side, Named};
 
 use crate::MOST_PAIRS;
 use rising::{below, put};
 
-// Where a name stands in a list, if it does.
-#[derive(Clone, Copy)]
-pub(crate) enum Listed {
-    Absent,
-    At(usize),
+// Names in rising order: the first `count` of the numbers.
+#[derive(Drop)]
+pub(crate) struct Names {
+    pub(crate) count: usize,
+    numbers: [u64; MOST_PAIRS],
+    ghost few: { count ≤ most_pairs },
+    ghost rising: { Rising (take count numbers) } by { rising_prop (take count numbers) },
 }
 
-// How many numbers a list of names takes.
-const NAMES_NUMBERS: usize = 129;
+impl Names {
+    ghost use Rattle.std.specs.Prelude.{◌≡◌, ◌+◌, ◌<◌};
+    ghost use Rattle.procap.specs.Lists.{In};
+    ghost use Rattle.rising.specs.Rising.{insert};
+    ghost use Rattle.strength.specs.Strengths.{names};
+    ghost use Rattle.strength.specs.Places.{PlacedIn};
 
-// Where a name stands in a counted list.
-pub(crate) fn place_in(names: &[u64], name: u64) -> Listed
-    ensures { PlacedIn names.now name result }
-{
-    if names.len() != NAMES_NUMBERS {
-        return Listed::Absent;
+    // No names.
+    pub(crate) fn none() -> Names
+        ensures { result.count ≡ 0 }
+    {
+        Names {
+            count: 0,
+            numbers: [0; MOST_PAIRS],
+        }
     }
-    let count = names[0] as usize;
-    if MOST_PAIRS < count {
-        return Listed::Absent;
-    }
-    let place = below(&names[1..], count, name);
-    if count <= place {
-        return Listed::Absent;
-    }
-    if names[place + 1] != name {
-        return Listed::Absent;
-    }
-    Listed::At(place)
-}
 
-// Where a name stands that a counted list has.
-pub(crate) fn known_place_in(names: &[u64], name: u64) -> usize
-    requires { KnownIn names.now name }
-    ensures { PlacedIn names.now name (At result) }
-{
-    let count = names[0] as usize;
-    below(&names[1..], count, name)
-}
-
-// The stronger one of a pair, or else its weaker one.
-pub(crate) fn side_of(pair: u32, stronger: bool) -> u64
-    ensures { result ≡ side stronger pair }
-{
-    if stronger {
-        (pair / 65_536) as u64
-    } else {
-        (pair % 65_536) as u64
+    // Where a name stands, if it does.
+    pub(crate) fn place_of(&self, name: u64) -> Option<usize>
+        ensures { PlacedIn (names self.now) name result }
+    {
+        let place = below(&self.numbers, self.count, name);
+        if place < self.count && self.numbers[place] == name {
+            Some(place)
+        } else {
+            None
+        }
     }
-}
 
-// Makes the list that of all strongers, or else of all weakers.
-pub(crate) fn put_names(pairs: &[u32], names: &mut [u64], stronger: bool)
-    requires { (length pairs.now ≤ most_pairs) × (length names.old ≡ names_numbers) }
-    ensures { Named stronger pairs.now names.new }
-{
-    names[0] = 0;
-    let mut i: usize = 0;
-    while i < pairs.len() {
-        let count = names[0] as usize;
-        names[0] = put(&mut names[1..], count, side_of(pairs[i], stronger)) as u64;
-        i += 1;
+    // Where a name stands that is there.
+    pub(crate) fn known_place_of(&self, name: u64) -> usize
+        requires { In name (names self.now) }
+        ensures { PlacedIn (names self.now) name (Some result) }
+    {
+        below(&self.numbers, self.count, name)
+    }
+
+    // Puts a name in its place, unless it stands there.
+    pub(crate) fn put_name(&mut self, name: u64)
+        requires { self.old.count < most_pairs }
+        ensures put { names self.new ≡ insert name (names self.old) }
+        ensures count { self.new.count ≤ self.old.count + 1 }
+    {
+        self.count = put(&mut self.numbers, self.count, name);
     }
 }

@@ -34,7 +34,7 @@ use Rattle.ledger.specs.Books.{opened, stopped_by, begun, stop_by, reading_by, b
 use Rattle.formula.specs.PutIn.{no_terms}
 use Rattle.formula.specs.Meaning.{Means}
 use Rattle.judging.specs.RowsOf.{Assumed, all_numbers}
-use Rattle.judging.specs.Judging.{view_by, outermost}
+use Rattle.judging.specs.Judging.{view_in, outermost}
 use Rattle.walk.specs.Walking.{PolicyLent, Sources, Around, ChecksAt}
 use Rattle.verifier.specs.Verifying.{Walked}
 
@@ -80,7 +80,7 @@ walk_of_goal : (r : Request) (S : Sources) (assumptions goal_bytes : List ℕ) (
     → Means goal_bytes 0 (record { at = 0; terms = no_terms }) (goal r)
     → ChecksAt S assumptions outermost (begun reading) list most_proof_levels goal_bytes goal_on_ctime 0 c list'
     → Walked (record { request = r; reading = reading }) (PolicyLent S.buffer S.certificates S.strengths) S.proof S.state S.ends list c.ledger list'
-unfolding Assumed walk view_by time_of
+unfolding Assumed walk view_in time_of
 walk_of_goal r S assumptions goal_bytes reading list c list' all_there means checks π N room reads =
     let around : Around S assumptions outermost most_proof_levels π [] = record { policy = reads.policy; assumed = tt; shut_inside = omega arith; room = omega arith; all_there = all_there } in
     let passes = checks π [] N (length S.proof) (begun_sound reading list room) around (proof_step (length π.statements) S.proof N reads.proof_reads) reads.told (goal r) means in

@@ -10,6 +10,8 @@ use Rattle.bl.specs.declared.Certificate.{Certificate}
 use Rattle.bl.specs.Trees.{Check}
 use Rattle.bl.specs.Certificates.{Statement, statements, statement_of, most_certificates}
 use Rattle.bl.specs.Strength.{pairs_in}
+use Rattle.strength.specs.Strengths.{StrengthsLent}
+use denote.Triple.Both.{Both}
 use Rattle.bl.specs.Policy.{Policy}
 use Rattle.bl.specs.Questions.{done}
 use Rattle.bl.specs.Steps.{proof_in}
@@ -22,7 +24,6 @@ use Rattle.steps.specs.Ends.{ToldChecking, EndsTold}
 use Rattle.ledger.specs.declared.Ledger.{Ledger}
 use Rattle.ledger.specs.Books.{begun, book, list_numbers, Sound, resume}
 use Rattle.judging.specs.declared.rows.Row.{Row}
-use Rattle.judging.specs.declared.rows.Whose.TheVariants.{Claim}
 use Rattle.formula.specs.PutIn.{no_terms}
 use Rattle.judging.specs.RowsOf.{row_in, all_numbers, Certified}
 use Rattle.walk.specs.Walking.{PolicyLent}
@@ -34,7 +35,7 @@ no_record = record { principal = 0; from = Moment 0; to = Moment 0; start = 0; l
 -- The row of a record: a claim of its principal, with no terms put in.
 abbrev pub row_of : Certificate → Row
 row_of c = record {
-  whose = Claim c.principal;
+  whose = Some c.principal;
   judgement = record { formula = record { at = c.start; terms = no_terms }; from = time_numbers c.from; to = time_numbers c.to };
 }
 
@@ -64,9 +65,9 @@ abbrev pub WalkedOver : Asked → Lent → Lent → Lent → Lent → Lent → L
 WalkedOver asked buffer pairs proof state rows ends facts r =
     Walked asked (PolicyRead buffer.entry.now rows.entry.now pairs.entry.now) proof.entry.now state.entry.now ends.entry.now facts.entry.now r facts.exit.now
 
-abbrev pub WalkedBy : Asked → Lent → Lent → Lent → Lent → Lent → Lent → LentToWrite → Ledger → Type 0
+abbrev pub WalkedBy : Asked → Lent → Lent → Lent → Lent → Both StrengthsLent StrengthsLent → Lent → LentToWrite → Ledger → Type 0
 WalkedBy asked buffer proof state rows strengths ends facts r =
-    Walked asked (PolicyLent buffer.entry.now rows.entry.now strengths.entry.now) proof.entry.now state.entry.now ends.entry.now facts.entry.now r facts.exit.now
+    Walked asked (PolicyLent buffer.entry.now rows.entry.now strengths.entry) proof.entry.now state.entry.now ends.entry.now facts.entry.now r facts.exit.now
 
 -- What is tested of an outcome: it goes on with a value, or is refused with its answer.
 abbrev pub Stops : {A : Type 0} → Outcome A → Outcome (Unit {0}) → Type 0

@@ -9,7 +9,7 @@ use bl::Certificate;
 use formula::ends::holds_formula;
 use formula::parts::{FormulaAt, Judgement};
 use formula::terms::Terms;
-use judging::rows::{Row, Whose, put_row};
+use judging::rows::{Row, put_row};
 use procap::answer::Answer;
 use procap::time::{LATEST_SECOND, Time};
 
@@ -80,7 +80,7 @@ fn row_of(certificate: Certificate) -> Row
     ensures { result ≡ row_of certificate }
 {
     Row {
-        whose: Whose::Claim(certificate.principal as u64),
+        whose: Some(certificate.principal as u64),
         judgement: Judgement {
             formula: FormulaAt {
                 at: certificate.start,

@@ -21,8 +21,8 @@ use procap::procap::{Procap, Request};
 use procap::time::LATEST_SECOND;
 use steps::ends::MOST_ENDS;
 use steps::{MOST_PROOF_LEVELS, well_formed};
-use strength::finding::find_strengths;
-use strength::{MOST_PAIRS, STRENGTH_NUMBERS};
+use strength::MOST_PAIRS;
+use strength::table::Strengths;
 use walk::{Here, check};
 
 // How many bytes the goal of a request takes.
@@ -189,11 +189,10 @@ fn walked(
     ensures { WalkedOver asked buffer pairs proof state certificates ends facts result }
 {
     if pairs.len() == 0 {
-        return walked_by(asked, buffer, proof, state, certificates, &certificates[..0], ends, facts);
+        return walked_by(asked, buffer, proof, state, certificates, None, ends, facts);
     }
-    let mut strengths = [0u64; STRENGTH_NUMBERS];
-    find_strengths(pairs, &mut strengths);
-    walked_by(asked, buffer, proof, state, certificates, &strengths, ends, facts)
+    let strengths = Strengths::found(pairs);
+    walked_by(asked, buffer, proof, state, certificates, Some(&strengths), ends, facts)
 }
 
 // The same, once the strengths are found.
@@ -204,7 +203,7 @@ fn walked_by(
     proof: &[u8],
     state: &[u8],
     certificates: &[u64],
-    strengths: &[u64],
+    strengths: Option<&Strengths>,
     ends: &[u16],
     facts: &mut [u64],
 ) -> Ledger

@@ -1,15 +1,15 @@
 -- The steps that check, over bytes: what the code comes to in each branch is what the walk of the step that the reader finds there comes to.
 use Prim.Native.Nat.{ℕ, zero, suc, ◌+◌, ◌<◌}
-use mathlib.Core.Path.{◌≡◌, refl, ap, ◌∙◌}
+use mathlib.Core.Path.{◌≡◌, refl, sym, ap, ◌∙◌}
 use mathlib.Core.List.{List, ◌∷◌, map}
-use Rattle.std.specs.Prelude.{Some}
+use Rattle.std.proofs.lemmas.Option.{none-some, same_Some}
+use Rattle.std.specs.Prelude.{None, Some}
 use native.Mathlib.Omega.{arith}
 use lib.ListN.{length, get_or}
 use Rattle.procap.specs.Bytes.{Reader}
 use Rattle.bl.specs.declared.InferTag.{InferTag}
-use Rattle.bl.specs.declared.InferTag.TheVariants.{NoInferTag}
 use Rattle.bl.specs.declared.CheckTag.{CheckTag}
-use Rattle.bl.specs.declared.CheckTag.TheVariants.{PairTag, TopStepTag, AtInTag, AtOutTag, SaysInTag, SaysOutTag, StateTag, OrderStepTag, OrLeftTag, OrRightTag, OrOutTag, FalsityOutTag, InferredTag, NoCheckTag}
+use Rattle.bl.specs.declared.CheckTag.TheVariants.{PairTag, TopStepTag, AtInTag, AtOutTag, SaysInTag, SaysOutTag, StateTag, OrderStepTag, OrLeftTag, OrRightTag, OrOutTag, FalsityOutTag, InferredTag}
 use Rattle.bl.specs.declared.FormulaTag.TheVariants.{AndTag}
 use Rattle.bl.specs.Trees.{Formula, Infer, Check}
 use Rattle.bl.specs.Tags.{infer_tag, check_tag}
@@ -33,11 +33,11 @@ use Rattle.ledger.specs.Books.{GoesOn, book, Sound, Gives}
 use Rattle.formula.specs.Meaning.{from_of, to_of, Means, On}
 use Rattle.judging.specs.RowsOf.{RowIs, is_plain, is_claim, is_shut}
 use Rattle.judging.specs.RowNumbers.{rows_with}
-use Rattle.judging.specs.Judging.{view_by, view_in, view_on, scope_inside, scope_with, part_of, and_then, sides, TwoSided, and_sides, inside, top_goal, fact_goal, order_goal, Passes}
+use Rattle.judging.specs.Judging.{view_in, view_on, scope_inside, scope_with, part_of, and_then, sides, TwoSided, and_sides, inside, top_goal, fact_goal, order_goal, Passes}
 use Rattle.judging.specs.StepPromises.{TakesSides, TakesInside, TakesInsideInferred, StaysStopped, ChecksInferred}
 use Rattle.walk.specs.Walking.{Sources, Around, Keeps, InfersAt, ChecksAt, ChecksBy}
 use Rattle.walk.specs.WalkCalls.{Puts, puts_at, puts_says, puts_left, puts_right, TakesOut, takes_at, takes_says}
-use Rattle.steps.proofs.StepsRead.{PartRead, check_read, pair_read, trivial_read, state_read, compare_read, at_in_read, says_in_read, at_out_read, says_out_read, or_left_read, or_right_read, no_check_read, inferred_read, begins_there}
+use Rattle.steps.proofs.StepsRead.{PartRead, check_read, pair_read, trivial_read, state_read, compare_read, at_in_read, says_in_read, at_out_read, says_out_read, or_left_read, or_right_read, inferred_tag, inferred_read, begins_there}
 use Rattle.judging.proofs.StepWalks.{check_inside, pair_walk, trivial_walk, state_walk, compare_walk, at_in_walk, says_in_walk, at_out_walk, says_out_walk, or_left_walk, or_right_walk, inferred_walk}
 use Rattle.judging.proofs.Coming.{Comes, comes_taken, comes_inferred, comes_checked, comes_or_stays, passes_on, passes_halted, passes_then}
 use Rattle.judging.proofs.JudgingLaws.{takes_so}
@@ -55,42 +55,6 @@ no_check_step proof c (suc n) h q N e z r = omega arith
 check_begins : (proof : List ℕ) (c n h q : ℕ) (N : Check) (e : ℕ) → check_step proof c n h q ≡ Some (N, e) → q < length proof
 check_begins proof c zero h q N e r = absurd (no_check_step proof c zero h q N e refl r)
 check_begins proof c (suc n) h q N e r = (check_read proof c n h q N e r).0
-
--- The tags of steps that check by themselves; at the one that is left out an inferring step stands.
-abbrev pub ChecksItself : CheckTag → Type 0
-ChecksItself PairTag = Unit {0}
-ChecksItself TopStepTag = Unit {0}
-ChecksItself AtInTag = Unit {0}
-ChecksItself AtOutTag = Unit {0}
-ChecksItself SaysInTag = Unit {0}
-ChecksItself SaysOutTag = Unit {0}
-ChecksItself StateTag = Unit {0}
-ChecksItself OrderStepTag = Unit {0}
-ChecksItself OrLeftTag = Unit {0}
-ChecksItself OrRightTag = Unit {0}
-ChecksItself OrOutTag = Unit {0}
-ChecksItself FalsityOutTag = Unit {0}
-ChecksItself InferredTag = ⊥
-ChecksItself NoCheckTag = Unit {0}
-
--- They are read whatever the tag of a step that infers.
-same_reader : (proof : List ℕ) (c : ℕ) (f : ℕ → Reader Infer) (g : ℕ → Reader Check) (h q : ℕ) (i : InferTag) (tag : CheckTag) → ChecksItself tag
-    → check_by proof c f g h q i tag ≡ check_by proof c f g h q NoInferTag tag
-unfolding check_by
-same_reader proof c f g h q i PairTag own = refl
-same_reader proof c f g h q i TopStepTag own = refl
-same_reader proof c f g h q i AtInTag own = refl
-same_reader proof c f g h q i AtOutTag own = refl
-same_reader proof c f g h q i SaysInTag own = refl
-same_reader proof c f g h q i SaysOutTag own = refl
-same_reader proof c f g h q i StateTag own = refl
-same_reader proof c f g h q i OrderStepTag own = refl
-same_reader proof c f g h q i OrLeftTag own = refl
-same_reader proof c f g h q i OrRightTag own = refl
-same_reader proof c f g h q i OrOutTag own = refl
-same_reader proof c f g h q i FalsityOutTag own = refl
-same_reader proof c f g h q i InferredTag own = absurd own
-same_reader proof c f g h q i NoCheckTag own = refl
 
 -- What is told of a step is told of the step that it is.
 pub told_is : (ends : List ℕ) {N N' : Check} → N ≡ N' → ToldChecking ends N → ToldChecking ends N'
@@ -121,17 +85,17 @@ put_found proof ends c n h q shell found tells walks told =
     }
 
 put_read : (proof ends : List ℕ) (c n h q : ℕ) (tag : CheckTag) (shell : Shell) (N : Check) (e : ℕ) → Puts tag shell
-    → check_by proof c (infer_step proof c n) (check_step proof c n) h q NoInferTag tag (q + 1) ≡ Some (N, e) → ToldChecking ends N
+    → check_by proof c (infer_step proof c n) (check_step proof c n) h q tag (q + 1) ≡ Some (N, e) → ToldChecking ends N
     → PutRead proof ends c n h q shell N e
 unfolding ToldChecking
 put_read proof ends c n h q tag shell N e puts_at reads =
-    put_found proof ends c n h q AtShell (at_in_read proof c n h q NoInferTag N e reads) (λ M t. t) (λ π Γ v j. at_in_walk π Γ v q j.0 j.1 j.2)
+    put_found proof ends c n h q AtShell (at_in_read proof c n h q N e reads) (λ M t. t) (λ π Γ v j. at_in_walk π Γ v q j.0 j.1 j.2)
 put_read proof ends c n h q tag shell N e puts_says reads =
-    put_found proof ends c n h q SaysShell (says_in_read proof c n h q NoInferTag N e reads) (λ M t. t) (λ π Γ v j. says_in_walk π Γ v q j.0 j.1 j.2)
+    put_found proof ends c n h q SaysShell (says_in_read proof c n h q N e reads) (λ M t. t) (λ π Γ v j. says_in_walk π Γ v q j.0 j.1 j.2)
 put_read proof ends c n h q tag shell N e puts_left reads =
-    put_found proof ends c n h q LeftShell (or_left_read proof c n h q NoInferTag N e reads) (λ M t. t) (λ π Γ v j. or_left_walk π Γ v q j.0 j.1 j.2)
+    put_found proof ends c n h q LeftShell (or_left_read proof c n h q N e reads) (λ M t. t) (λ π Γ v j. or_left_walk π Γ v q j.0 j.1 j.2)
 put_read proof ends c n h q tag shell N e puts_right reads =
-    put_found proof ends c n h q RightShell (or_right_read proof c n h q NoInferTag N e reads) (λ M t. t) (λ π Γ v j. or_right_walk π Γ v q j.0 j.1 j.2)
+    put_found proof ends c n h q RightShell (or_right_read proof c n h q N e reads) (λ M t. t) (λ π Γ v j. or_right_walk π Γ v q j.0 j.1 j.2)
 
 -- A step that takes a formula out of a shell: the part that infers it, the part that assumes what is inside, and its walk.
 record TakeRead (proof ends : List ℕ) (c n h q : ℕ) (shell : Shell) (N : Check) (e : ℕ) : Type 0 where
@@ -146,11 +110,11 @@ record TakeRead (proof ends : List ℕ) (c n h q : ℕ) (shell : Shell) (N : Che
       → check π Γ v N j.0 j.1 j.2 ≡ and_then (and_then (infer π Γ v part) (inside shell q)) (λ x. check π (x ∷ Γ) v other j.0 j.1 j.2)
 
 take_read : (proof ends : List ℕ) (c n h q : ℕ) (tag : CheckTag) (shell : Shell) (N : Check) (e : ℕ) → TakesOut tag shell
-    → check_by proof c (infer_step proof c n) (check_step proof c n) h q NoInferTag tag (q + 1) ≡ Some (N, e) → ToldChecking ends N
+    → check_by proof c (infer_step proof c n) (check_step proof c n) h q tag (q + 1) ≡ Some (N, e) → ToldChecking ends N
     → TakeRead proof ends c n h q shell N e
 unfolding ToldChecking
 take_read proof ends c n h q tag shell N e takes_at reads told =
-    let found = at_out_read proof c n h q NoInferTag N e reads in
+    let found = at_out_read proof c n h q N e reads in
     let both = told_is ends found.is told in
     record {
       part = found.part;
@@ -163,7 +127,7 @@ take_read proof ends c n h q tag shell N e takes_at reads told =
       walks = λ π Γ v j. ap (λ N. check π Γ v N j.0 j.1 j.2) found.is ∙ at_out_walk π Γ v q j.0 j.1 j.2 found.part found.other;
     }
 take_read proof ends c n h q tag shell N e takes_says reads told =
-    let found = says_out_read proof c n h q NoInferTag N e reads in
+    let found = says_out_read proof c n h q N e reads in
     let both = told_is ends found.is told in
     record {
       part = found.part;
@@ -187,24 +151,31 @@ module _ (S : Sources) (rows : List ℕ) (scope : Scope) (ledger : Ledger) (list
   pub check_none : (left at : ℕ) {r : Checked} {list' : List ℕ} → left ≡ 0 → ChecksAt S rows scope ledger list left goal_bytes goal at r list'
   check_none left at z π Γ N e sound around reads told = absurd (no_check_step S.proof (length π.statements) left scope.count at N e z reads)
 
-  -- Then the step is read by its tag.
-  pub check_tagged : (left n at : ℕ) (tag : CheckTag) {r : Checked} {list' : List ℕ} → left ≡ suc n → check_tag (get_or S.proof at 0) ≡ tag → ChecksItself tag
+  -- Then the step is read by its tag, if there is one.
+  pub check_no_tag : (left at : ℕ) {r : Checked} {list' : List ℕ} → check_tag (get_or S.proof at 0) ≡ None → ChecksAt S rows scope ledger list left goal_bytes goal at r list'
+  check_no_tag zero at t π Γ N e sound around reads told = absurd (no_check_step S.proof (length π.statements) zero scope.count at N e refl reads)
+  check_no_tag (suc n) at t π Γ N e sound around reads told =
+      let found = check_read S.proof (length π.statements) n scope.count at N e reads in
+      absurd (none-some found.1.tag (sym t ∙ found.1.is))
+
+  pub check_tagged : (left n at : ℕ) (tag : CheckTag) {r : Checked} {list' : List ℕ} → left ≡ suc n → check_tag (get_or S.proof at 0) ≡ Some tag
       → (at < length S.proof → ChecksBy S rows scope ledger list n tag goal_bytes goal at r list')
       → ChecksAt S rows scope ledger list left goal_bytes goal at r list'
-  check_tagged left n at tag more t own h π Γ N e sound around reads =
+  check_tagged left n at tag more t h π Γ N e sound around reads =
       let found = check_read S.proof (length π.statements) n scope.count at N e (rw more at reads) in
-      let reads' = rw t at found.1 in
-      let same = same_reader S.proof (length π.statements) (infer_step S.proof (length π.statements) n) (check_step S.proof (length π.statements) n) scope.count at (infer_tag (get_or S.proof at 0)) tag own in
-      h found.0 π Γ N e sound (rw more at around) (rw same at reads')
+      let same = same_Some found.1.tag tag (sym found.1.is ∙ t) in
+      h found.0 π Γ N e sound (rw more at around) (rw same at found.1.reads)
 
   -- An inferring step where one is checked.
-  pub check_inferred : (left n at : ℕ) → left ≡ suc n → check_tag (get_or S.proof at 0) ≡ InferredTag
+  pub check_inferred : (left n at : ℕ) (tag : InferTag) → left ≡ suc n → check_tag (get_or S.proof at 0) ≡ Some (InferredTag tag)
       → {inferred : Inferred} {list' : List ℕ} → InfersAt S rows scope ledger list left at inferred list'
       → {r : Checked} → ChecksInferred S.buffer goal_bytes at inferred goal r
       → ChecksAt S rows scope ledger list left goal_bytes goal at r list'
   unfolding ToldChecking
-  check_inferred left n at more t {inferred} {list'} infers h π Γ N e sound around reads told G means =
-      let found = inferred_read S.proof (length π.statements) n scope.count at N e (rw more at reads) t in
+  check_inferred left n at tag more t {inferred} {list'} infers h π Γ N e sound around reads told G means =
+      let seen = check_read S.proof (length π.statements) n scope.count at N e (rw more at reads) in
+      let same = same_Some seen.1.tag (InferredTag tag) (sym seen.1.is ∙ t) in
+      let found = inferred_read S.proof (length π.statements) n scope.count at tag N e seen.0 (inferred_tag (get_or S.proof at 0) tag t) (rw same at seen.1.reads) in
       let there = begins_there S.proof (length π.statements) (suc n) scope.count at found.part e found.reads in
       rw (found.is, inferred_walk π Γ view at G (from_of goal) (to_of goal) found.part there)
       (h S.state (book ledger list) _ e list' G (infers π Γ found.part e sound around (rw more found.reads) (told_is S.ends found.is told)) means)
@@ -214,10 +185,6 @@ module _ (S : Sources) (rows : List ℕ) (scope : Scope) (ledger : Ledger) (list
     abbrev By : CheckTag → Checked → List ℕ → Type 0
     By tag r list' = ChecksBy S rows scope ledger list left tag goal_bytes goal at r list'
 
-    -- No other tag checks.
-    pub check_no_tag : {r : Checked} {list' : List ℕ} → By NoCheckTag r list'
-    check_no_tag π Γ N e sound around reads told = absurd (no_check_read S.proof (length π.statements) left scope.count at NoInferTag N e reads)
-
     -- What a step without parts makes of its goal.
     abbrev Goes : Ledger → List ℕ → (ℕ → Formula → Test) → Type 0
     Goes l list' part = (G : Formula) → Sound (book ledger list) → Means goal_bytes 0 goal.formula G → Gives S.state (book ledger list) (part at G) (book l list') tt
@@ -226,17 +193,17 @@ module _ (S : Sources) (rows : List ℕ) (scope : Scope) (ledger : Ledger) (list
     module _ (inside : at < length S.proof) {next : ℕ} (ends : at < length S.proof → next ≡ at + 1) {l : Ledger} {list' : List ℕ} where
       pub check_trivial : Goes l list' top_goal → By TopStepTag (record { ledger = l; next = next }) list'
       check_trivial h π Γ N e sound around reads told G means =
-          let found = trivial_read S.proof (length π.statements) left scope.count at NoInferTag N e reads in
+          let found = trivial_read S.proof (length π.statements) left scope.count at N e reads in
           rw (found.0, trivial_walk π Γ view at G (from_of goal) (to_of goal)) (record { gives = h G sound means; ends = λ _. ends inside ∙ found.1 })
 
       pub check_state : Goes l list' fact_goal → By StateTag (record { ledger = l; next = next }) list'
       check_state h π Γ N e sound around reads told G means =
-          let found = state_read S.proof (length π.statements) left scope.count at NoInferTag N e reads in
+          let found = state_read S.proof (length π.statements) left scope.count at N e reads in
           rw (found.0, state_walk π Γ view at G (from_of goal) (to_of goal)) (record { gives = h G sound means; ends = λ _. ends inside ∙ found.1 })
 
       pub check_order : Goes l list' order_goal → By OrderStepTag (record { ledger = l; next = next }) list'
       check_order h π Γ N e sound around reads told G means =
-          let found = compare_read S.proof (length π.statements) left scope.count at NoInferTag N e reads in
+          let found = compare_read S.proof (length π.statements) left scope.count at N e reads in
           rw (found.0, compare_walk π Γ view at G (from_of goal) (to_of goal)) (record { gives = h G sound means; ends = λ _. ends inside ∙ found.1 })
 
     -- 22: the sides of the goal, and then one after the other.
@@ -249,7 +216,7 @@ module _ (S : Sources) (rows : List ℕ) (scope : Scope) (ledger : Ledger) (list
 
       pub check_pair_unfit : (GoesOn parts.ledger → ⊥) → {next : ℕ} → By PairTag (record { ledger = parts.ledger; next = next }) list
       check_pair_unfit n {next} π Γ N e sound around reads told G means =
-          let found = pair_read S.proof (length π.statements) left scope.count at NoInferTag N e reads in
+          let found = pair_read S.proof (length π.statements) left scope.count at N e reads in
           rw (found.is, pair_walk π Γ view at G (from_of goal) (to_of goal) found.one found.other)
           (passes_halted S.state (book ledger list) (and_sides at G) parts.ledger list (sides_come sound G means) _ e n next)
 
@@ -268,7 +235,7 @@ module _ (S : Sources) (rows : List ℕ) (scope : Scope) (ledger : Ledger) (list
         pub check_pair_stopped : (GoesOn one.ledger → ⊥) → By PairTag one list₁
         unfolding ToldChecking
         check_pair_stopped n π Γ N e sound around reads told G means =
-            let found = pair_read S.proof (length π.statements) left scope.count at NoInferTag N e reads in
+            let found = pair_read S.proof (length π.statements) left scope.count at N e reads in
             let both = told_is S.ends found.is told in
             rw (found.is, pair_walk π Γ view at G (from_of goal) (to_of goal) found.one found.other)
             (passes_then S.state (book ledger list) (and_sides at G) parts.ledger list (sides_come sound G means) _ e going one list₁
@@ -280,7 +247,7 @@ module _ (S : Sources) (rows : List ℕ) (scope : Scope) (ledger : Ledger) (list
             → By PairTag other list₂
         unfolding ToldChecking
         check_pair goes {other} {list₂} checks-other π Γ N e sound around reads told G means =
-            let found = pair_read S.proof (length π.statements) left scope.count at NoInferTag N e reads in
+            let found = pair_read S.proof (length π.statements) left scope.count at N e reads in
             let both = told_is S.ends found.is told in
             rw (found.is, pair_walk π Γ view at G (from_of goal) (to_of goal) found.one found.other)
             (passes_then S.state (book ledger list) (and_sides at G) parts.ledger list (sides_come sound G means) _ e going other list₂
@@ -309,13 +276,13 @@ module _ (S : Sources) (rows : List ℕ) (scope : Scope) (ledger : Ledger) (list
             → ChecksAt S rows (scope_inside scope held.row) held.ledger list left goal_bytes held.row.judgement begin r list'
             → (x : Assumption) → RowIs goal_bytes held.row 0 0 x
             → Passes S.state (book held.ledger list) (check_inside π Γ view N x) e r list'
-        unfolding check_inside view_by
+        unfolding check_inside view_in
         part_passes π Γ N e sound around begin reads told {r} {list'} checks x (is_plain {A} {a} {b} plain-Row usable on) =
             passes_on S.state goal_bytes held.row.judgement A a b on (check π Γ view N A) (book held.ledger list) e r list'
             ((rw plain-Row at checks) π Γ N e sound (around_part S rows scope left π Γ around) reads told A on.means)
         part_passes π Γ N e sound around begin reads told {r} {list'} checks x (is_claim {k} {A} {a} {b} claimed on) =
             passes_on S.state goal_bytes held.row.judgement A a b on (λ a b. check π (map shut_out Γ) (view_of k a b) N A a b) (book held.ledger list) e r list'
-            ((rw claimed at checks) π (map shut_out Γ) N e sound (around_said S rows scope left π Γ around (view_on k held.row.judgement)) reads told A on.means)
+            ((rw claimed at checks) π (map shut_out Γ) N e sound (around_said S rows scope left π Γ around (Some (view_on k held.row.judgement))) reads told A on.means)
         part_passes π Γ N e sound around begin reads told checks x (is_shut plain-Row lower) = absurd (omega arith)
 
         pub check_put : GoesOn held.ledger → {begin : ℕ} → (at < length S.proof → begin ≡ at + 1) → {r : Checked} {list' : List ℕ}

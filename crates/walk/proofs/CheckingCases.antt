@@ -4,7 +4,6 @@ use mathlib.Core.Path.{◌≡◌, refl, ap}
 use mathlib.Core.List.{List, ◌∷◌}
 use native.Mathlib.Omega.{arith}
 use lib.ListN.{length}
-use Rattle.bl.specs.declared.InferTag.TheVariants.{NoInferTag}
 use Rattle.bl.specs.declared.CheckTag.{CheckTag}
 use Rattle.bl.specs.declared.CheckTag.TheVariants.{OrOutTag, FalsityOutTag}
 use Rattle.bl.specs.declared.FormulaTag.TheVariants.{OrTag}
@@ -63,7 +62,7 @@ module _ (S : Sources) (rows : List ℕ) (scope : Scope) (ledger : Ledger) (list
     pub check_falsity : {r : Checked} → ChecksFalsity S.buffer at inferred r → By FalsityOutTag r list₁
     unfolding ToldChecking
     check_falsity h π Γ N e sound around reads told G means =
-        let found = falsity_out_read S.proof (length π.statements) left scope.count at NoInferTag N e reads in
+        let found = falsity_out_read S.proof (length π.statements) left scope.count at N e reads in
         rw (found.is, falsity_out_walk π Γ view at G (from_of goal) (to_of goal) found.part)
         (h S.state (book ledger list) _ e list₁
         (first_part S rows scope ledger list left at begins infers π Γ found.part e sound around found.reads (told_is S.ends found.is told)))
@@ -93,7 +92,7 @@ module _ (S : Sources) (rows : List ℕ) (scope : Scope) (ledger : Ledger) (list
       -- Where it is no "or", or the walk has stopped before.
       pub check_cases_unfit : (GoesOn parts.ledger → ⊥) → {next : ℕ} → By OrOutTag (record { ledger = parts.ledger; next = next }) list₁
       check_cases_unfit n {next} π Γ N e sound around reads told G means =
-          let found = or_out_read S.proof (length π.statements) left scope.count at NoInferTag N e reads in
+          let found = or_out_read S.proof (length π.statements) left scope.count at N e reads in
           rw (found.is, or_out_walk π Γ view at G (from_of goal) (to_of goal) found.part found.one found.other)
           (passes_halted S.state (book ledger list) _ parts.ledger list₁ (branches_come π Γ N e sound around found told) _ e n next)
 
@@ -113,7 +112,7 @@ module _ (S : Sources) (rows : List ℕ) (scope : Scope) (ledger : Ledger) (list
 
         pub check_cases_stopped : (GoesOn one.ledger → ⊥) → By OrOutTag one list₂
         check_cases_stopped n π Γ N e sound around reads told G means =
-            let found = or_out_read S.proof (length π.statements) left scope.count at NoInferTag N e reads in
+            let found = or_out_read S.proof (length π.statements) left scope.count at N e reads in
             rw (found.is, or_out_walk π Γ view at G (from_of goal) (to_of goal) found.part found.one found.other)
             (passes_then S.state (book ledger list) _ parts.ledger list₁ (branches_come π Γ N e sound around found told) _ e going one list₂
             (λ sound x so. passes_halted S.state (book parts.ledger list₁) _ one.ledger list₂
@@ -126,7 +125,7 @@ module _ (S : Sources) (rows : List ℕ) (scope : Scope) (ledger : Ledger) (list
             → By OrOutTag other list₃
         unfolding ToldChecking
         check_cases goes kept₂ put₂ all₂ {other} {list₃} checks₂ π Γ N e sound around reads told G means =
-            let found = or_out_read S.proof (length π.statements) left scope.count at NoInferTag N e reads in
+            let found = or_out_read S.proof (length π.statements) left scope.count at N e reads in
             rw (found.is, or_out_walk π Γ view at G (from_of goal) (to_of goal) found.part found.one found.other)
             (passes_then S.state (book ledger list) _ parts.ledger list₁ (branches_come π Γ N e sound around found told) _ e going other list₃
             (λ sound x so. passes_then S.state (book parts.ledger list₁) _ one.ledger list₂

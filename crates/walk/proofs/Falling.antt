@@ -6,7 +6,8 @@ use native.Mathlib.Omega.{arith}
 use native.Mathlib.Decide.{dec_lt}
 use lib.ListN.{length, get_or, get_or-eq_default}
 use Rattle.bl.specs.declared.CheckTag.{CheckTag}
-use Rattle.bl.specs.declared.CheckTag.TheVariants.{PairTag, TopStepTag, AtInTag, AtOutTag, SaysInTag, SaysOutTag, StateTag, OrderStepTag, OrLeftTag, OrRightTag, OrOutTag, FalsityOutTag, InferredTag, NoCheckTag}
+use Rattle.std.proofs.lemmas.Option.{none-some}
+use Rattle.std.specs.Prelude.{Some}
 use Rattle.bl.specs.Tags.{check_tag}
 use Rattle.ledger.specs.declared.Ledger.{Ledger}
 use Rattle.walk.specs.declared.Here.{Here}
@@ -30,29 +31,10 @@ here_falls all here part at ledger place t is more equal = rw is (part_falls all
 pub tag_falls : (all : ℕ) (here : Here) (t : ℕ) → here.at < all → left_over here.left all here.at ≡ t → left_over here.left all (here.at + 1) < t
 tag_falls all here t inside is = omega (arith, inside, is)
 
--- A tag that is one stands inside of the proof.
-abbrev pub IsTag : CheckTag → Type 0
-IsTag PairTag = Unit {0}
-IsTag TopStepTag = Unit {0}
-IsTag AtInTag = Unit {0}
-IsTag AtOutTag = Unit {0}
-IsTag SaysInTag = Unit {0}
-IsTag SaysOutTag = Unit {0}
-IsTag StateTag = Unit {0}
-IsTag OrderStepTag = Unit {0}
-IsTag OrLeftTag = Unit {0}
-IsTag OrRightTag = Unit {0}
-IsTag OrOutTag = Unit {0}
-IsTag FalsityOutTag = Unit {0}
-IsTag InferredTag = Unit {0}
-IsTag NoCheckTag = ⊥
-
-pub tag_inside : (proof : List ℕ) (at : ℕ) (tag : CheckTag) → check_tag (get_or proof at 0) ≡ tag → IsTag tag → at < length proof
-tag_inside proof at tag e is = by (dec_lt at (length proof))
+-- A tag stands inside of the proof.
+pub tag_inside : (proof : List ℕ) (at : ℕ) (tag : CheckTag) → check_tag (get_or proof at 0) ≡ Some tag → at < length proof
+tag_inside proof at tag e = by (dec_lt at (length proof))
   where
-    past_all : (length proof ≤ at) → ⊥
-    past_all past = let none : NoCheckTag ≡ tag = ap check_tag (sym (get_or-eq_default proof 0 past)) ∙ e in rw (← none) at is
-
     by : Dec (at < length proof) → at < length proof
     by (yes inside) = inside
-    by (no outside) = absurd (past_all (omega arith))
+    by (no outside) = let past : length proof ≤ at = omega arith in absurd (none-some tag (rw (get_or-eq_default proof 0 past) at e))

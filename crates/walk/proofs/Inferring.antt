@@ -1,14 +1,15 @@
 -- The steps that infer, over bytes: what the code comes to in each branch is what the walk of the step that the reader finds there comes to.
 use Prim.Native.Nat.{ℕ, zero, suc, ◌+◌, ◌<◌}
-use mathlib.Core.Path.{◌≡◌, refl, ap, ◌∙◌}
+use mathlib.Core.Path.{◌≡◌, refl, sym, ap, ◌∙◌}
 use mathlib.Core.List.{List}
-use Rattle.std.specs.Prelude.{Some}
+use Rattle.std.proofs.lemmas.Option.{none-some, same_Some}
+use Rattle.std.specs.Prelude.{None, Some}
 use native.Mathlib.Omega.{arith}
 use lib.ListN.{length, get_or}
 use Rattle.procap.specs.Bytes.{term}
 use Rattle.procap.specs.declared.fact.Term.{Term}
 use Rattle.bl.specs.declared.InferTag.{InferTag}
-use Rattle.bl.specs.declared.InferTag.TheVariants.{LocalTag, CertificateTag, FirstTag, SecondTag, ApplyTag, InstanceTag, NoInferTag}
+use Rattle.bl.specs.declared.InferTag.TheVariants.{LocalTag, CertificateTag, FirstTag, SecondTag, ApplyTag, InstanceTag}
 use Rattle.bl.specs.Trees.{top, Infer}
 use Rattle.bl.specs.Tags.{infer_tag}
 use Rattle.bl.specs.Policy.{Policy}
@@ -27,9 +28,9 @@ use Rattle.formula.specs.Meaning.{On}
 use Rattle.judging.specs.Judging.{view_in, part_of, and_then, first_side, second_side, put_in, Yields}
 use Rattle.judging.specs.StepPromises.{UsesLocal, UsesCertificate, Continues, PutsToUse, StaysStopped}
 use Rattle.walk.specs.Walking.{Sources, Around, InfersAt, InfersBy, ChecksAt}
-use Rattle.procap.proofs.ReadApart.{after_byte}
+use Rattle.procap.proofs.ReadApart.{same_read, after_byte}
 use Rattle.steps.proofs.StepPlaces.{end_told}
-use Rattle.steps.proofs.StepsRead.{infer_read, local_read, certificate_read, first_read, second_read, ApplyRead, apply_read, instance_read, no_infer_read}
+use Rattle.steps.proofs.StepsRead.{infer_read, local_read, certificate_read, first_read, second_read, ApplyRead, apply_read, instance_read}
 use Rattle.judging.proofs.StepWalks.{local_walk, certificate_walk, first_walk, second_walk, instance_walk, apply_walk, use_implication}
 use Rattle.judging.proofs.Coming.{Comes, comes_halted, comes_then, comes_or_stays, comes_with, comes_inferred, comes_checked, comes_used, comes_yields, passes_on}
 use Rattle.walk.proofs.Surroundings.{around_part}
@@ -63,12 +64,19 @@ module _ (S : Sources) (rows : List ℕ) (scope : Scope) (ledger : Ledger) (list
   pub infer_none : (left at : ℕ) {r : Inferred} {list' : List ℕ} → left ≡ 0 → InfersAt S rows scope ledger list left at r list'
   infer_none left at z π Γ M e sound around reads told = absurd (no_infer_step S.proof (length π.statements) left scope.count at M e z reads)
 
-  -- Then the step is read by its tag.
-  pub infer_tagged : (left n at : ℕ) (tag : InferTag) {r : Inferred} {list' : List ℕ} → left ≡ suc n → infer_tag (get_or S.proof at 0) ≡ tag
+  -- Then the step is read by its tag, if there is one.
+  pub infer_no_tag : (left at : ℕ) {r : Inferred} {list' : List ℕ} → infer_tag (get_or S.proof at 0) ≡ None → InfersAt S rows scope ledger list left at r list'
+  infer_no_tag zero at t π Γ M e sound around reads told = absurd (no_infer_step S.proof (length π.statements) zero scope.count at M e refl reads)
+  infer_no_tag (suc n) at t π Γ M e sound around reads told =
+      let found = infer_read S.proof (length π.statements) n scope.count at M e reads in
+      absurd (none-some found.1.tag (sym t ∙ found.1.is))
+
+  pub infer_tagged : (left n at : ℕ) (tag : InferTag) {r : Inferred} {list' : List ℕ} → left ≡ suc n → infer_tag (get_or S.proof at 0) ≡ Some tag
       → InfersBy S rows scope ledger list n tag at r list' → InfersAt S rows scope ledger list left at r list'
   infer_tagged left n at tag more t h π Γ M e sound around reads =
       let found = infer_read S.proof (length π.statements) n scope.count at M e (rw more at reads) in
-      h π Γ M e sound (rw more at around) (rw t at found.1)
+      let same = same_Some found.1.tag tag (sym found.1.is ∙ t) in
+      h π Γ M e sound (rw more at around) (rw same at found.1.reads)
 
   module _ (left at : ℕ) where
     -- The step here, by its tag.
@@ -89,21 +97,24 @@ module _ (S : Sources) (rows : List ℕ) (scope : Scope) (ledger : Ledger) (list
         rw (found.is, certificate_walk π Γ view at found.index)
         (h S.state S.buffer list π.pairs π.statements found.index e sound around.policy.strong around.policy.certified found.reads found.listed)
 
-    -- No other tag infers.
-    pub infer_no_tag : {r : Inferred} {list' : List ℕ} → By NoInferTag r list'
-    infer_no_tag π Γ M e sound around reads told = absurd (no_infer_read S.proof (length π.statements) left scope.count at M e reads)
+    -- 27, where no term stands after its tag.
+    pub infer_no_term : {begin : ℕ} → (at < length S.proof → begin ≡ at + 1) → None ≡ term S.proof begin → {r : Inferred} {list' : List ℕ} → By InstanceTag r list'
+    infer_no_term begins none π Γ M e sound around reads told =
+        let found = instance_read S.proof (length π.statements) left scope.count at M e reads in
+        let inside = term_inside S.proof (at + 1) found.put found.middle found.put_reads in
+        absurd (none-some (found.put, found.middle) ((rw (begins (omega arith)) at none) ∙ found.put_reads))
 
     -- The other steps have a part that infers after their tag.
     module _ {begin : ℕ} (begins : at < length S.proof → begin ≡ at + 1) where
       -- 27, whose part stands after the term put in.
-      pub infer_instance : {put : Term} {middle : ℕ} → ((t : Term) (e : ℕ) → term S.proof begin ≡ Some (t, e) → (put ≡ t) × (middle ≡ e))
+      pub infer_instance : {put : Term} {middle : ℕ} → Some (put, middle) ≡ term S.proof begin
           → {inferred : Inferred} {list₁ : List ℕ} → InfersAt S rows scope ledger list left middle inferred list₁
           → {r : Inferred} → Continues S.buffer inferred (put_in at put) r → By InstanceTag r list₁
       unfolding Told
       infer_instance terms {inferred} {list₁} infers h π Γ M e sound around reads told =
           let found = instance_read S.proof (length π.statements) left scope.count at M e reads in
           let inside = term_inside S.proof (at + 1) found.put found.middle found.put_reads in
-          let read = terms found.put found.middle (rw (begins (omega arith)) found.put_reads) in
+          let read = same_read (term S.proof (at + 1)) (sym (rw (begins (omega arith)) at terms)) found.put_reads in
           rw (found.is, instance_walk π Γ view at found.put found.part, ← read.0)
           (h S.state (book ledger list) _ e list₁
           (infers π Γ found.part e sound (around_part S rows scope left π Γ around) (rw read.1 found.part_reads) (told_is S.ends found.is told)))

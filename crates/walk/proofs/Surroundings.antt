@@ -1,5 +1,6 @@
 -- What stands around the parts of a step: the same with a level less, the plain ones shut out, or one assumption more.
 -- A call writes no row below its count, so what stood around before it stands around after it.
+use Rattle.std.specs.Prelude.{None, Option, Some}
 use Prim.Native.Nat.{ℕ, zero, suc, ◌≤◌, ◌<◌}
 use mathlib.Core.Path.{◌≡◌, refl, ◌∙◌}
 use mathlib.Core.List.{List, [], ◌∷◌, map}
@@ -19,8 +20,6 @@ use Rattle.judging.specs.declared.judge.View.{View}
 use Rattle.judging.specs.declared.judge.Scope.{Scope}
 use Rattle.judging.specs.declared.judge.Checked.{Checked}
 use Rattle.formula.specs.PutIn.{terms_numbers}
-use Rattle.judging.specs.declared.rows.Whose.{Whose}
-use Rattle.judging.specs.declared.rows.Whose.TheVariants.{Plain, Claim}
 use Rattle.judging.specs.Judging.{scope_by, one_more, scope_with}
 use Rattle.judging.specs.RowsOf.{most_rows, row_in, RowIs, is_plain, is_claim, is_shut, Assumed}
 use Rattle.judging.specs.RowNumbers.{rows_with}
@@ -75,9 +74,9 @@ pub keeps_others : (count : ℕ) (before : List ℕ) (row : Row) {after : List �
 keeps_others count before row put all = record { rows = earlier_stay before count row put; all = all }
 
 -- The scope inside of a shell has as many rows.
-pub keeps_inside : (scope : Scope) (whose : Whose) (j : Judgement) {before after : List ℕ} → Keeps (scope_by scope whose j).count before after → Keeps scope.count before after
-keeps_inside scope Plain j keeps = keeps
-keeps_inside scope (Claim k) j keeps = keeps
+pub keeps_inside : (scope : Scope) (whose : Option ℕ) (j : Judgement) {before after : List ℕ} → Keeps (scope_by scope whose j).count before after → Keeps scope.count before after
+keeps_inside scope None j keeps = keeps
+keeps_inside scope (Some k) j keeps = keeps
 
 -- With one assumption more there are no fewer; and where a row has room, one more.
 scope_grows : (scope : Scope) → scope.count ≤ (scope_with scope).count
@@ -114,7 +113,7 @@ module _ (S : Sources) (rows : List ℕ) (scope : Scope) (left : ℕ) (π : Poli
       record { policy = around.policy; assumed = around.assumed; shut_inside = around.shut_inside; room = omega arith; all_there = around.all_there }
 
   -- The part of a says-in.
-  pub around_said : (view : View) → Around S rows (record { count = scope.count; shut = scope.count; view = view }) left π (map shut_out Γ)
+  pub around_said : (view : Option View) → Around S rows (record { count = scope.count; shut = scope.count; view = view }) left π (map shut_out Γ)
   around_said view =
       let room = around.room in
       record {

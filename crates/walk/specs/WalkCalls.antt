@@ -1,10 +1,12 @@
 -- The promise of each call of the walk, over what it is lent.
-use Rattle.std.specs.Prelude.{◌-◌, ◌≡◌, get_or}
+use Rattle.std.specs.Prelude.{◌-◌, ◌≡◌, get_or, Option}
+use denote.Triple.Both.{Both}
 use Rattle.procap.specs.Lent.{Lent, LentToWrite}
 use Rattle.bl.specs.declared.InferTag.{InferTag}
 use Rattle.bl.specs.declared.CheckTag.{CheckTag}
 use Rattle.bl.specs.declared.CheckTag.TheVariants.{PairTag, AtInTag, AtOutTag, SaysInTag, SaysOutTag, OrLeftTag, OrRightTag, OrOutTag, FalsityOutTag}
 use Rattle.bl.specs.Tags.{infer_tag}
+use Rattle.strength.specs.Strengths.{StrengthsLent}
 use Rattle.formula.specs.declared.parts.Judgement.{Judgement}
 use Rattle.judging.specs.declared.judge.Inferred.{Inferred}
 use Rattle.judging.specs.declared.judge.Checked.{Checked}
@@ -15,14 +17,14 @@ use Rattle.walk.specs.declared.Cases.{Cases}
 use Rattle.walk.specs.declared.Cases.TheVariants.{BothSides, NoCase}
 use Rattle.walk.specs.Walking.{Sources, Keeps, InfersAt, ChecksAt, ChecksBy}
 
--- The slices that are lent all through.
-abbrev pub sources : Lent → Lent → Lent → Lent → Lent → Lent → Sources
+-- What is lent all through.
+abbrev pub sources : Lent → Lent → Lent → Lent → Both StrengthsLent StrengthsLent → Lent → Sources
 sources buffer proof state certificates strengths ends = record {
   buffer = buffer.entry.now;
   proof = proof.entry.now;
   state = state.entry.now;
   certificates = certificates.entry.now;
-  strengths = strengths.entry.now;
+  strengths = strengths.entry;
   ends = ends.entry.now;
 }
 
@@ -44,7 +46,7 @@ pub data Leaves : CheckTag → Cases → Type 0 where
 
 module _ (S : Sources) (facts assumptions : LentToWrite) where
   -- A step that infers, of at most so many levels, by the tag that stands at its place.
-  abbrev pub Infers : InferTag → Here → Inferred → Type 0
+  abbrev pub Infers : Option InferTag → Here → Inferred → Type 0
   Infers tag here r =
       tag ≡ infer_tag (get_or S.proof here.at 0)
       → InfersAt S assumptions.entry.now here.scope here.ledger facts.entry.now here.left here.at r facts.exit.now

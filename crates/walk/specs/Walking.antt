@@ -1,14 +1,13 @@
 -- What the walk over the bytes promises: the walk of the tree that the bytes read as.
 use Rattle.std.specs.Prelude.{ℕ, suc, ◌+◌, ◌≤◌, ◌<◌, ◌≡◌, List, length, Some}
 use Rattle.bl.specs.declared.InferTag.{InferTag}
-use Rattle.bl.specs.declared.InferTag.TheVariants.{NoInferTag}
 use Rattle.bl.specs.declared.CheckTag.{CheckTag}
 use Rattle.bl.specs.Trees.{Formula, Infer, Check}
 use Rattle.bl.specs.Policy.{Policy}
 use Rattle.bl.specs.Rules.{Assumption}
 use Rattle.bl.specs.Steps.{infer_step, check_step, infer_by, check_by, most_proof_levels}
 use Rattle.bl.specs.Walk.{infer, check}
-use Rattle.strength.specs.Strengths.{StrengthsOf}
+use Rattle.strength.specs.Strengths.{StrengthsLent, LentStrengthsOf}
 use Rattle.steps.specs.Ends.{Told, ToldChecking}
 use Rattle.ledger.specs.declared.Ledger.{Ledger}
 use Rattle.formula.specs.declared.parts.Judgement.{Judgement}
@@ -20,20 +19,20 @@ use Rattle.formula.specs.Meaning.{Means, from_of, to_of}
 use Rattle.judging.specs.RowsOf.{Assumed, Certified, row_in, all_numbers}
 use Rattle.judging.specs.Judging.{view_in, Yields, Passes}
 
--- What is lent all through a walk: formulas, proof and state in bytes, certificates in rows, strengths in numbers, and where
+-- What is lent all through a walk: formulas, proof and state in bytes, certificates in rows, strengths if there are any, and where
 -- second parts end.
 pub record Sources : Type 0 where
   pub buffer : List ℕ
   pub proof : List ℕ
   pub state : List ℕ
   pub certificates : List ℕ
-  pub strengths : List ℕ
+  pub strengths : StrengthsLent
   pub ends : List ℕ
 
--- The policy is what is lent: rows that are its certificates, and numbers that are the strengths of its pairs.
-pub record PolicyLent (buffer certificates strengths : List ℕ) (π : Policy) : Type 0 where
+-- The policy is what is lent: rows that are its certificates, and the strengths of its pairs.
+pub record PolicyLent (buffer certificates : List ℕ) (strengths : StrengthsLent) (π : Policy) : Type 0 where
   pub certified : Certified buffer certificates π.statements
-  pub strong : StrengthsOf strengths π.pairs
+  pub strong : LentStrengthsOf strengths π.pairs
 
 -- What stands around a step: the policy that is lent, and rows that are the assumptions Γ, none shut out that is yet to come,
 -- with room for one more at each level left, in as many numbers as all rows take.
@@ -92,6 +91,6 @@ module _ (S : Sources) (rows : List ℕ) (scope : Scope) (ledger : Ledger) (list
   ChecksBy tag goal_bytes goal at r list' =
       (π : Policy) (Γ : List Assumption) (N : Check) (e : ℕ)
       → Sound (book ledger list) → Around S rows scope (suc left) π Γ
-      → check_by S.proof (length π.statements) (infer_step S.proof (length π.statements) left) (check_step S.proof (length π.statements) left) scope.count at NoInferTag tag (at + 1) ≡ Some (N, e)
+      → check_by S.proof (length π.statements) (infer_step S.proof (length π.statements) left) (check_step S.proof (length π.statements) left) scope.count at tag (at + 1) ≡ Some (N, e)
       → ToldChecking S.ends N
       → ChecksStep π Γ goal_bytes goal N e r list'

@@ -9,14 +9,15 @@ use bl::{CheckTag, FormulaTag, InferTag};
 use formula::parts::Judgement;
 use judging::either::{from_falsity, side_on};
 use judging::judge::{
-    Checked, Inferred, Scope, Shell, assume, certificate, checked_by, first, inside_inferred,
-    inside_of, instance, local, nothing, order, part_at, put_to_use, second, sides_inferred,
-    sides_of, state_fact, top,
+    Checked, Inferred, Scope, Shell, Side, assume, certificate, checked_by, conjunct,
+    inside_inferred, inside_of, instance, local, nothing, order, part_at, put_to_use,
+    sides_inferred, sides_of, state_fact, top,
 };
 use ledger::Ledger;
 use procap::bytes::past;
 use steps::ends::end_in;
 use steps::{check_tag_at, infer_tag_at, term_at};
+use strength::table::Strengths;
 
 // Where the walk stands: in which scope, at which step, with what ledger, and how many levels are left there.
 #[derive(Clone, Copy)]
@@ -50,11 +51,11 @@ impl Here {
     }
 }
 
-// What the step at a place infers, of at most so many levels, by its tag, which was read there.
+// What the step at a place infers, of at most so many levels, by its tag, which was read there, if one stands there.
 #[rattlefmt::skip]
 #[cycle(by_cases_check_infer_pair_put_in_take_out)]
 fn infer(
-    buffer: &[u8], proof: &[u8], state: &[u8], certificates: &[u64], strengths: &[u64], ends: &[u16], facts: &mut [u64], assumptions: &mut [u64], tag: InferTag, here: Here,
+    buffer: &[u8], proof: &[u8], state: &[u8], certificates: &[u64], strengths: Option<&Strengths>, ends: &[u16], facts: &mut [u64], assumptions: &mut [u64], tag: Option<InferTag>, here: Here,
 ) -> Inferred
     ensures walks { Infers (sources buffer proof state certificates strengths ends) facts assumptions tag here result }
     ensures keeps { KeepsRows here assumptions }
@@ -65,12 +66,15 @@ fn infer(
     if here.left == 0 {
         return nothing(ledger.misfit(at));
     }
+    let Some(tag) = tag else {
+        return nothing(ledger.misfit(at));
+    };
     let begin = past(proof, at);
     match tag {
         InferTag::LocalTag => local(proof, assumptions, strengths, scope, at, ledger),
         InferTag::CertificateTag => certificate(proof, certificates, strengths, scope, at, ledger),
-        InferTag::FirstTag => first(buffer, at, infer(buffer, proof, state, certificates, strengths, ends, facts, assumptions, infer_tag_at(proof, begin), here.part(begin, ledger))),
-        InferTag::SecondTag => second(buffer, at, infer(buffer, proof, state, certificates, strengths, ends, facts, assumptions, infer_tag_at(proof, begin), here.part(begin, ledger))),
+        InferTag::FirstTag => conjunct(buffer, at, Side::First, infer(buffer, proof, state, certificates, strengths, ends, facts, assumptions, infer_tag_at(proof, begin), here.part(begin, ledger))),
+        InferTag::SecondTag => conjunct(buffer, at, Side::Second, infer(buffer, proof, state, certificates, strengths, ends, facts, assumptions, infer_tag_at(proof, begin), here.part(begin, ledger))),
         InferTag::ApplyTag => {
             let part = infer(buffer, proof, state, certificates, strengths, ends, facts, assumptions, infer_tag_at(proof, begin), here.part(begin, ledger));
             let used = put_to_use(buffer, proof, at, part, end_in(ends, part.next));
@@ -84,13 +88,12 @@ fn infer(
             Inferred { ledger: after_checked, judgement: part_at(premise, used.conclusion), next: used.next }
         }
         InferTag::InstanceTag => {
-            let read = term_at(proof, begin);
-            let term = read.term;
-            let next = read.next;
+            let Some((term, next)) = term_at(proof, begin) else {
+                return nothing(ledger.misfit(at));
+            };
             let part = infer(buffer, proof, state, certificates, strengths, ends, facts, assumptions, infer_tag_at(proof, next), here.part(next, ledger));
             instance(buffer, at, part, term)
         }
-        InferTag::NoInferTag => nothing(ledger.misfit(at)),
     }
 }
 
@@ -98,7 +101,7 @@ fn infer(
 #[rattlefmt::skip]
 #[cycle(by_cases_check_infer_pair_put_in_take_out)]
 pub fn check(
-    buffer: &[u8], proof: &[u8], state: &[u8], certificates: &[u64], strengths: &[u64], ends: &[u16], facts: &mut [u64], assumptions: &mut [u64],
+    buffer: &[u8], proof: &[u8], state: &[u8], certificates: &[u64], strengths: Option<&Strengths>, ends: &[u16], facts: &mut [u64], assumptions: &mut [u64],
     goal_bytes: &[u8], goal: Judgement, here: Here,
 ) -> Checked
     ensures walks { Checks (sources buffer proof state certificates strengths ends) facts assumptions goal_bytes goal here result }
@@ -109,7 +112,10 @@ pub fn check(
     if here.left == 0 {
         return Checked { ledger: ledger.misfit(at), next: at };
     }
-    match check_tag_at(proof, at) {
+    let Some(tag) = check_tag_at(proof, at) else {
+        return Checked { ledger: ledger.misfit(at), next: at };
+    };
+    match tag {
         CheckTag::PairTag => pair(buffer, proof, state, certificates, strengths, ends, facts, assumptions, goal_bytes, goal, here),
         CheckTag::TopStepTag => Checked { ledger: top(goal_bytes, at, goal, ledger), next: past(proof, at) },
         CheckTag::AtInTag => put_in(buffer, proof, state, certificates, strengths, ends, facts, assumptions, Shell::AtShell, goal_bytes, goal, here),
@@ -122,11 +128,10 @@ pub fn check(
         CheckTag::OrRightTag => put_in(buffer, proof, state, certificates, strengths, ends, facts, assumptions, Shell::RightShell, goal_bytes, goal, here),
         CheckTag::OrOutTag => by_cases(buffer, proof, state, certificates, strengths, ends, facts, assumptions, Cases::BothSides, goal_bytes, goal, here),
         CheckTag::FalsityOutTag => by_cases(buffer, proof, state, certificates, strengths, ends, facts, assumptions, Cases::NoCase, goal_bytes, goal, here),
-        CheckTag::InferredTag => {
-            let inferred = infer(buffer, proof, state, certificates, strengths, ends, facts, assumptions, infer_tag_at(proof, at), here);
+        CheckTag::InferredTag(tag) => {
+            let inferred = infer(buffer, proof, state, certificates, strengths, ends, facts, assumptions, Some(tag), here);
             checked_by(buffer, goal_bytes, at, inferred, goal)
         }
-        CheckTag::NoCheckTag => Checked { ledger: ledger.misfit(at), next: at },
     }
 }
 
@@ -134,7 +139,7 @@ pub fn check(
 #[rattlefmt::skip]
 #[cycle(by_cases_check_infer_pair_put_in_take_out)]
 fn pair(
-    buffer: &[u8], proof: &[u8], state: &[u8], certificates: &[u64], strengths: &[u64], ends: &[u16], facts: &mut [u64], assumptions: &mut [u64],
+    buffer: &[u8], proof: &[u8], state: &[u8], certificates: &[u64], strengths: Option<&Strengths>, ends: &[u16], facts: &mut [u64], assumptions: &mut [u64],
     goal_bytes: &[u8], goal: Judgement, here: Here,
 ) -> Checked
     requires { 0 < here.left }
@@ -162,7 +167,7 @@ fn pair(
 #[rattlefmt::skip]
 #[cycle(by_cases_check_infer_pair_put_in_take_out)]
 fn put_in(
-    buffer: &[u8], proof: &[u8], state: &[u8], certificates: &[u64], strengths: &[u64], ends: &[u16], facts: &mut [u64], assumptions: &mut [u64],
+    buffer: &[u8], proof: &[u8], state: &[u8], certificates: &[u64], strengths: Option<&Strengths>, ends: &[u16], facts: &mut [u64], assumptions: &mut [u64],
     shell: Shell, goal_bytes: &[u8], goal: Judgement, here: Here,
 ) -> Checked
     requires { 0 < here.left }
@@ -188,7 +193,7 @@ fn put_in(
 #[rattlefmt::skip]
 #[cycle(by_cases_check_infer_pair_put_in_take_out)]
 fn take_out(
-    buffer: &[u8], proof: &[u8], state: &[u8], certificates: &[u64], strengths: &[u64], ends: &[u16], facts: &mut [u64], assumptions: &mut [u64],
+    buffer: &[u8], proof: &[u8], state: &[u8], certificates: &[u64], strengths: Option<&Strengths>, ends: &[u16], facts: &mut [u64], assumptions: &mut [u64],
     shell: Shell, goal_bytes: &[u8], goal: Judgement, here: Here,
 ) -> Checked
     requires { 0 < here.left }
@@ -216,7 +221,7 @@ fn take_out(
 #[rattlefmt::skip]
 #[cycle(by_cases_check_infer_pair_put_in_take_out)]
 fn by_cases(
-    buffer: &[u8], proof: &[u8], state: &[u8], certificates: &[u64], strengths: &[u64], ends: &[u16], facts: &mut [u64], assumptions: &mut [u64],
+    buffer: &[u8], proof: &[u8], state: &[u8], certificates: &[u64], strengths: Option<&Strengths>, ends: &[u16], facts: &mut [u64], assumptions: &mut [u64],
     cases: Cases, goal_bytes: &[u8], goal: Judgement, here: Here,
 ) -> Checked
     requires { 0 < here.left }

@@ -1,26 +1,20 @@
--- The place stays between the two bounds: a number in the middle that is below has the place behind it, any other at it or before.
+-- Where the first numbers rise, those below the number stand before the others, so the library's point is the place.
+use mathlib.Core.Path.{◌≡◌}
 use native.Mathlib.Omega.{arith}
-use Rattle.rising.proofs.Searching.{all_between, upper_half, lower_half, bounds_met}
+use borrow.Author.Rules.{rules}
+use lib.Dec.{ltb}
+use lib.ListN.{take}
+use Rattle.std.proofs.lemmas.List.Sorted.{IsPartitionedBy-ltb, IsPartitionPoint-from_clause}
+use Rattle.rising.specs.Rising.{Rising}
+use Rattle.rising.proofs.Searching.{rising_sorted, parted_at}
 use Rattle.rising.proofs.below.Goals as goal
-use Rattle.rising.proofs.below.Goals.{then-count-numbers, else-count-numbers}
 
-pub loop-low-init : goal.loop-low-init
-loop-low-init c =
-    all_between _ _ _
-    (elim c.if-count-numbers.branch [
-      | then-count-numbers w ↦ omega arith
-      | else-count-numbers w ↦ omega arith
-    ])
-
-pub loop-low-preserved-then-numbers-middle : goal.loop-low-preserved-then-numbers-middle
-loop-low-preserved-then-numbers-middle c =
-    let loop = c.loop-low in
-    upper_half _ _ _ (omega arith) (omega arith) loop.invariant c.if-numbers-middle.true
-
-pub loop-low-preserved : goal.loop-low-preserved
-loop-low-preserved c =
-    let loop = c.loop-low in
-    lower_half _ _ _ (omega arith) (omega arith) loop.invariant c.if-numbers-middle.false
-
-pub returns : goal.returns
-returns c = record { within = omega arith; below = bounds_met _ _ _ c.loop-low-test.false c.loop-low.invariant }
+pub returns-clause-below : goal.returns-clause-below
+returns-clause-below c few rise =
+    let number = c.args.number in
+    let whole : c.min.result ≡ c.args.count = omega (arith, c.min.ensures, few) in
+    let front_rises : Rising (take c.min.result c.args.numbers.now) = rw whole rise in
+    let parted = IsPartitionedBy-ltb (λ k. k) _ number (rising_sorted _ front_rises) in
+    let point = c.partition_point.ensures in
+    rw (← whole)
+    (parted_at _ number _ front_rises (IsPartitionPoint-from_clause (λ k. ltb k number) _ _ point.partitioned parted (λ a r f' k. search rules)) point.bound)

@@ -4,7 +4,7 @@ use native.Mathlib.Omega.{arith}
 use borrow.Author.Rules.{rules}
 use Rattle.rising.proofs.Putting.{puts_nothing, puts_one}
 use Rattle.rising.proofs.put.Goals as goal
-use Rattle.rising.proofs.put.Goals.{then-place-count+else-numbers-place, else-place-count}
+use Rattle.rising.proofs.put.Goals.{else-place-count-via-then-place-count+else-numbers-place, else-place-count-via-else-place-count}
 
 pub returns-then-numbers-count : goal.returns-then-numbers-count
 returns-then-numbers-count c = record { within = omega arith; kept = refl; puts = λ room rise. absurd (omega arith) }
@@ -19,6 +19,6 @@ returns c =
       within = omega arith;
       kept = search rules;
       puts = puts_one _ _ _ counted.result (omega arith) counted.ensures.below _
-          (λ inside found. elim c.if-place-count.branch [ then-place-count+else-numbers-place w ↦ absurd (w.if-numbers-place.false found) | else-place-count w ↦ omega arith ])
+          (λ inside found. elim c.else-place-count.branch [ else-place-count-via-then-place-count+else-numbers-place w ↦ absurd (w.if-numbers-place.false found) | else-place-count-via-else-place-count w ↦ omega arith ])
           (search rules) c.put_at.ensures;
     }

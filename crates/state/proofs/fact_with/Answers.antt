@@ -1,34 +1,31 @@
 -- The loop has read and stored the terms passed. A term that is missing leaves no fact; with none missing the terms make one.
-use borrow.Author.Rules.{rules}
-use mathlib.Core.Path.{refl, ap}
+use Rattle.std.proofs.Common.{arith, ◌<◌, ◌≤◌, length, replicate, refl, sym, ap}
+use Rattle.std.proofs.lemmas.Grind.{common_steps}
+use Rattle.std.proofs.lemmas.List.{set-append_left, take-append-drop}
 use Rattle.procap.specs.Lists.{pad}
+use Rattle.procap.specs.Facts.{most_terms, no_argument}
 use Rattle.procap.specs.Reading.{with_predicate}
-use Rattle.procap.proofs.Handed.{no_fact_told, term_told}
 use Rattle.procap.proofs.ReadSoFar.{none_of_many, one_of_many, none_of_rest, all_of_many}
 use Rattle.procap.proofs.WithPredicate.{fact_with}
 use Rattle.state.proofs.fact_with.Goals as goal
 
-pub loop-i-init : goal.loop-i-init
+pub loop-argument-init : goal.loop-argument-init
 unfolding pad
-loop-i-init c = none_of_many refl
+loop-argument-init c = none_of_many (take-append-drop c.args.terms (replicate most_terms no_argument))
 
-pub returns-in_default : goal.returns-in_default
-returns-in_default c =
-    let told = c.settled_term_at in
-    let missing = term_told _ c.in_default.is told.ensures in
-    no_fact_told _ _ (search rules)
-    (ap (with_predicate _)
-    (none_of_rest c.loop-i.invariant c.loop-i-test.true missing))
+pub returns-in_err-argument : goal.returns-in_err-argument
+returns-in_err-argument c =
+    let inside : c.loop-argument.argument-index < c.args.terms = grind (arith, common_steps) in
+    rw c.from_residual.ensures (ap (with_predicate _) (none_of_rest c.loop-argument.invariant inside (sym c.in_err-argument.ensures)))
 
-pub loop-i-preserved : goal.loop-i-preserved
-loop-i-preserved c =
-    let told = c.settled_term_at in
-    let found = term_told _ c.in-Found.is told.ensures in
-    one_of_many c.loop-i.invariant
-    c.loop-i-test.true _ _
-    c.requires
-    refl
-    found
+pub loop-argument-preserved : goal.loop-argument-preserved
+loop-argument-preserved c =
+    let inside : c.loop-argument.argument-index < c.args.terms = grind (arith, common_steps) in
+    let stored : c.loop-argument.argument-index < length c.loop-argument.argument-items = grind (arith, common_steps) in
+    rw set-append_left
+    at (one_of_many c.loop-argument.invariant inside _ _ c.requires refl (sym c.in_ok-argument.ensures))
 
 pub returns : goal.returns
-returns c = fact_with _ (all_of_many c.loop-i.invariant c.loop-i-test.false) _ refl
+returns c =
+    let over : c.args.terms ≤ c.loop-argument.argument-index = grind (arith, common_steps) in
+    fact_with _ (all_of_many c.loop-argument.invariant over) _ refl

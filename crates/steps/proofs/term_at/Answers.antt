@@ -1,16 +1,22 @@
--- What was handed back is what the reader finds, in form; so is name 0.
-use mathlib.Core.Path.{subst}
+-- The byte at the place is the tag that the reader goes on from; past the end it reads none.
+use mathlib.Core.Path.{◌∙◌}
 use native.Mathlib.Omega.{arith}
-use Rattle.procap.specs.Reading.{InFormRead}
-use Rattle.procap.specs.Writable.{TermInForm}
-use Rattle.procap.proofs.Handed.{term_told}
-use Rattle.steps.proofs.TermsGiven.{given_found, given_none}
+use Rattle.steps.proofs.BytesAt.{as_before, inside}
+use Rattle.steps.proofs.Opening.{no_term_at, term_untagged, term_tagged}
 use Rattle.steps.proofs.term_at.Goals as goal
 
-pub returns-in-Found : goal.returns-in-Found
-returns-in-Found c =
-    let read = c.term_read.ensures in record { reads = given_found _ _ (term_told _ c.in-Found.is read.reads); in_form = subst InFormRead c.in-Found.is read.in_form }
+pub returns-in_err-byte-clause-reads : goal.returns-in_err-byte-clause-reads
+returns-in_err-byte-clause-reads c = rw c.from_residual.ensures (no_term_at _ _ c.in_err-byte.ensures)
 
-pub returns-in-NoTerm : goal.returns-in-NoTerm
-unfolding TermInForm
-returns-in-NoTerm c = record { reads = given_none _ _ (term_told _ c.in-NoTerm.is c.term_read.ensures.reads); in_form = omega arith }
+pub returns-in_err-tag-clause-reads : goal.returns-in_err-tag-clause-reads
+returns-in_err-tag-clause-reads c =
+    rw c.from_residual-in_err-tag.ensures
+    (term_untagged c.args.proof.now c.args.at c.in_ok-byte.ensures (c.in_err-tag.ensures.value ∙ (rw c.try_from.ensures (as_before _ _))))
+
+pub overflow_add-at : goal.overflow_add-at
+overflow_add-at c = omega (arith, inside c.args.proof.now c.args.at c.in_ok-byte.ensures)
+
+pub returns-clause-reads : goal.returns-clause-reads
+returns-clause-reads c =
+    c.term_by.ensures.reads
+    ∙ term_tagged c.args.proof.now c.args.at c.in_ok-byte.ensures (c.in_ok-tag.ensures.value ∙ (rw c.try_from.ensures (as_before _ _)))

@@ -5,13 +5,15 @@ use Prim.Native.Nat.{ℕ, ◌<◌}
 use Prim.Native.Nat.{suc, ◌-◌}
 use mathlib.Core.Path.{◌≡◌, sym, ap, ◌∙◌}
 use native.Mathlib.Omega.{arith}
+use lib.ListN.{get_or}
 use Rattle.procap.proofs.Telling.{holds_else, fails_where}
-use Rattle.steps.proofs.TermsGiven.{term_found}
+use Rattle.std.specs.Prelude.{Some}
+use Rattle.steps.proofs.StepsRead.{inferred_tag}
 use Rattle.bl.specs.declared.CheckTag.TheVariants.{AtInTag, AtOutTag, SaysInTag, SaysOutTag, OrLeftTag, OrRightTag, OrOutTag, FalsityOutTag}
 use Rattle.walk.specs.WalkCalls.{puts_at, puts_says, puts_left, puts_right, takes_at, takes_says, leaves_both, leaves_none}
 use Rattle.walk.proofs.Falling.{part_falls, here_falls, tag_falls, tag_inside}
 use Rattle.walk.proofs.Surroundings.{keeps_same, keeps_then, keeps_assumed, keeps_inside, checks_kept}
-use Rattle.walk.proofs.Inferring.{infer_none, infer_tagged, infer_local, infer_certificate, infer_no_tag, infer_first, infer_second, infer_instance, infer_apply_stopped, infer_apply}
+use Rattle.walk.proofs.Inferring.{infer_none, infer_tagged, infer_local, infer_certificate, infer_no_tag, infer_no_term, infer_first, infer_second, infer_instance, infer_apply_stopped, infer_apply}
 use Rattle.walk.proofs.Checking.{check_none, check_tagged, check_inferred, check_no_tag, check_trivial, check_state, check_order, check_pair_unfit, check_pair_stopped, check_pair, check_put_unfit, check_put, check_take_stopped, check_take}
 use Rattle.walk.proofs.CheckingCases.{both_left, none_left, check_falsity, check_cases_unfit, check_cases_stopped, check_cases}
 use Rattle.walk.proofs.+by_cases_check_infer_pair_put_in_take_out.Goals as goal
@@ -85,85 +87,87 @@ check-returns-then-here-eq0 t c = record { walks = check_none _ _ _ _ _ _ _ _ _ 
 
 pub check-pair-requires : goal.check-pair-requires
 check-pair-requires t c =
-    (tag_falls _ c.args.here _ (tag_inside c.args.proof.now _ _ (sym c.check_tag_at.ensures ∙ c.in-PairTag.is) tt) c.decreases, omega (arith, c.if-here-eq0.false))
+    (tag_falls _ c.args.here _ (tag_inside c.args.proof.now _ _ (sym c.in-Some.ensures ∙ ap Some c.in-PairTag.is)) c.decreases, omega (arith, c.if-here-eq0.false))
 
 pub check-put_in-requires : goal.check-put_in-requires
 check-put_in-requires t c =
-    (tag_falls _ c.args.here _ (tag_inside c.args.proof.now _ _ (sym c.check_tag_at.ensures ∙ c.in-AtInTag.is) tt) c.decreases, omega (arith, c.if-here-eq0.false))
+    (tag_falls _ c.args.here _ (tag_inside c.args.proof.now _ _ (sym c.in-Some.ensures ∙ ap Some c.in-AtInTag.is)) c.decreases, omega (arith, c.if-here-eq0.false))
 
 pub check-take_out-requires : goal.check-take_out-requires
 check-take_out-requires t c =
-    (tag_falls _ c.args.here _ (tag_inside c.args.proof.now _ _ (sym c.check_tag_at.ensures ∙ c.in-AtOutTag.is) tt) c.decreases, omega (arith, c.if-here-eq0.false))
+    (tag_falls _ c.args.here _ (tag_inside c.args.proof.now _ _ (sym c.in-Some.ensures ∙ ap Some c.in-AtOutTag.is)) c.decreases, omega (arith, c.if-here-eq0.false))
 
 pub check-put_in-requires-in-SaysInTag : goal.check-put_in-requires-in-SaysInTag
 check-put_in-requires-in-SaysInTag t c =
-    (tag_falls _ c.args.here _ (tag_inside c.args.proof.now _ _ (sym c.check_tag_at.ensures ∙ c.in-SaysInTag.is) tt) c.decreases, omega (arith, c.if-here-eq0.false))
+    (tag_falls _ c.args.here _ (tag_inside c.args.proof.now _ _ (sym c.in-Some.ensures ∙ ap Some c.in-SaysInTag.is)) c.decreases, omega (arith, c.if-here-eq0.false))
 
 pub check-take_out-requires-in-SaysOutTag : goal.check-take_out-requires-in-SaysOutTag
 check-take_out-requires-in-SaysOutTag t c =
-    (tag_falls _ c.args.here _ (tag_inside c.args.proof.now _ _ (sym c.check_tag_at.ensures ∙ c.in-SaysOutTag.is) tt) c.decreases, omega (arith, c.if-here-eq0.false))
+    (tag_falls _ c.args.here _ (tag_inside c.args.proof.now _ _ (sym c.in-Some.ensures ∙ ap Some c.in-SaysOutTag.is)) c.decreases, omega (arith, c.if-here-eq0.false))
 
 pub check-put_in-requires-in-OrLeftTag : goal.check-put_in-requires-in-OrLeftTag
 check-put_in-requires-in-OrLeftTag t c =
-    (tag_falls _ c.args.here _ (tag_inside c.args.proof.now _ _ (sym c.check_tag_at.ensures ∙ c.in-OrLeftTag.is) tt) c.decreases, omega (arith, c.if-here-eq0.false))
+    (tag_falls _ c.args.here _ (tag_inside c.args.proof.now _ _ (sym c.in-Some.ensures ∙ ap Some c.in-OrLeftTag.is)) c.decreases, omega (arith, c.if-here-eq0.false))
 
 pub check-put_in-requires-in-OrRightTag : goal.check-put_in-requires-in-OrRightTag
 check-put_in-requires-in-OrRightTag t c =
-    (tag_falls _ c.args.here _ (tag_inside c.args.proof.now _ _ (sym c.check_tag_at.ensures ∙ c.in-OrRightTag.is) tt) c.decreases, omega (arith, c.if-here-eq0.false))
+    (tag_falls _ c.args.here _ (tag_inside c.args.proof.now _ _ (sym c.in-Some.ensures ∙ ap Some c.in-OrRightTag.is)) c.decreases, omega (arith, c.if-here-eq0.false))
 
 pub check-by_cases-requires : goal.check-by_cases-requires
 check-by_cases-requires t c =
-    (tag_falls _ c.args.here _ (tag_inside c.args.proof.now _ _ (sym c.check_tag_at.ensures ∙ c.in-OrOutTag.is) tt) c.decreases, omega (arith, c.if-here-eq0.false))
+    (tag_falls _ c.args.here _ (tag_inside c.args.proof.now _ _ (sym c.in-Some.ensures ∙ ap Some c.in-OrOutTag.is)) c.decreases, omega (arith, c.if-here-eq0.false))
 
 pub check-by_cases-requires-in-FalsityOutTag : goal.check-by_cases-requires-in-FalsityOutTag
 check-by_cases-requires-in-FalsityOutTag t c =
-    (tag_falls _ c.args.here _ (tag_inside c.args.proof.now _ _ (sym c.check_tag_at.ensures ∙ c.in-FalsityOutTag.is) tt) c.decreases, omega (arith, c.if-here-eq0.false))
+    (tag_falls _ c.args.here _ (tag_inside c.args.proof.now _ _ (sym c.in-Some.ensures ∙ ap Some c.in-FalsityOutTag.is)) c.decreases, omega (arith, c.if-here-eq0.false))
 
 pub check-infer-inferred-requires : goal.check-infer-inferred-requires
 check-infer-inferred-requires t c =
-    (tag_falls _ c.args.here _ (tag_inside c.args.proof.now _ _ (sym c.check_tag_at.ensures ∙ c.in-InferredTag.is) tt) c.decreases, tt)
+    (tag_falls _ c.args.here _ (tag_inside c.args.proof.now _ _ (sym c.in-Some.ensures ∙ ap Some c.in-InferredTag.is)) c.decreases, tt)
 
 pub check-returns-in-PairTag : goal.check-returns-in-PairTag
-check-returns-in-PairTag t c = record { walks = check_tagged _ _ _ _ _ _ _ _ _ _ _ (a_level c.args.here.left (omega (arith, c.if-here-eq0.false))) (sym c.check_tag_at.ensures ∙ c.in-PairTag.is) tt (λ inside. c.pair.ensures.walks); keeps = c.pair.ensures.keeps }
+check-returns-in-PairTag t c = record { walks = check_tagged _ _ _ _ _ _ _ _ _ _ _ (a_level c.args.here.left (omega (arith, c.if-here-eq0.false))) (sym c.in-Some.ensures ∙ ap Some c.in-PairTag.is) (λ inside. c.pair.ensures.walks); keeps = c.pair.ensures.keeps }
 
 pub check-returns-in-TopStepTag : goal.check-returns-in-TopStepTag
-check-returns-in-TopStepTag t c = record { walks = check_tagged _ _ _ _ _ _ _ _ _ _ _ (a_level c.args.here.left (omega (arith, c.if-here-eq0.false))) (sym c.check_tag_at.ensures ∙ c.in-TopStepTag.is) tt (λ inside. check_trivial _ _ _ _ _ _ _ _ _ inside c.past.ensures.there (c.top.ensures _ _)); keeps = keeps_same _ _ }
+check-returns-in-TopStepTag t c = record { walks = check_tagged _ _ _ _ _ _ _ _ _ _ _ (a_level c.args.here.left (omega (arith, c.if-here-eq0.false))) (sym c.in-Some.ensures ∙ ap Some c.in-TopStepTag.is) (λ inside. check_trivial _ _ _ _ _ _ _ _ _ inside c.past.ensures.there (c.top.ensures _ _)); keeps = keeps_same _ _ }
 
 pub check-returns-in-AtInTag : goal.check-returns-in-AtInTag
-check-returns-in-AtInTag t c = record { walks = check_tagged _ _ _ _ _ _ _ _ _ _ _ (a_level c.args.here.left (omega (arith, c.if-here-eq0.false))) (sym c.check_tag_at.ensures ∙ c.in-AtInTag.is) tt (λ inside. c.put_in.ensures.walks AtInTag puts_at); keeps = c.put_in.ensures.keeps }
+check-returns-in-AtInTag t c = record { walks = check_tagged _ _ _ _ _ _ _ _ _ _ _ (a_level c.args.here.left (omega (arith, c.if-here-eq0.false))) (sym c.in-Some.ensures ∙ ap Some c.in-AtInTag.is) (λ inside. c.put_in.ensures.walks AtInTag puts_at); keeps = c.put_in.ensures.keeps }
 
 pub check-returns-in-AtOutTag : goal.check-returns-in-AtOutTag
-check-returns-in-AtOutTag t c = record { walks = check_tagged _ _ _ _ _ _ _ _ _ _ _ (a_level c.args.here.left (omega (arith, c.if-here-eq0.false))) (sym c.check_tag_at.ensures ∙ c.in-AtOutTag.is) tt (λ inside. c.take_out.ensures.walks AtOutTag takes_at); keeps = c.take_out.ensures.keeps }
+check-returns-in-AtOutTag t c = record { walks = check_tagged _ _ _ _ _ _ _ _ _ _ _ (a_level c.args.here.left (omega (arith, c.if-here-eq0.false))) (sym c.in-Some.ensures ∙ ap Some c.in-AtOutTag.is) (λ inside. c.take_out.ensures.walks AtOutTag takes_at); keeps = c.take_out.ensures.keeps }
 
 pub check-returns-in-SaysInTag : goal.check-returns-in-SaysInTag
-check-returns-in-SaysInTag t c = record { walks = check_tagged _ _ _ _ _ _ _ _ _ _ _ (a_level c.args.here.left (omega (arith, c.if-here-eq0.false))) (sym c.check_tag_at.ensures ∙ c.in-SaysInTag.is) tt (λ inside. c.put_in-in-SaysInTag.ensures.walks SaysInTag puts_says); keeps = c.put_in-in-SaysInTag.ensures.keeps }
+check-returns-in-SaysInTag t c = record { walks = check_tagged _ _ _ _ _ _ _ _ _ _ _ (a_level c.args.here.left (omega (arith, c.if-here-eq0.false))) (sym c.in-Some.ensures ∙ ap Some c.in-SaysInTag.is) (λ inside. c.put_in-in-SaysInTag.ensures.walks SaysInTag puts_says); keeps = c.put_in-in-SaysInTag.ensures.keeps }
 
 pub check-returns-in-SaysOutTag : goal.check-returns-in-SaysOutTag
-check-returns-in-SaysOutTag t c = record { walks = check_tagged _ _ _ _ _ _ _ _ _ _ _ (a_level c.args.here.left (omega (arith, c.if-here-eq0.false))) (sym c.check_tag_at.ensures ∙ c.in-SaysOutTag.is) tt (λ inside. c.take_out-in-SaysOutTag.ensures.walks SaysOutTag takes_says); keeps = c.take_out-in-SaysOutTag.ensures.keeps }
+check-returns-in-SaysOutTag t c = record { walks = check_tagged _ _ _ _ _ _ _ _ _ _ _ (a_level c.args.here.left (omega (arith, c.if-here-eq0.false))) (sym c.in-Some.ensures ∙ ap Some c.in-SaysOutTag.is) (λ inside. c.take_out-in-SaysOutTag.ensures.walks SaysOutTag takes_says); keeps = c.take_out-in-SaysOutTag.ensures.keeps }
 
 pub check-returns-in-StateTag : goal.check-returns-in-StateTag
-check-returns-in-StateTag t c = record { walks = check_tagged _ _ _ _ _ _ _ _ _ _ _ (a_level c.args.here.left (omega (arith, c.if-here-eq0.false))) (sym c.check_tag_at.ensures ∙ c.in-StateTag.is) tt (λ inside. check_state _ _ _ _ _ _ _ _ _ inside c.past-in-StateTag.ensures.there c.state_fact.ensures); keeps = keeps_same _ _ }
+check-returns-in-StateTag t c = record { walks = check_tagged _ _ _ _ _ _ _ _ _ _ _ (a_level c.args.here.left (omega (arith, c.if-here-eq0.false))) (sym c.in-Some.ensures ∙ ap Some c.in-StateTag.is) (λ inside. check_state _ _ _ _ _ _ _ _ _ inside c.past-in-StateTag.ensures.there c.state_fact.ensures); keeps = keeps_same _ _ }
 
 pub check-returns-in-OrderStepTag : goal.check-returns-in-OrderStepTag
-check-returns-in-OrderStepTag t c = record { walks = check_tagged _ _ _ _ _ _ _ _ _ _ _ (a_level c.args.here.left (omega (arith, c.if-here-eq0.false))) (sym c.check_tag_at.ensures ∙ c.in-OrderStepTag.is) tt (λ inside. check_order _ _ _ _ _ _ _ _ _ inside c.past-in-OrderStepTag.ensures.there (c.order.ensures _ _)); keeps = keeps_same _ _ }
+check-returns-in-OrderStepTag t c = record { walks = check_tagged _ _ _ _ _ _ _ _ _ _ _ (a_level c.args.here.left (omega (arith, c.if-here-eq0.false))) (sym c.in-Some.ensures ∙ ap Some c.in-OrderStepTag.is) (λ inside. check_order _ _ _ _ _ _ _ _ _ inside c.past-in-OrderStepTag.ensures.there (c.order.ensures _ _)); keeps = keeps_same _ _ }
 
 pub check-returns-in-OrLeftTag : goal.check-returns-in-OrLeftTag
-check-returns-in-OrLeftTag t c = record { walks = check_tagged _ _ _ _ _ _ _ _ _ _ _ (a_level c.args.here.left (omega (arith, c.if-here-eq0.false))) (sym c.check_tag_at.ensures ∙ c.in-OrLeftTag.is) tt (λ inside. c.put_in-in-OrLeftTag.ensures.walks OrLeftTag puts_left); keeps = c.put_in-in-OrLeftTag.ensures.keeps }
+check-returns-in-OrLeftTag t c = record { walks = check_tagged _ _ _ _ _ _ _ _ _ _ _ (a_level c.args.here.left (omega (arith, c.if-here-eq0.false))) (sym c.in-Some.ensures ∙ ap Some c.in-OrLeftTag.is) (λ inside. c.put_in-in-OrLeftTag.ensures.walks OrLeftTag puts_left); keeps = c.put_in-in-OrLeftTag.ensures.keeps }
 
 pub check-returns-in-OrRightTag : goal.check-returns-in-OrRightTag
-check-returns-in-OrRightTag t c = record { walks = check_tagged _ _ _ _ _ _ _ _ _ _ _ (a_level c.args.here.left (omega (arith, c.if-here-eq0.false))) (sym c.check_tag_at.ensures ∙ c.in-OrRightTag.is) tt (λ inside. c.put_in-in-OrRightTag.ensures.walks OrRightTag puts_right); keeps = c.put_in-in-OrRightTag.ensures.keeps }
+check-returns-in-OrRightTag t c = record { walks = check_tagged _ _ _ _ _ _ _ _ _ _ _ (a_level c.args.here.left (omega (arith, c.if-here-eq0.false))) (sym c.in-Some.ensures ∙ ap Some c.in-OrRightTag.is) (λ inside. c.put_in-in-OrRightTag.ensures.walks OrRightTag puts_right); keeps = c.put_in-in-OrRightTag.ensures.keeps }
 
 pub check-returns-in-OrOutTag : goal.check-returns-in-OrOutTag
-check-returns-in-OrOutTag t c = record { walks = check_tagged _ _ _ _ _ _ _ _ _ _ _ (a_level c.args.here.left (omega (arith, c.if-here-eq0.false))) (sym c.check_tag_at.ensures ∙ c.in-OrOutTag.is) tt (λ inside. c.by_cases.ensures.walks OrOutTag leaves_both); keeps = c.by_cases.ensures.keeps }
+check-returns-in-OrOutTag t c = record { walks = check_tagged _ _ _ _ _ _ _ _ _ _ _ (a_level c.args.here.left (omega (arith, c.if-here-eq0.false))) (sym c.in-Some.ensures ∙ ap Some c.in-OrOutTag.is) (λ inside. c.by_cases.ensures.walks OrOutTag leaves_both); keeps = c.by_cases.ensures.keeps }
 
 pub check-returns-in-FalsityOutTag : goal.check-returns-in-FalsityOutTag
-check-returns-in-FalsityOutTag t c = record { walks = check_tagged _ _ _ _ _ _ _ _ _ _ _ (a_level c.args.here.left (omega (arith, c.if-here-eq0.false))) (sym c.check_tag_at.ensures ∙ c.in-FalsityOutTag.is) tt (λ inside. c.by_cases-in-FalsityOutTag.ensures.walks FalsityOutTag leaves_none); keeps = c.by_cases-in-FalsityOutTag.ensures.keeps }
+check-returns-in-FalsityOutTag t c = record { walks = check_tagged _ _ _ _ _ _ _ _ _ _ _ (a_level c.args.here.left (omega (arith, c.if-here-eq0.false))) (sym c.in-Some.ensures ∙ ap Some c.in-FalsityOutTag.is) (λ inside. c.by_cases-in-FalsityOutTag.ensures.walks FalsityOutTag leaves_none); keeps = c.by_cases-in-FalsityOutTag.ensures.keeps }
 
 pub check-returns-in-InferredTag : goal.check-returns-in-InferredTag
-check-returns-in-InferredTag t c = record { walks = check_inferred _ _ _ _ _ _ _ _ _ _ (a_level c.args.here.left (omega (arith, c.if-here-eq0.false))) (sym c.check_tag_at.ensures ∙ c.in-InferredTag.is) (c.infer-inferred.ensures.walks c.infer_tag_at.ensures) c.checked_by.ensures; keeps = c.infer-inferred.ensures.keeps }
+check-returns-in-InferredTag t c =
+    let is = sym c.in-Some.ensures ∙ ap Some c.in-InferredTag.is in
+    record { walks = check_inferred _ _ _ _ _ _ _ _ _ _ _ (a_level c.args.here.left (omega (arith, c.if-here-eq0.false))) is (c.infer-inferred.ensures.walks (sym (inferred_tag (get_or c.args.proof.now c.args.here.at 0) _ is))) c.checked_by.ensures; keeps = c.infer-inferred.ensures.keeps }
 
-pub check-returns-in-NoCheckTag : goal.check-returns-in-NoCheckTag
-check-returns-in-NoCheckTag t c = record { walks = check_tagged _ _ _ _ _ _ _ _ _ _ _ (a_level c.args.here.left (omega (arith, c.if-here-eq0.false))) (sym c.check_tag_at.ensures ∙ c.in-NoCheckTag.is) tt (λ inside. check_no_tag _ _ _ _ _ _ _ _ _); keeps = keeps_same _ _ }
+pub check-returns-in_default : goal.check-returns-in_default
+check-returns-in_default t c = record { walks = check_no_tag _ _ _ _ _ _ _ _ _ (sym c.in_default.ensures); keeps = keeps_same _ _ }
 
 pub infer-returns-then-here-eq0 : goal.infer-returns-then-here-eq0
 infer-returns-then-here-eq0 t c = record { walks = λ is. infer_none _ _ _ _ _ _ _ c.if-here-eq0.true; keeps = keeps_same _ _ }
@@ -193,7 +197,7 @@ infer-infer-part-requires t c =
     (here_falls _ c.args.here _ _ _ _ _ c.part-in-ApplyTag.ensures (omega (arith, c.if-here-eq0.false)) c.decreases, tt)
 
 pub infer-returns-then-not-goes_on : goal.infer-returns-then-not-goes_on
-infer-returns-then-not-goes_on t c = record { walks = λ is. infer_tagged _ _ _ _ _ _ (c.args.here.left - 1) _ _ (a_level c.args.here.left (omega (arith, c.if-here-eq0.false))) (sym is ∙ c.in-ApplyTag.is) (infer_apply_stopped _ _ _ _ _ _ _ c.past-begin.ensures.there ((rw c.part-in-ApplyTag.ensures at c.infer-part.ensures.walks) c.infer_tag_at-in-ApplyTag.ensures) c.end_in.ensures c.put_to_use-used.ensures.going c.put_to_use-used.ensures.stopped (ap (λ r. r.ledger) c.nothing-then-not-goes_on.ensures) (fails_where c.goes_on.result c.if-not-goes_on.true-raw c.goes_on.ensures)); keeps = (rw c.part-in-ApplyTag.ensures at c.infer-part.ensures.keeps) }
+infer-returns-then-not-goes_on t c = record { walks = λ is. infer_tagged _ _ _ _ _ _ (c.args.here.left - 1) _ _ (a_level c.args.here.left (omega (arith, c.if-here-eq0.false))) (sym is ∙ c.in-Some.is ∙ ap Some c.in-ApplyTag.is) (infer_apply_stopped _ _ _ _ _ _ _ c.past-begin.ensures.there ((rw c.part-in-ApplyTag.ensures at c.infer-part.ensures.walks) c.infer_tag_at-in-ApplyTag.ensures) c.end_in.ensures c.put_to_use-used.ensures.going c.put_to_use-used.ensures.stopped (ap (λ r. r.ledger) c.nothing-then-not-goes_on.ensures) (fails_where c.goes_on.result c.if-not-goes_on.true-raw c.goes_on.ensures)); keeps = (rw c.part-in-ApplyTag.ensures at c.infer-part.ensures.keeps) }
 
 pub infer-part-requires-in-ApplyTag-2 : goal.infer-part-requires-in-ApplyTag-2
 infer-part-requires-in-ApplyTag-2 t c =
@@ -212,25 +216,28 @@ infer-infer-part-requires-in-InstanceTag t c =
     (here_falls _ c.args.here _ _ _ _ _ c.part-in-InstanceTag.ensures (omega (arith, c.if-here-eq0.false)) c.decreases, tt)
 
 pub infer-returns-in-LocalTag : goal.infer-returns-in-LocalTag
-infer-returns-in-LocalTag t c = record { walks = λ is. infer_tagged _ _ _ _ _ _ (c.args.here.left - 1) _ _ (a_level c.args.here.left (omega (arith, c.if-here-eq0.false))) (sym is ∙ c.in-LocalTag.is) (infer_local _ _ _ _ _ _ _ c.local.ensures); keeps = keeps_same _ _ }
+infer-returns-in-LocalTag t c = record { walks = λ is. infer_tagged _ _ _ _ _ _ (c.args.here.left - 1) _ _ (a_level c.args.here.left (omega (arith, c.if-here-eq0.false))) (sym is ∙ c.in-Some.is ∙ ap Some c.in-LocalTag.is) (infer_local _ _ _ _ _ _ _ c.local.ensures); keeps = keeps_same _ _ }
 
 pub infer-returns-in-CertificateTag : goal.infer-returns-in-CertificateTag
-infer-returns-in-CertificateTag t c = record { walks = λ is. infer_tagged _ _ _ _ _ _ (c.args.here.left - 1) _ _ (a_level c.args.here.left (omega (arith, c.if-here-eq0.false))) (sym is ∙ c.in-CertificateTag.is) (infer_certificate _ _ _ _ _ _ _ c.certificate.ensures); keeps = keeps_same _ _ }
+infer-returns-in-CertificateTag t c = record { walks = λ is. infer_tagged _ _ _ _ _ _ (c.args.here.left - 1) _ _ (a_level c.args.here.left (omega (arith, c.if-here-eq0.false))) (sym is ∙ c.in-Some.is ∙ ap Some c.in-CertificateTag.is) (infer_certificate _ _ _ _ _ _ _ c.certificate.ensures); keeps = keeps_same _ _ }
 
 pub infer-returns-in-FirstTag : goal.infer-returns-in-FirstTag
-infer-returns-in-FirstTag t c = record { walks = λ is. infer_tagged _ _ _ _ _ _ (c.args.here.left - 1) _ _ (a_level c.args.here.left (omega (arith, c.if-here-eq0.false))) (sym is ∙ c.in-FirstTag.is) (infer_first _ _ _ _ _ _ _ c.past-begin.ensures.there ((rw c.part.ensures at c.infer.ensures.walks) c.infer_tag_at.ensures) c.first.ensures); keeps = (rw c.part.ensures at c.infer.ensures.keeps) }
+infer-returns-in-FirstTag t c = record { walks = λ is. infer_tagged _ _ _ _ _ _ (c.args.here.left - 1) _ _ (a_level c.args.here.left (omega (arith, c.if-here-eq0.false))) (sym is ∙ c.in-Some.is ∙ ap Some c.in-FirstTag.is) (infer_first _ _ _ _ _ _ _ c.past-begin.ensures.there ((rw c.part.ensures at c.infer.ensures.walks) c.infer_tag_at.ensures) c.conjunct.ensures); keeps = (rw c.part.ensures at c.infer.ensures.keeps) }
 
 pub infer-returns-in-SecondTag : goal.infer-returns-in-SecondTag
-infer-returns-in-SecondTag t c = record { walks = λ is. infer_tagged _ _ _ _ _ _ (c.args.here.left - 1) _ _ (a_level c.args.here.left (omega (arith, c.if-here-eq0.false))) (sym is ∙ c.in-SecondTag.is) (infer_second _ _ _ _ _ _ _ c.past-begin.ensures.there ((rw c.part-in-SecondTag.ensures at c.infer-in-SecondTag.ensures.walks) c.infer_tag_at-in-SecondTag.ensures) c.second.ensures); keeps = (rw c.part-in-SecondTag.ensures at c.infer-in-SecondTag.ensures.keeps) }
+infer-returns-in-SecondTag t c = record { walks = λ is. infer_tagged _ _ _ _ _ _ (c.args.here.left - 1) _ _ (a_level c.args.here.left (omega (arith, c.if-here-eq0.false))) (sym is ∙ c.in-Some.is ∙ ap Some c.in-SecondTag.is) (infer_second _ _ _ _ _ _ _ c.past-begin.ensures.there ((rw c.part-in-SecondTag.ensures at c.infer-in-SecondTag.ensures.walks) c.infer_tag_at-in-SecondTag.ensures) c.conjunct-in-SecondTag.ensures); keeps = (rw c.part-in-SecondTag.ensures at c.infer-in-SecondTag.ensures.keeps) }
 
 pub infer-returns-else-not-goes_on : goal.infer-returns-else-not-goes_on
-infer-returns-else-not-goes_on t c = record { walks = λ is. infer_tagged _ _ _ _ _ _ (c.args.here.left - 1) _ _ (a_level c.args.here.left (omega (arith, c.if-here-eq0.false))) (sym is ∙ c.in-ApplyTag.is) (infer_apply _ _ _ _ _ _ _ c.past-begin.ensures.there ((rw c.part-in-ApplyTag.ensures at c.infer-part.ensures.walks) c.infer_tag_at-in-ApplyTag.ensures) c.end_in.ensures c.put_to_use-used.ensures.going c.put_to_use-used.ensures.stopped (holds_else c.goes_on.result c.if-not-goes_on.false-raw c.goes_on.ensures) c.part_at.ensures (checks_kept _ _ _ _ _ _ _ _ _ _ (rw c.part-in-ApplyTag.ensures at c.infer-part.ensures.keeps) (rw c.part-in-ApplyTag-2.ensures at c.check-checked.ensures.walks))); keeps = keeps_then (rw c.part-in-ApplyTag.ensures at c.infer-part.ensures.keeps) (rw c.part-in-ApplyTag-2.ensures at c.check-checked.ensures.keeps) }
+infer-returns-else-not-goes_on t c = record { walks = λ is. infer_tagged _ _ _ _ _ _ (c.args.here.left - 1) _ _ (a_level c.args.here.left (omega (arith, c.if-here-eq0.false))) (sym is ∙ c.in-Some.is ∙ ap Some c.in-ApplyTag.is) (infer_apply _ _ _ _ _ _ _ c.past-begin.ensures.there ((rw c.part-in-ApplyTag.ensures at c.infer-part.ensures.walks) c.infer_tag_at-in-ApplyTag.ensures) c.end_in.ensures c.put_to_use-used.ensures.going c.put_to_use-used.ensures.stopped (holds_else c.goes_on.result c.if-not-goes_on.false-raw c.goes_on.ensures) c.part_at.ensures (checks_kept _ _ _ _ _ _ _ _ _ _ (rw c.part-in-ApplyTag.ensures at c.infer-part.ensures.keeps) (rw c.part-in-ApplyTag-2.ensures at c.check-checked.ensures.walks))); keeps = keeps_then (rw c.part-in-ApplyTag.ensures at c.infer-part.ensures.keeps) (rw c.part-in-ApplyTag-2.ensures at c.check-checked.ensures.keeps) }
 
-pub infer-returns-in-InstanceTag : goal.infer-returns-in-InstanceTag
-infer-returns-in-InstanceTag t c = record { walks = λ is. infer_tagged _ _ _ _ _ _ (c.args.here.left - 1) _ _ (a_level c.args.here.left (omega (arith, c.if-here-eq0.false))) (sym is ∙ c.in-InstanceTag.is) (infer_instance _ _ _ _ _ _ _ c.past-begin.ensures.there (term_found _ _ c.term_at-read.ensures.reads) ((rw c.part-in-InstanceTag.ensures at c.infer-part-in-InstanceTag.ensures.walks) c.infer_tag_at-in-InstanceTag.ensures) (c.instance.ensures c.term_at-read.ensures.in_form)); keeps = (rw c.part-in-InstanceTag.ensures at c.infer-part-in-InstanceTag.ensures.keeps) }
+pub infer-returns-in-Some-term_at : goal.infer-returns-in-Some-term_at
+infer-returns-in-Some-term_at t c = record { walks = λ is. infer_tagged _ _ _ _ _ _ (c.args.here.left - 1) _ _ (a_level c.args.here.left (omega (arith, c.if-here-eq0.false))) (sym is ∙ c.in-Some.is ∙ ap Some c.in-InstanceTag.is) (infer_instance _ _ _ _ _ _ _ c.past-begin.ensures.there c.in-Some-term_at.ensures.reads ((rw c.part-in-InstanceTag.ensures at c.infer-part-in-InstanceTag.ensures.walks) c.infer_tag_at-in-InstanceTag.ensures) (c.instance.ensures c.in-Some-term_at.ensures.in_form)); keeps = (rw c.part-in-InstanceTag.ensures at c.infer-part-in-InstanceTag.ensures.keeps) }
 
-pub infer-returns-in-NoInferTag : goal.infer-returns-in-NoInferTag
-infer-returns-in-NoInferTag t c = record { walks = λ is. infer_tagged _ _ _ _ _ _ (c.args.here.left - 1) _ _ (a_level c.args.here.left (omega (arith, c.if-here-eq0.false))) (sym is ∙ c.in-NoInferTag.is) (infer_no_tag _ _ _ _ _ _ _); keeps = keeps_same _ _ }
+pub infer-returns-in_default : goal.infer-returns-in_default
+infer-returns-in_default t c = record { walks = λ is. infer_no_tag _ _ _ _ _ _ _ (sym is ∙ c.in_default.is); keeps = keeps_same _ _ }
+
+pub infer-returns-in_default-term_at : goal.infer-returns-in_default-term_at
+infer-returns-in_default-term_at t c = record { walks = λ is. infer_tagged _ _ _ _ _ _ (c.args.here.left - 1) _ _ (a_level c.args.here.left (omega (arith, c.if-here-eq0.false))) (sym is ∙ c.in-Some.is ∙ ap Some c.in-InstanceTag.is) (infer_no_term _ _ _ _ _ _ _ c.past-begin.ensures.there c.in_default-term_at.ensures.reads); keeps = keeps_same _ _ }
 
 pub pair-returns-then-not-goes_on : goal.pair-returns-then-not-goes_on
 pair-returns-then-not-goes_on t c = record { walks = check_pair_unfit _ _ _ _ _ _ _ _ _ c.sides_of-parts.ensures (fails_where c.goes_on.result c.if-not-goes_on.true-raw c.goes_on.ensures); keeps = keeps_same _ _ }

@@ -1,27 +1,23 @@
 -- Two bytes of predicate and one of count, at most four, and then so many arguments.
-use Rattle.procap.proofs.Handed.{number_told}
+use mathlib.Core.Path.{sym}
 use Rattle.bl.specs.Formulas.{argument}
-use Rattle.formula.specs.Ends.{sorts_of}
 use Rattle.formula.proofs.Endings.{no_predicate, no_count, too_many, arguments_end}
 use Rattle.formula.proofs.ends.arguments_end.Goals as goal
 
-pub returns-in_default : goal.returns-in_default
-returns-in_default c = no_predicate _ _ _ (number_told _ c.in_default.is c.two_bytes_at.ensures.reads)
+pub returns-in_err-after_predicate : goal.returns-in_err-after_predicate
+returns-in_err-after_predicate c = rw c.from_residual.ensures (no_predicate _ _ _ (sym c.in_err-after_predicate.ensures.reads))
 
-pub returns-in_default-byte_at : goal.returns-in_default-byte_at
-returns-in_default-byte_at c =
-    no_count _ _ _ _ _ (number_told _ c.in-Number.is c.two_bytes_at.ensures.reads)
-    (number_told _ c.in_default-byte_at.is c.byte_at.ensures.reads)
+pub returns-in_err-count : goal.returns-in_err-count
+returns-in_err-count c =
+    rw c.from_residual-in_err-count.ensures
+    (no_count _ _ _ _ _ (sym c.in_ok-after_predicate.ensures.reads) (sym c.in_err-count.ensures.reads))
 
 pub returns-then-terms-gt-MOST_TERMS : goal.returns-then-terms-gt-MOST_TERMS
 returns-then-terms-gt-MOST_TERMS c =
-    too_many _ _ _ _ _ (number_told _ c.in-Number.is c.two_bytes_at.ensures.reads)
-    _ _ (number_told _ c.in-Number-byte_at.is c.byte_at.ensures.reads)
-    c.if-terms-gt-MOST_TERMS.true
+    too_many _ _ _ _ _ (sym c.in_ok-after_predicate.ensures.reads) _ _ (sym c.in_ok-count.ensures.reads) c.if-terms-gt-MOST_TERMS.true
 
 pub returns : goal.returns
 returns c =
-    let args = c.args in
-    arguments_end _ (argument args.part.now (sorts_of args.binders)) _ _ _ (number_told _ c.in-Number.is c.two_bytes_at.ensures.reads)
-    _ _ (number_told _ c.in-Number-byte_at.is c.byte_at.ensures.reads)
+    arguments_end _ (argument c.args.part.now c.args.binders.now) _ _ _ (sym c.in_ok-after_predicate.ensures.reads)
+    _ _ (sym c.in_ok-count.ensures.reads)
     c.many_end.result c.if-terms-gt-MOST_TERMS.false c.many_end.ensures

@@ -30,5 +30,5 @@ returns c =
     (holds_else c.is_a.result c.if-not-is_a.false-raw c.is_a.ensures ∙ c.binder_of.ensures)
     c.past.ensures.there
     form
-    c.with-more.ensures
-    c.on_interval.ensures))
+    c.with.ensures
+    refl))

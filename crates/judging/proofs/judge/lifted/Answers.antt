@@ -19,4 +19,4 @@ returns c =
     takes_so (λ x on. (refl, on))
     (at_taken m c.past.ensures.there _ (holds_else c.is_a.result c.if-not-is_a.false-raw c.is_a.ensures)
     c.span_at-span.ensures
-    c.on_interval.ensures)
+    refl)

@@ -4,10 +4,10 @@ use mathlib.Core.Path.{refl, ◌∙◌}
 use Rattle.judging.proofs.RowsUsed.{index_is, local_used}
 use Rattle.judging.proofs.judge.local.Goals as goal
 
-pub returns-then-count-back : goal.returns-then-count-back
-returns-then-count-back c =
+pub returns-then-scope-back : goal.returns-then-scope-back
+returns-then-scope-back c =
     λ state buffer list ps Γ i e s strong assumed few byte below.
-    absurd (omega (arith, c.index_at-back.ensures ∙ index_is _ _ i e byte, c.if-count-back.true))
+    absurd (omega (arith, c.index_at-back.ensures ∙ index_is _ _ i e byte, c.if-scope-back.true))
 
 pub returns : goal.returns
 returns c =

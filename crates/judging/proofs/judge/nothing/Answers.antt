@@ -2,4 +2,4 @@
 use Rattle.judging.proofs.judge.nothing.Goals as goal
 
 pub returns : goal.returns
-returns c = rw c.front_on_ctime-judgement.ensures
+returns c = rw c.front_on_ctime.ensures

@@ -9,17 +9,17 @@ returns-then-index-ge-MOST_ROWS c = λ state buffer list ps x s few strong row. 
 
 pub returns-then-index-scope : goal.returns-then-index-scope
 returns-then-index-scope c =
-    let whose = c.in-Plain.is in
+    let whose = c.in-None.is in
     λ state buffer list ps x s few strong row.
-    shut_row ps _ _ _ s (rw (← c.row_at-row.ensures) at row) whose c.if-index-scope.true
+    shut_row ps _ _ _ s (rw (← c.row_at-whose.ensures) at row) whose c.if-index-scope.true
     (ap (λ r. r.ledger) c.nothing-then-index-scope.ensures ∙ c.misfit-then-index-scope.ensures)
 
 pub returns-else-index-scope : goal.returns-else-index-scope
 returns-else-index-scope c =
     λ state buffer list ps x s few strong row.
-    plain_row ps _ _ _ s (rw (← c.row_at-row.ensures) at row) c.in-Plain.is c.if-index-scope.false refl refl refl
+    plain_row ps _ _ _ s (rw (← c.row_at-whose.ensures) at row) c.in-None.is c.if-index-scope.false refl refl refl
 
-pub returns-in-Claim : goal.returns-in-Claim
-returns-in-Claim c =
+pub returns-in-Some : goal.returns-in-Some
+returns-in-Some c =
     λ state buffer list ps x s few strong row.
-    claim_row ps _ _ _ s (rw (← c.row_at-row.ensures) at row) c.in-Claim.is (c.in_view.ensures ps strong state list s) refl refl
+    claim_row ps _ _ _ s (rw (← c.row_at-whose.ensures) at row) c.in-Some.is (c.in_view.ensures ps strong state list s) refl refl

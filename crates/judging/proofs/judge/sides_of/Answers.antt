@@ -11,4 +11,4 @@ returns-then-not-is_a c =
 pub returns : goal.returns
 returns c =
     λ F two m.
-    sides_there _ m _ _ two (holds_else c.is_a.result c.if-not-is_a.false-raw c.is_a.ensures) c.past-at.ensures.there c.past_formula-end.ensures
+    sides_there _ m _ _ two (holds_else c.is_a.result c.if-not-is_a.false-raw c.is_a.ensures) c.past-first.ensures.there c.past_formula.ensures

@@ -18,6 +18,6 @@ returns c =
     let index = c.args.index in
     let row = c.args.row in
     row_put rows (index * row_numbers) row
-    c.kind.ensures c.value.ensures c.put_two.ensures
+    (grind arith) (grind arith) c.put_two.ensures
     c.put_two-2.ensures c.put_two-3.ensures c.put_two-4.ensures c.put_numbers.ensures
     ∙ sym (put_there rows index row (omega arith) (omega arith))

@@ -1,13 +1,10 @@
 -- The loop has read the number of the bytes passed, which is below 256 to their count.
-use Prim.Native.Nat.{ℕ, ◌+◌, ◌*◌, ◌^◌, ◌≤◌, ◌<◌}
-use mathlib.Core.Path.{◌≡◌, refl, sym, ap, ◌∙◌}
+use Rattle.std.proofs.Common.{arith, ◌≡◌, ◌+◌, ◌^◌, ◌≤◌, ◌<◌, ℕ, ◌*◌, take, drop, refl, sym, ap, ◌∙◌}
+use Rattle.std.proofs.lemmas.Grind.{common_steps}
 use native.Mathlib.Nat.{pow-suc, pow-le-pow_right}
 use native.Mathlib.Numerals.{add-one}
-use native.Mathlib.Omega.{arith}
-use borrow.Author.Tests.{leb-true, not-true, not-false}
-use lib.ListN.{length, take, drop}
 use Rattle.procap.specs.Bytes.{big_endian}
-use Rattle.procap.proofs.Numbers.{one_byte_more, number_read, number_none}
+use Rattle.procap.proofs.Numbers.{number_none, number_read, one_byte_more}
 use Rattle.procap.proofs.bytes.number_at.Goals as goal
 
 -- One byte more makes a number below the next power of 256.
@@ -18,44 +15,35 @@ below_next n i b h l = rw (add-one i, pow-suc 256 i) (omega arith)
 fits_more : (n i : ℕ) → n < 256 ^ i → i < 8 → n * 256 + 255 < 256 ^ 8
 fits_more n i h l = let p : 256 ^ i ≤ 256 ^ 7 = pow-le-pow_right {n = 256} (omega arith) {i = i} {j = 7} (omega arith) in omega arith
 
-pub returns-then-not-has_room : goal.returns-then-not-has_room
-returns-then-not-has_room c =
-    let room = c.has_room in record { reads = number_none _ _ _ (sym room.ensures ∙ not-true room.result c.if-not-has_room.true-raw); bound = tt }
+pub returns-in_err-get-clause-reads : goal.returns-in_err-get-clause-reads
+returns-in_err-get-clause-reads g c = grind (arith, number_none)
 
-pub loop-i-init : goal.loop-i-init
+pub returns-in_err-byte-items-clause-reads : goal.returns-in_err-byte-items-clause-reads
+returns-in_err-byte-items-clause-reads g c = grind (arith, common_steps, number_none)
+
+pub loop-byte-init : goal.loop-byte-init
 unfolding big_endian
-loop-i-init c =
-    let room = c.has_room in
-    let a = c.args in (
-      omega arith,
-      leb-true (a.at + a.count) (length a.bytes.now) (sym room.ensures ∙ not-false room.result c.if-not-has_room.false-raw),
-      omega arith,
-      refl,
-    )
+loop-byte-init g c = (omega arith, refl)
 
 pub overflow_mul-number : goal.overflow_mul-number
-overflow_mul-number c = omega (arith, fits_more _ _ c.loop-i.invariant.2 (omega arith))
+overflow_mul-number g c =
+    let few : c.loop-byte.byte-index < 8 = grind (arith, common_steps) in
+    omega (arith, fits_more _ _ c.loop-byte.invariant.0 few)
 
 pub overflow_add-number : goal.overflow_add-number
-overflow_add-number c =
-    let a = c.args in
-    let i = c.loop-i.i in
-    omega (arith, c.wide.ensures, c.type_inv.bytes (a.at + i), fits_more _ _ c.loop-i.invariant.2 (omega arith))
+overflow_add-number g c =
+    let few : c.loop-byte.byte-index < 8 = grind (arith, common_steps) in
+    let byte : c.from.result < 256 = grind (arith, common_steps) in
+    omega (arith, fits_more _ _ c.loop-byte.invariant.0 few, byte)
 
-pub loop-i-preserved : goal.loop-i-preserved
-loop-i-preserved c =
-    let b = c.wide.ensures in
-    let inv = c.loop-i.invariant in
-    let a = c.args in
-    let i = c.loop-i.i in (
-      omega arith,
-      inv.1,
-      below_next _ i _ inv.2 (omega (arith, b, c.type_inv.bytes (a.at + i))),
-      rw b (one_byte_more a.bytes.now a.at i _ (omega arith) inv.3),
-    )
+pub loop-byte-preserved : goal.loop-byte-preserved
+loop-byte-preserved g c =
+    let byte : c.from.result < 256 = grind (arith, common_steps) in
+    (below_next _ _ _ c.loop-byte.invariant.0 byte, rw c.from.ensures (one_byte_more _ _ _ c.loop-byte-test.true c.loop-byte.invariant.1))
 
-pub returns : goal.returns
-returns c =
-    let inv = c.loop-i.invariant in
+pub returns-clause-reads : goal.returns-clause-reads
+returns-clause-reads g c =
+    let n = g.row.N in
     let a = c.args in
-    let all : c.loop-i.i ≡ a.count = omega (arith, c.loop-i-test.false) in record { reads = number_read a.bytes.now a.count a.at _ inv.1 (inv.3 ∙ ap (λ k. big_endian 0 (take k (drop a.at a.bytes.now))) all); bound = omega (arith, ap (λ k. 256 ^ k) all) }
+    let all : take c.loop-byte.byte-index c.in_ok-byte-items.byte-items.now ≡ take n (drop a.at a.bytes.now) = grind (arith, common_steps) in
+    sym (number_read a.bytes.now n a.at _ (grind (arith, common_steps)) (c.loop-byte.invariant.1 ∙ ap (big_endian 0) all))

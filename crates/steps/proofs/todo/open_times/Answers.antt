@@ -1,20 +1,14 @@
--- A time goes on from a term, and there is none at a name; then another time.
-use mathlib.Core.Path.{◌∙◌}
-use Rattle.procap.proofs.Handed.{term_told}
+-- One time, and then the other.
 use Rattle.steps.specs.Todo.{left}
-use Rattle.steps.proofs.TimesLeft.{no_terms, a_name_first, a_time_first}
+use Rattle.steps.proofs.Opening.{no_times, one_time, two_times}
 use Rattle.steps.proofs.todo.open_times.Goals as goal
 
-pub returns-in-Name : goal.returns-in-Name
-unfolding left
-returns-in-Name c = λ k.
-    a_name_first _ _ k _ _ (term_told _ c.in-Found.is c.term_read.ensures.reads) _ c.in-Name.is
+pub returns-in_err-between : goal.returns-in_err-between
+returns-in_err-between c = λ k. rw c.from_residual.ensures (no_times _ _ k (c.in_err-between.ensures k))
 
-pub returns-in-When : goal.returns-in-When
-returns-in-When c = λ k.
-    c.open_time.ensures k
-    ∙ a_time_first _ _ k _ _ (term_told _ c.in-Found.is c.term_read.ensures.reads) _ c.in-When.is
+pub returns-in_err-next : goal.returns-in_err-next
+returns-in_err-next c = λ k. rw c.from_residual-in_err-next.ensures (one_time _ _ k (c.in_ok-between.ensures k) (c.in_err-next.ensures k))
 
-pub returns-in-NoTerm : goal.returns-in-NoTerm
+pub returns : goal.returns
 unfolding left
-returns-in-NoTerm c = λ k. no_terms _ _ k (term_told _ c.in-NoTerm.is c.term_read.ensures.reads)
+returns c = λ k. two_times _ _ k (c.in_ok-between.ensures k) (c.in_ok-next.ensures k)

@@ -1,4 +1,4 @@
--- With no pair nothing is found, and the empty part of the rows is the strengths of none; else they are found. Either way the
+-- With no pair nothing is found or lent, and these are the strengths of none; else they are found. Either way the
 -- walk goes by the strengths that the pairs give.
 use Rattle.verifier.proofs.ByStrengths.{none_give, found_give, by_strengths}
 use Rattle.verifier.proofs.verify.walked.Goals as goal
@@ -9,4 +9,4 @@ returns-then-pairs-eq0 c =
 
 pub returns : goal.returns
 returns c =
-    by_strengths _ _ _ _ _ _ _ _ _ (λ ps. found_give _ _ ps c.find_strengths.ensures) c.walked_by-2.ensures
+    by_strengths _ _ _ _ _ _ _ _ _ (λ ps. found_give _ _ ps c.found-strengths.ensures) c.walked_by-2.ensures

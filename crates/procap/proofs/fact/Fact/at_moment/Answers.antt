@@ -21,19 +21,17 @@ one_more m i xs ys t l e r =
     let a : get_or ys i no_argument ≡ get_or xs i no_argument = ap (λ zs. get_or zs i no_argument) e ∙ partly_at (put m) no_argument i xs in
     rw add-one (ap₂ (λ zs b. set zs i b) e (ap argument_of r ∙ ap (put m) a) ∙ partly_more (put m) no_argument i xs l)
 
-pub loop-i-init : goal.loop-i-init
+pub loop-argument-init : goal.loop-argument-init
 unfolding partly
-loop-i-init c = (omega arith, refl)
+loop-argument-init c = refl
 
-pub loop-i-preserved : goal.loop-i-preserved
-loop-i-preserved c = (
-  omega arith,
-  one_more _ _ _ _ _
-      (let e : length c.args.self.arguments ≡ most_terms = search mapped in
-      omega (arith, c.loop-i-test.true))
-      c.loop-i.invariant.1
-      c.at_moment.ensures,
-)
+pub loop-argument-preserved : goal.loop-argument-preserved
+loop-argument-preserved c =
+    let e : length c.args.self.arguments ≡ most_terms = search mapped in
+    one_more _ _ _ _ _
+    (omega (arith, c.loop-argument-test.true))
+    c.loop-argument.invariant
+    c.at_moment-argument.ensures
 
 pub returns : goal.returns
 unfolding fact_at_moment
@@ -42,4 +40,4 @@ returns c =
     let e : length fact.arguments ≡ most_terms = search mapped in
     ap
     (λ xs. record { predicate = fact.predicate; count = fact.count; arguments = xs })
-    (c.loop-i.invariant.1 ∙ partly_all (put _) _ _ (omega (arith, c.loop-i-test.false)))
+    (c.loop-argument.invariant ∙ partly_all (put _) _ _ (omega (arith, c.loop-argument-test.false)))

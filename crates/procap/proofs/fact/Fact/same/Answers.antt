@@ -1,44 +1,16 @@
--- The loop has found the terms passed the same. A predicate, a count or a term that differs sets the two facts apart;
--- with none that does they are spelled the same.
-use borrow.Author.Count.{below_none, below_more}
-use Rattle.procap.proofs.Telling.{holds_else, fails_where}
-use Rattle.procap.proofs.Indices.{mapped}
-use Rattle.procap.proofs.Spelling.{same_predicate, same_count, same_at, spelled_same}
-use native.Mathlib.Omega.{arith}
+-- Two facts are spelled the same when their predicates are the same and the arguments that count.
+use mathlib.Core.Path.{◌≡◌}
+use Rattle.std.specs.Bool.{Decides}
+use Rattle.std.proofs.lemmas.Slice.Eq.{slice_eq-Decides}
+use Rattle.procap.proofs.Telling.{tells_other}
+use Rattle.procap.proofs.Compared.{arguments_compared}
+use Rattle.procap.proofs.Spelling.{spelled_by, same_predicate}
 use Rattle.procap.proofs.fact.Fact.same.Goals as goal
 
 pub returns-then-self-other : goal.returns-then-self-other
-returns-then-self-other c = λ s. c.if-self-other.true (same_predicate _ _ s)
+returns-then-self-other c =
+    let same : Decides c.eq.result (c.terms.result.now ≡ c.terms-then-self-other.result.now) = slice_eq-Decides arguments_compared _ _ _ c.eq.ensures in
+    spelled_by c.args.self c.args.other _ c.if-self-other.true (rw (c.terms.ensures, c.terms-then-self-other.ensures) at same)
 
-pub returns-then-terms-at_most_four : goal.returns-then-terms-at_most_four
-returns-then-terms-at_most_four c =
-    λ s.
-    let counts = same_count _ _ s (search mapped) (search mapped) in
-    omega (arith, c.if-terms-at_most_four.true, c.at_most_four-terms.ensures, c.at_most_four.ensures)
-
-pub loop-i-init : goal.loop-i-init
-loop-i-init c = (omega arith, below_none _)
-
-pub returns-then-not-same : goal.returns-then-not-same
-returns-then-not-same c =
-    let told = c.same in
-    let below = c.loop-i-test.true in
-    let one = c.at_most_four-terms in
-    let other = c.at_most_four in
-    λ s.
-    fails_where told.result c.if-not-same.true-raw told.ensures
-    (same_at _ _ s _
-    (omega (arith, one.ensures))
-    (omega (arith, c.if-terms-at_most_four.false, other.ensures)))
-
-pub loop-i-preserved : goal.loop-i-preserved
-loop-i-preserved c =
-    let told = c.same in
-    (omega arith, below_more _ _ c.loop-i.invariant.1 (holds_else told.result c.if-not-same.false-raw told.ensures))
-
-pub returns : goal.returns
-returns c =
-    spelled_same _ _ (search mapped) (search mapped)
-    c.if-self-other.false
-    (omega (arith, c.if-terms-at_most_four.false, c.at_most_four-terms.ensures, c.at_most_four.ensures))
-    (λ k l. c.loop-i.invariant.1 k (omega (arith, c.loop-i-test.false, c.at_most_four-terms.ensures)))
+pub returns-else-self-other : goal.returns-else-self-other
+returns-else-self-other c = tells_other _ _ c.if-self-other.false (λ s. c.if-self-other.false (same_predicate c.args.self c.args.other s))
