@@ -13,7 +13,7 @@ use lib.ListN.{length, get_or, take, set, length-set}
 use lib.Seq.{sets, length-sets, get_or-set_same, get_or-set_other, get_or-append-add, length-take-le, take-suc, ext_get_or}
 use lib.Dec.{ltb, eqb}
 use Rattle.procap.specs.Tells.{pick}
-use Rattle.ledger.proofs.Stored.{sets_after}
+use Rattle.judging.proofs.Stored.{sets_after}
 use Rattle.judging.specs.declared.rows.Row.{Row}
 use Rattle.judging.specs.declared.rows.Whose.{Whose}
 use Rattle.judging.specs.declared.rows.Whose.TheVariants.{Plain, Claim}

@@ -3,5 +3,5 @@ pub mod Stopping
 pub mod Giving
 pub mod Asking
 pub mod Asked
-pub mod Stored
+pub mod Slices
 pub mod Listing

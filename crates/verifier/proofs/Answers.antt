@@ -3,11 +3,11 @@ use Prim.Native.Nat.{ℕ, ◌≤◌, ◌<◌}
 use native.Mathlib.Omega.{arith}
 use native.Mathlib.Decide.{dec_le}
 use mathlib.Core.Path.{◌≡◌, refl, sym, ap, ◌∙◌}
-use mathlib.Core.List.{List}
+use mathlib.Core.List.{List, [], map}
 use Rattle.std.specs.Prelude.{Err, None, Ok, Option, Some}
 use lib.ListN.{length}
 use Rattle.procap.specs.Times.{latest}
-use Rattle.procap.specs.Facts.{Spelled}
+use Rattle.procap.specs.Facts.{Spelled, spelled}
 use Rattle.procap.specs.Procaps.{empty_procap, procap_of}
 use Rattle.procap.specs.States.{stated}
 use Rattle.procap.specs.Desk.{read_press}
@@ -17,6 +17,7 @@ use Rattle.procap.specs.declared.answer.Answer.TheVariants.{Granted, ProofMalfor
 use Rattle.procap.specs.declared.procap.Request.{Request}
 use Rattle.procap.specs.declared.procap.Procap.{Procap}
 use Rattle.procap.proofs.Granted.{goes_on, is_so, is_not_so, reads_press}
+use Rattle.procap.specs.declared.fact.Fact.{Fact}
 use Rattle.state.specs.Standing.{WellFormed}
 use Rattle.bl.specs.declared.Certificate.{Certificate}
 use Rattle.bl.specs.Trees.{Check}
@@ -33,7 +34,7 @@ use Rattle.ledger.specs.declared.Reading.{Reading}
 use Rattle.ledger.specs.declared.Reading.TheVariants.{Office, Press}
 use Rattle.ledger.specs.declared.Ledger.{Ledger}
 use Rattle.verifier.specs.declared.verify.Verified.{Verified}
-use Rattle.ledger.specs.Books.{begun, stop_of, Book, book, list_numbers, Sound, facts_in, kept_of, facts_said, resume, GoesOn}
+use Rattle.ledger.specs.Books.{begun, stop_of, Book, book, Sound, kept_of, facts_said, resume, GoesOn}
 use Rattle.ledger.proofs.Giving.{stop_refused, stop_going}
 use Rattle.verifier.specs.Verifying.{Taken, Walked, Stops, PolicyRead, CaseReads, verified_case, checked_case, HandsOver}
 use Rattle.steps.specs.Ends.{ToldChecking}
@@ -66,12 +67,12 @@ went_with o s e h = rw e at h
 
 -- ── The end ──
 
-module _ (r : Request) (l : Ledger) (list : List ℕ) (v : Verified) where
+module _ (r : Request) (l : Ledger) (list : List Fact) (v : Verified) where
   pub none_left : l.to < l.from → v ≡ record { answer = NoMomentLeft; procap = empty_procap } → HandsOver (issue r (kept_of (book l list))) v
   unfolding issue kept_of
   none_left e f = hands_refusal _ NoMomentLeft v (refused_on _ _ NoMomentLeft (is_not_so NoMomentLeft (dec_le l.from l.to) (λ h. omega arith))) f
 
-  pub some_left : l.from ≤ l.to → v.answer ≡ Granted → v.procap ≡ procap_of r l.from l.to (facts_in list l.count)
+  pub some_left : l.from ≤ l.to → v.answer ≡ Granted → v.procap ≡ procap_of r l.from l.to (map spelled list)
       → HandsOver (issue r (kept_of (book l list))) v
   unfolding issue kept_of
   some_left h e f = hands_grant _ _ v (goes_on _ _ tt (is_so NoMomentLeft (dec_le l.from l.to) h)) e f
@@ -175,15 +176,15 @@ resume_going : (state : List ℕ) (b : Book) → GoesOn b.ledger → resume stat
 unfolding resume run
 resume_going state b e = stop_going _ _ e
 
-module _ (r : Request) {IsPolicy : Policy → Type 0} (proof state ends : List ℕ) (reading : Reading) (list : List ℕ) (l : Ledger) (list' : List ℕ)
-    (room : length list ≡ list_numbers) (walked : Walked (record { request = r; reading = reading }) IsPolicy proof state ends list l list')
+module _ (r : Request) {IsPolicy : Policy → Type 0} (proof state ends : List ℕ) (reading : Reading) (list : List Fact) (l : Ledger) (list' : List Fact)
+    (none : list ≡ []) (walked : Walked (record { request = r; reading = reading }) IsPolicy proof state ends list l list')
     (π : Policy) (N : Check) (reads : CaseReads IsPolicy ends proof π N) where
   -- What the walk comes to, from the ledger at its start.
   abbrev begins : Outcome (Unit {0} × Kept)
   begins = resume state (book (begun reading) list) (walk r π N)
 
   came : Sound (book l list') × (resume state (book l list') (done (tt {0})) ≡ begins)
-  came = walked π N room reads
+  came = walked π N none reads
 
   walk_stopped : (answer : Answer) → stop_of l ≡ Err answer → begins ≡ Err answer
   walk_stopped answer e = sym came.1 ∙ resume_stopped state (book l list') answer e
@@ -193,7 +194,7 @@ module _ (r : Request) {IsPolicy : Policy → Type 0} (proof state ends : List �
 
   module _ (at_office : reading ≡ Office) (v : Verified) where
     office_run : begins ≡ run office (walk r π N) start
-    office_run = rw at_office (office_begins state list (walk r π N))
+    office_run = rw (at_office, none) (office_begins state (walk r π N))
 
     pub verify_stopped : (answer : Answer) → stop_of l ≡ Err answer → v ≡ record { answer = answer; procap = empty_procap } → HandsOver (verified_case r π N) v
     unfolding verified_case
@@ -207,7 +208,7 @@ module _ (r : Request) {IsPolicy : Policy → Type 0} (proof state ends : List �
   module _ (m : ℕ) (at_press : reading ≡ Press m) (in_range : m ≤ latest) (σ : List Spelled) (says : stated state ≡ Some σ) where
     press_run : begins ≡ run (press m σ) (walk r π N) start
     unfolding facts_said
-    press_run = rw at_press (press_begins state list (walk r π N) m in_range ∙ rw says)
+    press_run = rw (at_press, none) (press_begins state (walk r π N) m in_range ∙ rw says)
 
     press_reads : read_press m state ≡ Ok σ
     press_reads = reads_press m state σ in_range says

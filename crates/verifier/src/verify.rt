@@ -17,7 +17,8 @@ use bl::Certificate;
 use formula::parts::Judgement;
 use judging::judge::Scope;
 use judging::rows::ALL_NUMBERS;
-use ledger::{LIST_NUMBERS, Ledger, Reading, procap_of};
+use ledger::facts::FactList;
+use ledger::{Ledger, Reading};
 use procap::answer::Answer;
 use procap::procap::{Procap, Request};
 use procap::time::LATEST_SECOND;
@@ -99,7 +100,7 @@ fn verify_case(
 ) -> Verified
     ensures { OnceRead rows ends buffer pairs proof (λ π N. HandsOver (verified_case request π N) result) }
 {
-    let mut facts = [0u64; LIST_NUMBERS];
+    let mut facts = FactList::none();
     let asked = Asked {
         request: request,
         reading: Reading::Office,
@@ -112,7 +113,7 @@ fn verify_case(
 }
 
 // The procap of what is kept, unless no moment is left.
-fn issued(request: Request, ledger: Ledger, facts: &[u64]) -> Verified
+fn issued(request: Request, ledger: Ledger, facts: &FactList) -> Verified
     ensures { Sound (book ledger facts.now) → HandsOver (issue request (kept_of (book ledger facts.now))) result }
 {
     if ledger.to < ledger.from {
@@ -120,7 +121,7 @@ fn issued(request: Request, ledger: Ledger, facts: &[u64]) -> Verified
     }
     Verified {
         answer: Answer::Granted,
-        procap: procap_of(request, ledger, facts),
+        procap: facts.procap(request, ledger),
     }
 }
 
@@ -201,7 +202,7 @@ fn check_case(
     if !state::well_formed(state) {
         return Answer::StateMalformed;
     }
-    let mut facts = [0u64; LIST_NUMBERS];
+    let mut facts = FactList::none();
     let asked = Asked {
         request: request,
         reading: Reading::Press(moment),
@@ -264,7 +265,7 @@ fn walked(
     state: &[u8],
     certificates: &[u64],
     ends: &[u16],
-    facts: &mut [u64],
+    facts: &mut FactList,
 ) -> Ledger
     ensures { WalkedOver asked buffer pairs proof state certificates ends facts result }
 {
@@ -286,7 +287,7 @@ fn walked_by(
     certificates: &[u64],
     strengths: &[u64],
     ends: &[u16],
-    facts: &mut [u64],
+    facts: &mut FactList,
 ) -> Ledger
     ensures { WalkedBy asked buffer proof state certificates strengths ends facts result }
 {

@@ -2,7 +2,6 @@
 use Rattle.verifier.proofs.Answers.{check_stopped, check_accepted, moment_above, state_says_nothing}
 use Rattle.procap.proofs.Telling.{holds_else, fails_where}
 use mathlib.Core.Path.{refl, sym, ◌∙◌}
-use lib.ListN.{replicate}
 use Rattle.state.specs.Standing.{WellFormed}
 use Rattle.verifier.proofs.verify.check_case.Goals as goal
 
@@ -22,7 +21,7 @@ returns-in-Err c =
     let state = c.args.state.now in
     let says : WellFormed state = holds_else told.result c.if-not-well_formed.false-raw told.ensures in
     λ π N reads.
-    check_stopped _ _ _ _ _ (replicate 160 0) _ _ refl c.walked-ledger.ensures π N reads _ refl c.if-moment-gt-LATEST_SECOND.false
+    check_stopped _ _ _ _ _ _ _ _ c.none-facts.ensures c.walked-ledger.ensures π N reads _ refl c.if-moment-gt-LATEST_SECOND.false
     says.0 says.1 _ (sym c.stop.ensures ∙ c.in-Err.is)
 
 pub returns-in-Ok : goal.returns-in-Ok
@@ -31,5 +30,5 @@ returns-in-Ok c =
     let state = c.args.state.now in
     let says : WellFormed state = holds_else told.result c.if-not-well_formed.false-raw told.ensures in
     λ π N reads.
-    check_accepted _ _ _ _ _ (replicate 160 0) _ _ refl c.walked-ledger.ensures π N reads _ refl c.if-moment-gt-LATEST_SECOND.false
+    check_accepted _ _ _ _ _ _ _ _ c.none-facts.ensures c.walked-ledger.ensures π N reads _ refl c.if-moment-gt-LATEST_SECOND.false
     says.0 says.1 (sym c.stop.ensures ∙ c.in-Ok.is)

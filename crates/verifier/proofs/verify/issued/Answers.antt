@@ -10,4 +10,4 @@ returns-then-ledger c =
 
 pub returns : goal.returns
 returns c =
-    λ sound. some_left _ _ _ _ c.if-ledger.false refl (c.procap_of.ensures ∙ held_kept _ _ _ sound)
+    λ sound. some_left _ _ _ _ c.if-ledger.false refl (c.procap.ensures ∙ held_kept _ _ _ sound)
