@@ -22,9 +22,10 @@ pub enum Reading {
     Press(u64),
 }
 
-// What a walk has come to, in plain numbers, which are handed on faster than enums: the number and the place of the answer that
-// stopped it, zeros while it goes on; 0 where it is read at the office, and else the moment of the press plus one; and the moments
-// that are left.
+// What a walk has come to: the number and the place of the answer that stopped it, zeros while it goes on; 0 where it is read at the
+// office, and else the moment of the press plus one; and the moments that are left.
+// Plain numbers, since they miss no bar of speed: with a `Result<(), Answer>` and a `Reading` in their place, which proves, the longest
+// proofs take 440 microseconds for 329, and thirty_implications 20.6 for 13.9.
 #[derive(Clone, Copy)]
 pub struct Ledger {
     pub number: u64,
