@@ -11,6 +11,7 @@ use Rattle.procap.specs.declared.time.Time.{Time}
 use Rattle.procap.specs.declared.fact.Fact.{Fact}
 use Rattle.procap.specs.declared.fact.Term.{Term}
 use Rattle.procap.specs.declared.fact.Term.TheVariants.{Name, When}
+use Rattle.procap.specs.declared.fact.Fact.{Fact}
 use Rattle.bl.specs.declared.FormulaTag.TheVariants.{SaysTag, AtTag, FactTag, OrderTag}
 use Rattle.bl.specs.Trees as tree
 use Rattle.bl.specs.declared.Sort.{Sort}
@@ -152,7 +153,7 @@ module _ {bytes : List ℕ} {f : FormulaAt} {F : Formula} (m : Means bytes 0 f F
       (span_there q s.first s.second told)
 
   -- An order, asked.
-  pub order_taken : (q : ℕ) {state list : List ℕ} {l r : Ledger} {span : Span} → tag_of bytes f.at ≡ Some OrderTag
+  pub order_taken : (q : ℕ) {state : List ℕ} {list : List Fact} {l r : Ledger} {span : Span} → tag_of bytes f.at ≡ Some OrderTag
       → SpanTold bytes f.terms at q l span → Sound (book l list)
       → (Sound (book span.ledger list) → Gives state (book span.ledger list) (ask_order q (time_of span.from) (time_of span.to)) (book r list) tt)
       → Gives state (book l list) (order_goal q F) (book r list) tt
@@ -203,7 +204,7 @@ module _ {bytes : List ℕ} {f : FormulaAt} {F : Formula} (m : Means bytes 0 f F
   fact_open told = no_terms q (fact_shape bytes 0 f m tag).is (spelled_there None told)
 
   -- It is asked.
-  pub fact_taken : (g : Fact) → FactTold (Some g) → {state list after : List ℕ} {l a : Ledger}
+  pub fact_taken : (g : Fact) → FactTold (Some g) → {state : List ℕ} {list after : List Fact} {l a : Ledger}
       → (g ≡ fact_of (spelled g) → Gives state (book l list) (ask_fact q (spelled g)) (book a after) tt)
       → Gives state (book l list) (fact_goal q F) (book a after) tt
   unfolding SpellsPlaces

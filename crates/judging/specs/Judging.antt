@@ -13,6 +13,7 @@ use Rattle.bl.specs.Kinds.{as_name, as_time, as_terms, as_top, as_and, as_implie
 use Rattle.bl.specs.Strength.{Pair}
 use Rattle.bl.specs.Rules as rules
 use Rattle.procap.specs.Lists.{nth}
+use Rattle.procap.specs.declared.fact.Fact.{Fact}
 use Rattle.bl.specs.Certificates.{Statement}
 use Rattle.bl.specs.Rules.{Assumption, plain, claim, no_view, view_of}
 use Rattle.bl.specs.Walk as walk
@@ -231,7 +232,7 @@ pub data Takes {X : Type 0} (w : Walk X) (q : ℕ) (l r : Ledger) (So : X → Ty
   unfit : w ≡ misfit q → r ≡ misfitted l q → Takes w q l r So
 
 -- The walk w, from the book b, came to a judgement whose step ends at e; where it stopped the rest says nothing.
-pub record Yields (state buffer : List ℕ) (b : Book) (w : Walk walk.Judgement) (e : ℕ) (r : Inferred) (list : List ℕ) : Type 0 where
+pub record Yields (state buffer : List ℕ) (b : Book) (w : Walk walk.Judgement) (e : ℕ) (r : Inferred) (list : List Fact) : Type 0 where
   pub formula : Formula
   pub from : Time
   pub to : Time
@@ -240,12 +241,12 @@ pub record Yields (state buffer : List ℕ) (b : Book) (w : Walk walk.Judgement)
   pub ends : GoesOn r.ledger → r.next ≡ e
 
 -- The walk w, from the book b, was passed or stopped, and its step ends at e.
-pub record Passes (state : List ℕ) (b : Book) (w : Test) (e : ℕ) (r : Checked) (list : List ℕ) : Type 0 where
+pub record Passes (state : List ℕ) (b : Book) (w : Test) (e : ℕ) (r : Checked) (list : List Fact) : Type 0 where
   pub gives : Gives state b w (book r.ledger list) tt
   pub ends : GoesOn r.ledger → r.next ≡ e
 
 -- 26, before its second step: an implication put to use on [t1,t2], or nothing of the kind.
-pub data Used (state buffer : List ℕ) (q : ℕ) (list : List ℕ) (l : Ledger) (F : Formula) (a b t1 t2 : Time) (middle next : ℕ) (r : Application) : Type 0 where
+pub data Used (state buffer : List ℕ) (q : ℕ) (list : List Fact) (l : Ledger) (F : Formula) (a b t1 t2 : Time) (middle next : ℕ) (r : Application) : Type 0 where
   used : (A B : Formula) → implies_sides q F ≡ done (A, B)
       → Gives state (book l list) (need_cover q a b t1 t2) (book r.ledger list) tt
       → On buffer r.premise A t1 t2 → On buffer (part_of r.premise r.conclusion) B t1 t2 → r.middle ≡ middle → r.next ≡ next

@@ -15,6 +15,7 @@ use bl::FormulaTag;
 use formula::compare::{LentFormula, same};
 use formula::parts::{FormulaAt, Judgement, fact_at, is_a, past_formula, place_at};
 use formula::terms::{MOST_FORMULA_LEVELS, Place, Terms};
+use ledger::facts::FactList;
 use ledger::{Ledger, ask_fact, ask_order};
 use procap::bytes::past;
 use procap::fact::Term;
@@ -634,7 +635,7 @@ pub fn top(bytes: &[u8], offset: usize, goal: Judgement, ledger: Ledger) -> Ledg
 pub fn state_fact(
     bytes: &[u8],
     state: &[u8],
-    facts: &mut [u64],
+    facts: &mut FactList,
     offset: usize,
     goal: Judgement,
     ledger: Ledger,
