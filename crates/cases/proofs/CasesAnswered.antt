@@ -1,7 +1,7 @@
 -- What is read of an input, what it comes to, and what is printed for it: of one that is too long, of one with a line that breaks the
 -- form, and of one that is a case.
 use Prim.Native.Nat.{ℕ, ◌≤◌, ◌<◌}
-use mathlib.Core.Path.{◌≡◌, refl, ap, ◌∙◌}
+use mathlib.Core.Path.{◌≡◌, refl, sym, ap, ◌∙◌}
 use mathlib.Core.List.{List}
 use native.Mathlib.Decide.{dec_le}
 use native.Mathlib.Omega.{arith}
@@ -13,10 +13,11 @@ use Rattle.procap.specs.declared.answer.Answer.TheVariants.{InputMalformed}
 use Rattle.procap.specs.declared.procap.Procap.{Procap}
 use Rattle.procap.proofs.Granted.{goes_on, is_so, is_not_so}
 use Rattle.text.specs.Text.{refusal_text}
-use Rattle.text.specs.Calls.{fitting}
+use Rattle.text.specs.Calls.{fitting, writing}
+use Rattle.text.proofs.Written.{can_be_written}
 use Rattle.cases.specs.Case.{most_input, Case, case_lines, case_in}
 use Rattle.cases.specs.Calls.{checked, printed_of, printed, answering}
-use Rattle.cases.proofs.Printables.{verified_of}
+use Rattle.cases.proofs.Printables.{verified_of, checked_is_writable}
 
 module _ (input : List ℕ) where
   -- ── What is read ──
@@ -45,12 +46,12 @@ module _ (input : List ℕ) where
   -- ── What it comes to ──
 
   -- No case is refused with what refuses it.
-  no_case_checked : (answer : Answer) → case_in input ≡ Err answer → checked input ≡ Err answer
+  pub no_case_checked : (answer : Answer) → case_in input ≡ Err answer → checked input ≡ Err answer
   unfolding checked go_on
   no_case_checked answer e = rw e refl
 
   -- A case comes to what verify comes to for it.
-  case_checked : (c : Case) → case_in input ≡ Ok c → checked input ≡ verified_of c
+  pub case_checked : (c : Case) → case_in input ≡ Ok c → checked input ≡ verified_of c
   unfolding checked
   case_checked c e = goes_on (case_in input) verified_of c e
 
@@ -71,13 +72,15 @@ module _ (input : List ℕ) where
   unfolding printed_of
   no_case_printed answer e = printed_by (Err answer) (no_case_checked answer e)
 
-  pub no_case_answered : (room : ℕ) (answer : Answer) → case_in input ≡ Err answer → answering input room ≡ fitting (refusal_text answer) room
-  unfolding printed_of
-  no_case_answered room answer e = answered_by room (Err answer) (no_case_checked answer e)
-
   -- Where there is one, it is what verify comes to for it.
   pub case_printed : (c : Case) → case_in input ≡ Ok c → printed input ≡ printed_of (verified_of c)
   case_printed c e = printed_by (verified_of c) (case_checked c e)
 
-  pub case_answered : (room : ℕ) (c : Case) → case_in input ≡ Ok c → answering input room ≡ fitting (printed_of (verified_of c)) room
-  case_answered room c e = answered_by room (verified_of c) (case_checked c e)
+  -- Where it comes to a procap, this is written; else the two lines of the refusal are.
+  pub issued_answered : (room : ℕ) (p : Procap) → checked input ≡ Ok p → answering input room ≡ writing p room
+  unfolding printed_of
+  issued_answered room p e = answered_by room (Ok p) e ∙ sym (can_be_written p room (checked_is_writable input p e))
+
+  pub refused_answered : (room : ℕ) (answer : Answer) → checked input ≡ Err answer → answering input room ≡ fitting (refusal_text answer) room
+  unfolding printed_of
+  refused_answered room answer e = answered_by room (Err answer) e

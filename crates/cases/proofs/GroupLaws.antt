@@ -1,16 +1,15 @@
 -- Laws of groups: what a group is from its heading and its line of hex, and groups of which some are read and the rest is still to be read.
 use Prim.Native.Nat.{ℕ, suc, ◌+◌, ◌-◌, ◌*◌, ◌≤◌}
-use mathlib.Core.Bool.{true}
-use mathlib.Core.Path.{◌≡◌, refl, sym, ap, ◌∙◌}
+use mathlib.Core.Path.{◌≡◌, refl, sym, ap, ap₂, ◌∙◌}
 use mathlib.Core.List.{List, [], ◌∷◌, ◌++◌, append_assoc, append-nil}
 use Rattle.std.specs.Prelude.{Err, None, Ok, Some}
 use native.Mathlib.Omega.{arith}
+use lib.ListN.{length, length-append}
 use Rattle.procap.specs.Outcome.{Outcome, go_on}
 use Rattle.procap.specs.declared.answer.Answer.{Answer}
 use Rattle.procap.specs.declared.answer.Answer.TheVariants.{InputMalformed}
 use Rattle.procap.specs.declared.time.Time.{Time}
 use Rattle.text.specs.Words.{bytes_of}
-use Rattle.text.specs.declared.line.Form.TheVariants.{Kept}
 use Rattle.cases.specs.CaseLines.{hex_line}
 use Rattle.cases.specs.Case.{Group, heading, group, groups}
 use Rattle.cases.specs.Found.{HexFound, GroupFound}
@@ -43,25 +42,22 @@ module _ (input : List ℕ) (line at : ℕ) where
         four : suc (line + 3) ≡ line + 4
         four = omega arith
 
-    -- The group with its record and its formula in the buffer. The formula's bytes end behind half of what is passed of the input.
-    pub group_found : (start : ℕ) (before : List ℕ) (place end : ℕ) (after : List ℕ) → 2 * start ≤ next
-        → HexFound (hex_line input (bytes_of "says=") next) next start before true place end after
-        → GroupFound (group input line at) line start before
-        (record {
-          form = Kept;
-          certificate = record { principal = by; from = from; to = to; start = start; length = end - start };
-          next = place;
-          end = end;
-        })
+    -- The group with its record, and its formula behind the others. All bytes end behind half of what is passed of the input.
+    pub group_found : (before : List ℕ) (end : ℕ) (after : List ℕ) (start n : ℕ) → 2 * length before ≤ next → start ≡ length before
+        → n ≡ length after → HexFound (hex_line input (bytes_of "says=") next) next before end after
+        → GroupFound (group input line at) line before
+        (record { principal = by; from = from; to = to; start = start; length = n - start }, end)
         after
-    group_found start before place end after behind (says, reads, twice, ends, put) = record {
-      found = record { by = by; from = from; to = to; says = says };
-      reads = group_reads says place reads;
-      its_record = ap (λ n. record { principal = by; from = from; to = to; start = start; length = n }) (omega arith);
-      end = ends;
-      behind = omega arith;
-      put = put;
-    }
+    group_found before end after start n behind s e h =
+        let longer : length after ≡ length before + length h.bytes = ap length h.put ∙ length-append before h.bytes in
+        record {
+          found = record { by = by; from = from; to = to; says = h.bytes };
+          reads = group_reads h.bytes end h.reads;
+          its_record =
+              ap₂ (λ (k l : ℕ). record { principal = by; from = from; to = to; start = k; length = l }) s (omega arith);
+          behind = omega (arith, h.two_places);
+          put = h.put;
+        }
 
 -- ── Groups before others ──
 

@@ -1,8 +1,9 @@
 -- Laws of hex digits: which bytes they are and what they say, and those with which the bytes from a place on begin.
 use Prim.Native.Nat.{ℕ, suc, ◌+◌, ◌-◌, ◌≤◌, ◌<◌}
 use mathlib.Core.Bool.{Bool, true, false, ◌||◌, and-eq-true_iff}
-use mathlib.Core.Path.{◌≡◌, refl, ap, subst, ◌∙◌}
+use mathlib.Core.Path.{◌≡◌, refl, ap, ◌∙◌}
 use mathlib.Core.List.{List, [], ◌∷◌}
+use Rattle.std.specs.Prelude.{None, Option, Some}
 use native.Mathlib.Numerals.{add-one}
 use native.Mathlib.Omega.{arith}
 use lib.ListN.{length, drop, get_or, drop_of_length-le}
@@ -14,18 +15,16 @@ use Rattle.procap.specs.Lists.{All}
 use Rattle.text.specs.Numbers.{is_digit, while_digit}
 use Rattle.cases.specs.Hex.{is_letter, is_hex, hex_value, leading_hex}
 use Rattle.cases.specs.Found.{DigitSays, DigitReads}
-use Rattle.cases.specs.declared.hex.HexDigit.{HexDigit}
-use Rattle.cases.specs.declared.hex.HexDigit.TheVariants.{Value, NoDigit}
 
 -- ── A byte ──
 
 module _ (b : ℕ) where
   -- A byte from '0' to '9', and one from 'a' to 'f', is a digit.
-  pub decimal_digit : 48 ≤ b → b ≤ 57 → DigitSays b (Value (b - 48))
+  pub decimal_digit : 48 ≤ b → b ≤ 57 → DigitSays b (Some (b - 48))
   unfolding is_hex is_digit hex_value
   decimal_digit low high = (rw (le-leb 48 b low, le-leb b 57 high), rw (le-leb 48 b low, le-leb b 57 high), omega arith)
 
-  pub letter_digit : 97 ≤ b → b ≤ 102 → DigitSays b (Value (10 + (b - 97)))
+  pub letter_digit : 97 ≤ b → b ≤ 102 → DigitSays b (Some (10 + (b - 97)))
   unfolding is_hex is_digit is_letter hex_value
   letter_digit low high =
       let past = le-leb 48 b (omega arith) in
@@ -33,15 +32,15 @@ module _ (b : ℕ) where
       (rw (past, no, le-leb 97 b low, le-leb b 102 high), rw (past, no), omega arith)
 
   -- Any other byte is none.
-  pub no_hex_below : b < 48 → DigitSays b NoDigit
+  pub no_hex_below : b < 48 → DigitSays b None
   unfolding is_hex is_digit is_letter
   no_hex_below h = rw (lt-leb 48 b h, lt-leb 97 b (omega arith))
 
-  pub no_hex_between : 57 < b → b < 97 → DigitSays b NoDigit
+  pub no_hex_between : 57 < b → b < 97 → DigitSays b None
   unfolding is_hex is_digit is_letter
   no_hex_between low high = rw (le-leb 48 b (omega arith), lt-leb b 57 low, lt-leb 97 b high)
 
-  pub no_hex_above : 102 < b → DigitSays b NoDigit
+  pub no_hex_above : 102 < b → DigitSays b None
   unfolding is_hex is_digit is_letter
   no_hex_above h =
       rw (le-leb 48 b (omega arith), lt-leb b 57 (omega arith), le-leb 97 b (omega arith), lt-leb b 102 h)
@@ -98,18 +97,13 @@ leading_none b bs e = rw e
 
 module _ (input : List ℕ) (at : ℕ) where
   -- There is none past the end.
-  pub no_hex_past : length input ≤ at → DigitReads input at NoDigit
+  pub no_hex_past : length input ≤ at → DigitReads input at None
   unfolding leading_hex
   no_hex_past l = rw (drop_of_length-le input l)
 
   -- What the byte there says is what reads there.
-  pub digit_stands : at < length input → (r : HexDigit) → DigitSays (get_or input at 0) r → DigitReads input at r
-  digit_stands l (Value d) h =
-      let b = get_or input at 0 in
-      let first = ap leading_hex (drop-cons input at 0 l) ∙ leading_one b (drop (suc at) input) h.0 in
-      (b, h.1, h.2, l, rw add-one first)
-  digit_stands l NoDigit h = ap leading_hex (drop-cons input at 0 l) ∙ leading_none (get_or input at 0) (drop (suc at) input) h
-
-  -- What was handed back as a digit, or as none, is so read.
-  pub hex_told : {r s : HexDigit} → r ≡ s → DigitReads input at r → DigitReads input at s
-  hex_told e h = subst (DigitReads input at) e h
+  pub digit_stands : at < length input → (b : ℕ) → b ≡ get_or input at 0 → (r : Option ℕ) → DigitSays b r → DigitReads input at r
+  digit_stands l b e (Some d) h =
+      let first = ap leading_hex (drop-cons input at 0 l) ∙ leading_one (get_or input at 0) (drop (suc at) input) (rw e at h.0) in
+      (b, h.1, h.2, l, rw (e, add-one) first)
+  digit_stands l b e None h = ap leading_hex (drop-cons input at 0 l) ∙ leading_none (get_or input at 0) (drop (suc at) input) (rw e at h)

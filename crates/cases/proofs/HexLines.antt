@@ -1,38 +1,24 @@
 -- Laws of lines of hex: a line reads as the bytes of its pairs where a line feed stands after these. A line feed is no digit; so where one
 -- stands after the pairs these are all digits, and where none does, either a digit is left over or the line's end is missing.
 use Prim.Native.Nat.{ℕ, ◌+◌, ◌*◌, ◌%◌, ◌≤◌}
-use mathlib.Core.Bool.{true, false, not}
+use mathlib.Core.Bool.{true, false}
 use mathlib.Core.Path.{◌≡◌, refl, ap, ◌∙◌}
 use mathlib.Core.List.{List, [], ◌∷◌, ◌++◌, append-nil}
-use Rattle.std.specs.Prelude.{None, Option, Some}
+use Rattle.std.specs.Prelude.{None, Option, Some, option_map}
 use native.Mathlib.Omega.{arith}
 use lib.ListN.{length, drop, length-append}
-use borrow.Author.Tests.{eq-eqb, ne_eqb, not-true, not-false}
+use borrow.Author.Tests.{eq-eqb, ne_eqb}
 use Rattle.procap.specs.Bytes.{then, ensure}
 use Rattle.procap.proofs.Readers.{so_read}
 use Rattle.text.specs.Numbers.{is_digit}
 use Rattle.text.specs.Words.{bytes_of}
 use Rattle.text.specs.Line.{literal}
 use Rattle.text.proofs.Readers.{Takes, literal_read}
+use Rattle.text.proofs.Words.{no_word, word_to}
 use Rattle.cases.specs.Hex.{is_letter, is_hex, leading_hex, in_pairs, paired}
 use Rattle.cases.specs.CaseLines.{hex_digits, hex_line}
-use Rattle.cases.specs.Found.{PairsPut, HexReads, HexFound}
-use Rattle.cases.specs.declared.hex.PairsRead.{PairsRead}
-use Rattle.cases.specs.declared.hex.HexRead.{HexRead}
+use Rattle.cases.specs.Found.{PairsPut, HexReads}
 use Rattle.cases.proofs.HexDigits.{leading_none}
-
--- With the flag false, nothing is read.
-pub hex_unread : (o : Option (List ℕ × ℕ)) (at start : ℕ) (before : List ℕ) (r : HexRead) (after : List ℕ) → r.found ≡ false → o ≡ None
-    → HexReads o at start before r after
-hex_unread o at start before r after f h = rw f h
-
--- A line of hex, or none, by the flag as the code tests it.
-module _ (o : Option (List ℕ × ℕ)) (at start : ℕ) (before : List ℕ) (r : HexRead) (after : List ℕ) where
-  pub hex_missing : not r.found ≡ true → HexReads o at start before r after → o ≡ None
-  hex_missing f h = rw (not-true r.found f) at h
-
-  pub hex_found : not r.found ≡ false → HexReads o at start before r after → HexFound o at start before true r.next r.end after
-  hex_found f h = rw (not-false r.found f) at h
 
 -- Twice as many digits as bytes are in pairs, and one more are not.
 even_in_pairs : (ds : List ℕ) → length ds ≡ 2 * length (paired ds) → in_pairs ds ≡ true
@@ -79,30 +65,38 @@ module _ (input word : List ℕ) (at : ℕ) where
       unfolding hex_line hex_digits then ensure
       hex_here next o n = rw (e, d, o, n)
 
-    module _ (start : ℕ) (before : List ℕ) (r : PairsRead) (after : List ℕ) (p : PairsPut input first start before r after) where
+    module _ (before : List ℕ) (pairs_end : ℕ) (after : List ℕ) (p : PairsPut input first before pairs_end after) where
       -- With no digit left the digits are those of the pairs.
-      just_pairs : leading_hex (drop r.next input) ≡ [] → leading_hex (drop first input) ≡ p.digits
+      just_pairs : leading_hex (drop pairs_end input) ≡ [] → leading_hex (drop first input) ≡ p.digits
       just_pairs z = p.all_digits ∙ ap (λ xs. p.digits ++ xs) z ∙ append-nil p.digits
 
       -- A line feed after the pairs ends the line, which passed two places for each byte.
-      pub hex_ends : (next : ℕ) → literal input (bytes_of "\n") r.next ≡ Some (tt, next)
+      hex_ends : (next : ℕ) → literal input (bytes_of "\n") pairs_end ≡ Some (tt, next)
           → hex_line input word at ≡ Some (paired p.digits, next)
       hex_ends next n =
-          let all = just_pairs (no_hex_at_end input r.next next n) in
+          let all = just_pairs (no_hex_at_end input pairs_end next n) in
           hex_here p.digits all next (even_in_pairs p.digits p.two_by_two) (rw p.place at n)
 
-      pub two_places : (next : ℕ) → literal input (bytes_of "\n") r.next ≡ Some (tt, next)
+      two_places : (next : ℕ) → literal input (bytes_of "\n") pairs_end ≡ Some (tt, next)
           → at + 2 * length (paired p.digits) ≤ next
       two_places next n =
-          omega (arith, word_forward, p.place, p.two_by_two, (word_takes input (bytes_of "\n") r.next next n).place)
+          omega (arith, word_forward, p.place, p.two_by_two, (word_takes input (bytes_of "\n") pairs_end next n).place)
 
       -- With none there the line does not read.
-      pub hex_ends_not : literal input (bytes_of "\n") r.next ≡ None → hex_line input word at ≡ None
-      hex_ends_not n = by (leading_hex (drop r.next input)) refl p.one_left
+      hex_ends_not : literal input (bytes_of "\n") pairs_end ≡ None → hex_line input word at ≡ None
+      hex_ends_not n = by (leading_hex (drop pairs_end input)) refl p.one_left
         where
-          by : (rest : List ℕ) → leading_hex (drop r.next input) ≡ rest → length rest ≤ 1 → hex_line input word at ≡ None
+          by : (rest : List ℕ) → leading_hex (drop pairs_end input) ≡ rest → length rest ≤ 1 → hex_line input word at ≡ None
           by [] z l = hex_no_end p.digits (just_pairs z) (even_in_pairs p.digits p.two_by_two) (rw p.place at n)
           by (d ∷ []) z l =
               let all = p.all_digits ∙ ap (λ xs. p.digits ++ xs) z in
               hex_odd (p.digits ++ (d ∷ [])) all (odd_in_no_pairs p.digits d p.two_by_two)
           by (d ∷ f ∷ rest) z l = absurd (omega arith)
+
+      -- So the line is what comes of looking for its end there.
+      pub hex_by_end : (r : Option ℕ) → r ≡ option_map (λ (x : Unit {0} × ℕ). x.1) (literal input (bytes_of "\n") pairs_end)
+          → HexReads (hex_line input word at) at before r after
+      hex_by_end None e = hex_ends_not (no_word _ e)
+      hex_by_end (Some next) e =
+          let n = word_to _ next e in
+          record { bytes = paired p.digits; reads = hex_ends next n; two_places = two_places next n; put = p.put }

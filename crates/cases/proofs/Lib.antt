@@ -10,13 +10,12 @@ pub mod GroupLaws
 pub mod Records
 pub mod GroupsSoFar
 pub mod WholeCases
-pub mod TwoParts
 pub mod CasesInForm
 pub mod Refusals
 pub mod Printables
 pub mod CasesAnswered
 pub mod CasesFound
-pub mod OutcomesWritten
+pub mod OutcomesHanded
 pub mod Fitting
 pub mod AlwaysPrinted
 pub mod Samples

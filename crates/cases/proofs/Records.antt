@@ -4,15 +4,13 @@ use mathlib.Core.Path.{◌≡◌, refl, sym, ap, ap₂, ◌∙◌}
 use mathlib.Core.List.{List, [], ◌∷◌, ◌++◌, append_assoc, append-nil}
 use native.Mathlib.Nat.{add-zero}
 use native.Mathlib.Omega.{arith}
-use lib.ListN.{length, set, length-append}
+use lib.ListN.{length, take, set, length-append}
 use lib.Seq.{take_at}
 use Rattle.procap.specs.Lists.{pad}
 use Rattle.procap.proofs.Indices.{pad_more}
 use Rattle.bl.specs.declared.Certificate.{Certificate}
 use Rattle.verifier.specs.Verifying.{no_record}
 use Rattle.cases.specs.Case.{Group, buffer_of, record_at, records_from}
-use Rattle.cases.specs.Found.{kept_records}
-use Rattle.cases.specs.declared.groups.Records.{Records}
 
 -- The formula of a group more comes after the others.
 pub buffer_more : (gs : List Group) (g : Group) → buffer_of (gs ++ (g ∷ [])) ≡ buffer_of gs ++ g.says
@@ -53,8 +51,8 @@ record_stored n gs g i end counted e l =
     its_record : record_at end g ≡ record_at (0 + length (buffer_of gs)) g
     its_record = ap (λ k. record_at k g) (omega arith)
 
--- The records of an array that has zeros past those of the groups are those of the groups.
-pub records_kept : (n : ℕ) (rs : Records) (gs : List Group) → length gs ≡ rs.count → rs.records ≡ pad n no_record (records_from 0 gs)
-    → kept_records rs ≡ records_from 0 gs
+-- The first of an array that has zeros past the records of the groups are these records.
+pub records_kept : (n count : ℕ) (records : List Certificate) (gs : List Group) → length gs ≡ count
+    → records ≡ pad n no_record (records_from 0 gs) → take count records ≡ records_from 0 gs
 unfolding pad
-records_kept n rs gs counted kept = rw kept (take_at (records_from 0 gs) _ rs.count (as_many_records 0 gs ∙ counted))
+records_kept n count records gs counted kept = rw kept (take_at (records_from 0 gs) _ count (as_many_records 0 gs ∙ counted))

@@ -1,7 +1,7 @@
 -- Laws of a line with a time: what the time is by the first of its three readers that finds one, what makes the line, and that its place
 -- does not go back.
 use Prim.Native.Nat.{ℕ, ◌≤◌}
-use mathlib.Core.Path.{◌≡◌, subst}
+use mathlib.Core.Path.{◌≡◌}
 use mathlib.Core.List.{List}
 use Rattle.std.specs.Prelude.{None, Option, Some}
 use native.Mathlib.Omega.{arith}
@@ -14,12 +14,6 @@ use Rattle.text.specs.Words.{bytes_of}
 use Rattle.text.specs.Line.{literal, number_to}
 use Rattle.text.proofs.Readers.{literal_read, number_read}
 use Rattle.cases.specs.CaseLines.{first_of, sign, moment, case_time, time_line}
-use Rattle.cases.specs.Found.{TimeReads}
-use Rattle.cases.specs.declared.lines.TimeRead.{TimeRead}
-
--- What was handed back as a time, or as none, is so read.
-pub time_told : (o : Option (Time × ℕ)) {r s : TimeRead} → r ≡ s → TimeReads o r → TimeReads o s
-time_told o e h = subst (TimeReads o) e h
 
 -- ── The time ──
 

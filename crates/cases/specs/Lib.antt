@@ -4,4 +4,3 @@ pub mod CaseLines
 pub mod Case
 pub mod Calls
 pub mod Found
-pub mod Printing

@@ -1,17 +1,17 @@
 // The groups of a case: who says what, and when.
-ghost use Rattle.std.specs.Prelude.{◌≡◌, ◌*◌, ◌≤◌, length};
+ghost use Rattle.std.specs.Prelude.{◌≡◌, ◌*◌, ◌≤◌, [], length};
 ghost use Rattle.bl.specs.Certificates.{most_certificates};
 ghost use Rattle.verifier.specs.Verifying.{no_record};
-ghost use Rattle.cases.specs.Case.{first_group_line, heading, group, groups};
+ghost use Rattle.cases.specs.Case.{most_input, first_group_line, heading, group, groups};
 ghost use Rattle.cases.specs.Found.{HeadingReads, GroupReads, GroupsReads};
 
-use crate::hex::hex_line;
-use crate::lines::{TimeRead, time_line};
+use crate::hex::{MOST_BYTES, hex_line};
+use crate::lines::time_line;
 use bl::Certificate;
-use procap::bytes::NumberRead;
+use front::Front;
 use procap::time::Time;
 use procap::writable::LARGEST_NAME;
-use text::line::Form;
+use text::line::BrokenLine;
 use verifier::certificates::MOST_CERTIFICATES;
 
 // The number of the first group's first line.
@@ -19,184 +19,78 @@ pub const FIRST_GROUP_LINE: u16 = 5;
 // How many lines a group has.
 pub const GROUP_LINES: u16 = 4;
 
-// The records of the groups that were read: the first `count` of them.
+// What the lines of a group before its formula say: who says it, from when and to when.
 #[derive(Clone, Copy)]
-pub struct Records {
-    pub count: usize,
-    pub records: [Certificate; MOST_CERTIFICATES],
-}
-
-// Whether the lines of a group before its formula were read, what they say, and the place after them.
-#[derive(Clone, Copy)]
-pub struct HeadingRead {
-    pub form: Form,
+pub struct Heading {
     pub by: u16,
     pub from: Time,
     pub to: Time,
-    pub next: usize,
 }
 
-// Whether a group was read, its record, and the places after it and after the bytes of its formula.
-#[derive(Clone, Copy)]
-pub struct GroupRead {
-    pub form: Form,
-    pub certificate: Certificate,
-    pub next: usize,
-    pub end: usize,
-}
-
-// Whether all groups were read, their records, and the places after them and after the bytes of their formulas.
-#[derive(Clone, Copy)]
-pub struct GroupsRead {
-    pub form: Form,
-    pub certificates: Records,
-    pub next: usize,
-    pub end: usize,
-}
-
-// So many groups from a place on; the bytes of their formulas are put at the front of the buffer, one after another.
-pub(crate) fn groups_at(input: &[u8], at: usize, count: usize, bytes: &mut [u8]) -> GroupsRead
-    requires room { length input.now ≤ 2 * length bytes.old }
+// The records of so many groups from a place on, and the place after them; the bytes of their formulas are put one after another.
+pub(crate) fn groups_at(
+    input: &[u8],
+    at: usize,
+    count: usize,
+    bytes: &mut Front<u8, MOST_BYTES>,
+) -> Result<(Front<Certificate, MOST_CERTIFICATES>, usize), BrokenLine>
+    requires short { length input.now ≤ most_input }
     requires few { count ≤ most_certificates }
-    ensures { GroupsReads (groups input.now count first_group_line at) count bytes.old result bytes.new }
+    requires empty { bytes.old ≡ [] }
+    ensures { GroupsReads (groups input.now count first_group_line at) count result bytes.new }
 {
-    let none = no_record();
-    let mut records = [none; MOST_CERTIFICATES];
+    let mut records = [no_record(); MOST_CERTIFICATES];
     let mut next = at;
-    let mut end: usize = 0;
-    let mut i: usize = 0;
-    while i < count {
-        let read = group_at(
-            input,
-            next,
-            FIRST_GROUP_LINE + GROUP_LINES * i as u16,
-            bytes,
-            end,
-        );
-        let form = read.form;
-        if let Form::BrokenAt(broken) = form {
-            return no_groups(broken);
-        }
-        let certificate = read.certificate;
-        records[i] = certificate;
-        next = read.next;
-        end = read.end;
-        i += 1;
+    for i in 0..count {
+        let line = FIRST_GROUP_LINE + GROUP_LINES * i as u16;
+        let (record, after_group) = group_at(input, next, line, bytes)?;
+        records[i] = record;
+        next = after_group;
     }
-    let certificates = Records {
-        count: count,
-        records: records,
-    };
-    GroupsRead {
-        form: Form::Kept,
-        certificates: certificates,
-        next: next,
-        end: end,
-    }
+    Ok((Front::of(records, count), next))
 }
 
-// What is handed back where a line breaks the form of the groups.
-fn no_groups(broken: usize) -> GroupsRead
-    ensures { result.form ≡ Form.BrokenAt broken }
+// The record of the group whose first line has this number, and the place after it; the bytes of its formula are put behind the others.
+fn group_at(
+    input: &[u8],
+    at: usize,
+    line: u16,
+    bytes: &mut Front<u8, MOST_BYTES>,
+) -> Result<(Certificate, usize), BrokenLine>
+    requires short { length input.now ≤ most_input }
+    requires behind { 2 * length bytes.old ≤ at }
+    ensures { GroupReads (group input.now line at) line bytes.old result bytes.new }
 {
-    let certificates = no_certificates();
-    GroupsRead {
-        form: Form::BrokenAt(broken),
-        certificates: certificates,
-        next: 0,
-        end: 0,
-    }
-}
-
-// The group whose first line has this number; the bytes of its formula are put into the buffer from `start` on.
-fn group_at(input: &[u8], at: usize, line: u16, bytes: &mut [u8], start: usize) -> GroupRead
-    requires room { length input.now ≤ 2 * length bytes.old }
-    requires behind { 2 * start ≤ at }
-    ensures { GroupReads (group input.now line at) line start bytes.old result bytes.new }
-{
-    let heading = heading_at(input, at, line);
-    let form = heading.form;
-    if let Form::BrokenAt(broken) = form {
-        return no_group(broken);
-    }
-    let says = hex_line(input, heading.next, b"says=", bytes, start);
-    if !says.found {
-        return no_group(line as usize + 3);
-    }
-    let from = heading.from;
-    let to = heading.to;
-    let certificate = Certificate {
+    let (heading, after_heading) = heading_at(input, at, line)?;
+    let start = bytes.len();
+    let formula_line = BrokenLine(line as usize + 3);
+    let next = hex_line(input, after_heading, b"says=", bytes).ok_or(formula_line)?;
+    let record = Certificate {
         principal: heading.by,
-        from: from,
-        to: to,
-        start: start,
-        length: says.end - start,
+        from: heading.from,
+        to: heading.to,
+        start,
+        length: bytes.len() - start,
     };
-    GroupRead {
-        form: Form::Kept,
-        certificate: certificate,
-        next: says.next,
-        end: says.end,
-    }
+    Ok((record, next))
 }
 
-// What is handed back where a line breaks the form of a group.
-fn no_group(broken: usize) -> GroupRead
-    ensures { result.form ≡ Form.BrokenAt broken }
-{
-    let none = no_record();
-    GroupRead {
-        form: Form::BrokenAt(broken),
-        certificate: none,
-        next: 0,
-        end: 0,
-    }
-}
-
-// The lines of a group before its formula: who says it, from when and to when.
-fn heading_at(input: &[u8], at: usize, line: u16) -> HeadingRead
+// The lines of a group before its formula, the first of which has this number, and the place after them.
+fn heading_at(input: &[u8], at: usize, line: u16) -> Result<(Heading, usize), BrokenLine>
     ensures { HeadingReads (heading input.now line at) line at result }
 {
-    let NumberRead::Number(by, after_by) = text::line::line(input, at, b"by=", LARGEST_NAME) else {
-        return no_heading(line as usize);
-    };
-    let TimeRead::Found(from, after_from) = time_line(input, after_by, b"from=") else {
-        return no_heading(line as usize + 1);
-    };
-    let TimeRead::Found(to, next) = time_line(input, after_from, b"to=") else {
-        return no_heading(line as usize + 2);
-    };
-    HeadingRead {
-        form: Form::Kept,
+    let first = line as usize;
+    let (by, after_by) = text::line::line(input, at, b"by=", LARGEST_NAME).ok_or(BrokenLine(
+        first,
+    ))?;
+    let (from, after_from) = time_line(input, after_by, b"from=").ok_or(BrokenLine(first + 1))?;
+    let (to, next) = time_line(input, after_from, b"to=").ok_or(BrokenLine(first + 2))?;
+    let heading = Heading {
         by: by as u16,
-        from: from,
-        to: to,
-        next: next,
-    }
-}
-
-// What is handed back where a line breaks the form of a heading.
-fn no_heading(broken: usize) -> HeadingRead
-    ensures { result.form ≡ Form.BrokenAt broken }
-{
-    HeadingRead {
-        form: Form::BrokenAt(broken),
-        by: 0,
-        from: Time::MinusInfinity,
-        to: Time::MinusInfinity,
-        next: 0,
-    }
-}
-
-// No records.
-pub(crate) fn no_certificates() -> Records
-    ensures { result.count ≡ 0 }
-{
-    let none = no_record();
-    Records {
-        count: 0,
-        records: [none; MOST_CERTIFICATES],
-    }
+        from,
+        to,
+    };
+    Ok((heading, next))
 }
 
 // A record of zeros.

@@ -1,119 +1,68 @@
 // Bytes in lower-case hex.
-ghost use Rattle.std.specs.Prelude.{Bool, ◌≡◌, ◌*◌, ◌≤◌, length};
+ghost use Rattle.std.specs.Prelude.{◌*◌, ◌≤◌, length};
+ghost use Rattle.cases.specs.Case.{most_input};
 ghost use Rattle.cases.specs.CaseLines.{hex_line};
-ghost use Rattle.cases.specs.Found.{DigitSays, DigitReads, PairsPut, HexReads};
+ghost use Rattle.cases.specs.Found.{DigitSays, DigitReads, PairReads, PairsPut, HexReads};
 
-use text::line::{Place, after};
+use front::Front;
+use text::line::after;
 
-// A hex digit, by its value, or none.
-#[derive(Clone, Copy)]
-pub enum HexDigit {
-    Value(u8),
-    NoDigit,
-}
+// How many bytes can be spelled in hex by the longest case.
+pub(crate) const MOST_BYTES: usize = 32_768;
 
-// The place after some pairs of hex digits, and the place after the bytes that they say.
-#[derive(Clone, Copy)]
-pub struct PairsRead {
-    pub next: usize,
-    pub end: usize,
-}
-
-// Whether a line of hex was read, the place after it, and the place after the bytes that it says.
-#[derive(Clone, Copy)]
-pub struct HexRead {
-    pub found: bool,
-    pub next: usize,
-    pub end: usize,
-}
-
-// The line of a word and of bytes in hex, which are put into the buffer from `start` on.
+// The line of a word and of bytes in hex, which are put behind those that are there; the place after the line.
 pub(crate) fn hex_line(
     input: &[u8],
     at: usize,
     word: &[u8],
-    bytes: &mut [u8],
-    start: usize,
-) -> HexRead
-    requires room { length input.now ≤ 2 * length bytes.old }
-    requires behind { 2 * start ≤ at }
-    ensures { HexReads (hex_line input.now word.now at) at start bytes.old result bytes.new }
+    bytes: &mut Front<u8, MOST_BYTES>,
+) -> Option<usize>
+    requires short { length input.now ≤ most_input }
+    requires behind { 2 * length bytes.old ≤ at }
+    ensures { HexReads (hex_line input.now word.now at) at bytes.old result bytes.new }
 {
-    let Place::At(first) = after(input, at, word) else {
-        return no_hex();
-    };
-    let pairs = pairs_at(input, first, bytes, start);
-    let Place::At(next) = after(input, pairs.next, b"\n") else {
-        return no_hex();
-    };
-    HexRead {
-        found: true,
-        next: next,
-        end: pairs.end,
-    }
+    let first = after(input, at, word)?;
+    let pairs_end = pairs_at(input, first, bytes);
+    after(input, pairs_end, b"\n")
 }
 
-// What is handed back where no line of hex was read.
-fn no_hex() -> HexRead
-    ensures { result.found ≡ Bool.false }
-{
-    HexRead {
-        found: false,
-        next: 0,
-        end: 0,
-    }
-}
-
-// Puts the bytes that pairs of hex digits say into the buffer, as far as the pairs go.
-fn pairs_at(input: &[u8], at: usize, bytes: &mut [u8], start: usize) -> PairsRead
-    requires room { length input.now ≤ 2 * length bytes.old }
-    requires behind { 2 * start ≤ at }
-    ensures { PairsPut input.now at start bytes.old result bytes.new }
+// Puts the bytes that pairs of hex digits say behind those that are there, as far as the pairs go; the place after them.
+fn pairs_at(input: &[u8], at: usize, bytes: &mut Front<u8, MOST_BYTES>) -> usize
+    requires short { length input.now ≤ most_input }
+    requires behind { 2 * length bytes.old ≤ at }
+    ensures { PairsPut input.now at bytes.old result bytes.new }
 {
     let mut next = at;
-    let mut end = start;
-    loop {
-        let HexDigit::Value(high) = digit_at(input, next) else {
-            break;
-        };
-        let HexDigit::Value(low) = digit_at(input, next + 1) else {
-            break;
-        };
-        bytes[end] = high * 16 + low;
+    while let Some(byte) = pair_at(input, next) {
+        bytes.push(byte);
         next += 2;
-        end += 1;
     }
-    PairsRead {
-        next: next,
-        end: end,
-    }
+    next
+}
+
+// The byte that the two hex digits at a place say.
+fn pair_at(input: &[u8], at: usize) -> Option<u8>
+    ensures { PairReads input.now at result }
+{
+    let high = digit_at(input, at)?;
+    let low = digit_at(input, at + 1)?;
+    Some(high * 16 + low)
 }
 
 // The hex digit that stands at a place.
-fn digit_at(input: &[u8], at: usize) -> HexDigit
+fn digit_at(input: &[u8], at: usize) -> Option<u8>
     ensures { DigitReads input.now at result }
 {
-    if input.len() <= at {
-        return HexDigit::NoDigit;
-    }
-    digit_of(input[at])
+    digit_of(*input.get(at)?)
 }
 
 // What a byte says as a hex digit.
-fn digit_of(byte: u8) -> HexDigit
+fn digit_of(byte: u8) -> Option<u8>
     ensures { DigitSays byte result }
 {
-    if byte < b'0' {
-        return HexDigit::NoDigit;
+    match byte {
+        b'0'..=b'9' => Some(byte - b'0'),
+        b'a'..=b'f' => Some(10 + (byte - b'a')),
+        _ => None,
     }
-    if byte <= b'9' {
-        return HexDigit::Value(byte - b'0');
-    }
-    if byte < b'a' {
-        return HexDigit::NoDigit;
-    }
-    if byte <= b'f' {
-        return HexDigit::Value(10 + (byte - b'a'));
-    }
-    HexDigit::NoDigit
 }

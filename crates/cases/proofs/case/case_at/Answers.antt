@@ -1,25 +1,22 @@
 -- The request and the line of the count are read one after another, and the case says what the rest says. The count is at most 32.
-use native.Mathlib.Omega.{arith}
-use Rattle.procap.proofs.Handed.{number_told, bound_told}
-use Rattle.text.proofs.Forms.{broken_handed}
-use Rattle.text.proofs.Requests.{request_kept, request_broken_at}
+use mathlib.Core.Path.{sym, ◌∙◌}
+use Rattle.text.proofs.Forms.{broken_on, missing_on}
 use Rattle.cases.proofs.WholeCases.{request_broken, no_certs, case_says}
 use Rattle.cases.proofs.case.case_at.Goals as goal
 
-pub returns-in-BrokenAt : goal.returns-in-BrokenAt
-returns-in-BrokenAt c =
-    let call = c.request_at-asked in
-    broken_handed _ _ c.no_case.ensures
-    (request_broken _ _ _ _ (request_broken_at _ call.result c.in-BrokenAt.is call.ensures))
+pub returns-in_err-request : goal.returns-in_err-request
+returns-in_err-request c =
+    broken_on _ _ _ _ c.from_residual.ensures.1 (request_broken _ _ _ _ c.in_err-request.ensures)
 
-pub returns-in_default-line : goal.returns-in_default-line
-returns-in_default-line c =
-    broken_handed _ _ c.no_case-in_default-line.ensures
-    (no_certs _ _ _ _ _ _ (request_kept _ c.request_at-asked.result c.in_default.is c.request_at-asked.ensures) (number_told _ c.in_default-line.is c.line.ensures.reads))
+pub returns-in_err-count : goal.returns-in_err-count
+returns-in_err-count c =
+    let none = c.in_err-count.ensures in
+    missing_on _ _ _ _ c.from_residual-in_err-count.ensures.1 _ 4 none.value none.ok_part
+    (no_certs _ _ _ _ _ _ c.in_ok-request.ensures (sym c.line-certs.ensures.reads ∙ none.ok_part))
 
-pub case_with-requires : goal.case_with-requires
-case_with-requires c = record { room = omega arith; few = bound_told _ c.in-Number.is c.line.ensures.bound }
+pub case_with-requires-clause-few : goal.case_with-requires-clause-few
+case_with-requires-clause-few c = rw c.in_ok-count.ensures.ok_part at c.line-certs.ensures.bound
 
 pub returns : goal.returns
 returns c =
-    rw (case_says _ _ _ _ _ _ (request_kept _ c.request_at-asked.result c.in_default.is c.request_at-asked.ensures) _ _ (number_told _ c.in-Number.is c.line.ensures.reads)) c.case_with.ensures
+    rw (case_says _ _ _ _ _ _ c.in_ok-request.ensures _ _ (sym c.line-certs.ensures.reads ∙ c.in_ok-count.ensures.ok_part)) c.case_with.ensures

@@ -1,22 +1,19 @@
 -- The three readers are tried one after another at the same place: a minus, a plus, and a moment.
-use Rattle.procap.proofs.Handed.{number_told}
-use Rattle.text.proofs.Lines.{place_told}
+use mathlib.Core.Path.{sym, ◌∙◌}
+use Rattle.text.proofs.Words.{no_word, word_to}
 use Rattle.cases.proofs.Times.{minus_here, plus_here, moment_here, no_time}
 use Rattle.cases.proofs.lines.time_at.Goals as goal
 
-pub returns-in-At : goal.returns-in-At
-returns-in-At c = minus_here _ _ _ (place_told _ c.in-At.is c.after.ensures)
+pub returns-in-Some : goal.returns-in-Some
+returns-in-Some c = sym (minus_here _ _ _ (word_to _ _ c.in-Some.ensures))
 
-pub returns-in-At-after : goal.returns-in-At-after
-returns-in-At-after c =
-    plus_here _ _ (place_told _ c.in_default.is c.after.ensures) _ (place_told _ c.in-At-after.is c.after-2.ensures)
+pub returns-in-Some-after : goal.returns-in-Some-after
+returns-in-Some-after c = sym (plus_here _ _ (no_word _ c.in_default.ensures) _ (word_to _ _ c.in-Some-after.ensures))
 
-pub returns-in-Number : goal.returns-in-Number
-returns-in-Number c =
-    moment_here _ _ (place_told _ c.in_default.is c.after.ensures) (place_told _ c.in_default-after.is c.after-2.ensures) _ _
-    (number_told _ c.in-Number.is c.number.ensures.reads)
+pub returns-in_err-second : goal.returns-in_err-second
+returns-in_err-second c =
+    c.from_residual.ensures
+    ∙ sym (no_time _ _ (no_word _ c.in_default.ensures) (no_word _ c.in_default-after.ensures) (sym c.in_err-second.ensures.reads))
 
-pub returns-in-NoNumber : goal.returns-in-NoNumber
-returns-in-NoNumber c =
-    no_time _ _ (place_told _ c.in_default.is c.after.ensures) (place_told _ c.in_default-after.is c.after-2.ensures)
-    (number_told _ c.in-NoNumber.is c.number.ensures.reads)
+pub returns : goal.returns
+returns c = sym (moment_here _ _ (no_word _ c.in_default.ensures) (no_word _ c.in_default-after.ensures) _ _ (sym c.in_ok-second.ensures.reads))
