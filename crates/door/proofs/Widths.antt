@@ -4,6 +4,7 @@ use Prim.Native.Nat.{ℕ, suc, ◌+◌, ◌-◌, ◌≤◌, ◌<◌}
 use mathlib.Core.Bool.{Bool, true, false}
 use mathlib.Core.Path.{◌≡◌, refl, sym, ap, ◌∙◌}
 use mathlib.Core.List.{List}
+use mathlib.Core.Logic.{◌⊎◌, inl, inr}
 use Rattle.std.specs.Prelude.{Err, None, Ok, Option, Result, Some, ok_or}
 use native.Mathlib.Omega.{arith}
 use lib.ListN.{length, get_or}
@@ -17,7 +18,6 @@ use Rattle.procap.specs.declared.tag.TermTag.TheVariants.{NameTag, MomentTag, Mi
 use Rattle.procap.proofs.Numbers.{number_read}
 use Rattle.procap.proofs.Readers.{IfRead, unread, read, so_read, then_read, ensure_read, Ends, number_ends}
 use Rattle.procap.proofs.ReadApart.{if_read, as_read, same_read, not_read, first_of, none_of}
-use Rattle.door.specs.Holding.{width}
 use Rattle.state.proofs.Terms.{no_term, unsettled, by_tag}
 
 -- ── A term ──
@@ -30,6 +30,22 @@ tag_found (Some t) h k = cc
 pub tag_missing : (o : Option TermTag) {e f : NoTag} {r : Result TermTag NoTag} → r ≡ ok_or o e → r ≡ Err f → o ≡ None
 tag_missing None h k = refl
 tag_missing (Some t) h k = cc
+
+-- How many bytes a term takes, by its tag.
+abbrev pub width : TermTag → ℕ
+width NameTag = 3
+width MomentTag = 6
+width MinusInfinityTag = 1
+width PlusInfinityTag = 1
+width CtimeTag = 1
+width VariableTag = 1
+
+-- A term that is all in its tag takes one.
+pub one_byte : (tag : TermTag) → (tag ≡ MinusInfinityTag) ⊎ ((tag ≡ PlusInfinityTag) ⊎ ((tag ≡ CtimeTag) ⊎ (tag ≡ VariableTag))) → width tag ≡ 1
+one_byte tag (inl e) = ap width e
+one_byte tag (inr (inl e)) = ap width e
+one_byte tag (inr (inr (inl e))) = ap width e
+one_byte tag (inr (inr (inr e))) = ap width e
 
 module _ (bytes : List ℕ) where
   -- A number of k bytes ends k places on.

@@ -4,7 +4,7 @@ ghost use Rattle.procap.specs.Tells.{Tells};
 ghost use Rattle.procap.specs.Facts.{Spelled, spelled};
 ghost use Rattle.procap.specs.Procaps.{HoldsAt};
 ghost use Rattle.procap.specs.States.{settled_term, fact, stated};
-ghost use Rattle.door.specs.Holding.{StandsAt, width};
+ghost use Rattle.door.specs.Holding.{StandsAt};
 
 use procap::bytes::number_at;
 use procap::fact::{Fact, Term};
@@ -61,19 +61,12 @@ fn past_term(state: &[u8], at: usize) -> usize
     let Ok(tag) = TermTag::try_from(*byte) else {
         return at + 1;
     };
-    at + width(tag)
-}
-
-// How many bytes a term with this tag takes.
-fn width(tag: TermTag) -> usize
-    ensures { result ≡ width tag }
-{
     match tag {
-        TermTag::NameTag => 3,
-        TermTag::MomentTag => 6,
+        TermTag::NameTag => at + 3,
+        TermTag::MomentTag => at + 6,
         TermTag::MinusInfinityTag
         | TermTag::PlusInfinityTag
         | TermTag::CtimeTag
-        | TermTag::VariableTag => 1,
+        | TermTag::VariableTag => at + 1,
     }
 }

@@ -1,6 +1,7 @@
 -- What comparing promises of its parts: places one after another, a predicate with its places, and the formulas that follow.
 use Rattle.std.specs.Prelude.{ℕ, suc, ◌≤◌, ◌<◌, ◌≡◌, List, map, length, Some}
 use Rattle.procap.specs.Bytes.{number, byte, many}
+use Rattle.procap.specs.declared.fact.Fact.{Fact}
 use Rattle.bl.specs.declared.FormulaTag.{FormulaTag}
 use Rattle.bl.specs.declared.Sort.{Sort}
 use Rattle.bl.specs.Trees.{Place, Formula}
@@ -19,7 +20,7 @@ use Rattle.formula.specs.Meaning.{tag_of, begin, Means, Compares}
 -- The walk w leads from the one ledger to the other; and where it goes on, it comes to the place e on the left and to e' on the right.
 abbrev pub LeadsTo : Ledger → Test → Compared → ℕ → ℕ → Type 0
 LeadsTo l w r e e' =
-    (state list : List ℕ) → Sound (book l list)
+    (state : List ℕ) (list : List Fact) → Sound (book l list)
     → Gives state (book l list) w (book r.ledger list) tt
     × (GoesOn r.ledger → (r.left_next ≡ e) × (r.right_next ≡ e'))
 

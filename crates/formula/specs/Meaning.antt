@@ -81,7 +81,7 @@ FormulaEnds bytes left at r =
 abbrev pub Compares : List ℕ → FormulaAt → List ℕ → FormulaAt → ℕ → ℕ → Ledger → ℕ → Ledger → ℕ → ℕ → Type 0
 Compares left_bytes left right_bytes right d q l levels r left_next right_next =
     (F G : Formula) (m : Means left_bytes d left F) (n : Means right_bytes d right G) → m.level ≤ levels
-    → (state list : List ℕ) → Sound (book l list)
+    → (state : List ℕ) (list : List Fact) → Sound (book l list)
     → Gives state (book l list) (same q F G) (book r list) tt × (GoesOn r → (left_next ≡ m.end) × (right_next ≡ n.end))
 
 -- A fact read from the bytes spells these places; or there is none, since a variable is left among them.

@@ -17,7 +17,7 @@ use Rattle.formula.specs.declared.parts.Judgement.{Judgement}
 use Rattle.formula.specs.declared.terms.Place as code
 use Rattle.formula.specs.declared.terms.Place.TheVariants.{Fixed}
 use Rattle.formula.specs.declared.parts.Head.{Head}
-use Rattle.formula.specs.declared.compare.Side.{Side}
+use Rattle.formula.specs.declared.compare.LentFormula.{LentFormula}
 use Rattle.formula.specs.declared.compare.Pair.{Pair}
 use Rattle.formula.specs.declared.compare.Spot.{Spot}
 use Rattle.formula.specs.declared.compare.Compared.{Compared}
@@ -55,7 +55,7 @@ HeadEnds bytes at r =
     (sorts : List Sort) (p : ℕ) (xs : List Place) (e : ℕ) → predicate_and bytes.entry.now (argument bytes.entry.now sorts) at ≡ Some ((p, xs), e) → r ≡ Some e
 
 -- Comparing two formulas.
-abbrev pub ComparesOver : Side → Side → ℕ → ℕ → Ledger → ℕ → Compared → Type 0
+abbrev pub ComparesOver : LentFormula → LentFormula → ℕ → ℕ → Ledger → ℕ → Compared → Type 0
 ComparesOver left right d q l levels r =
     Compares left.bytes.now left.formula right.bytes.now right.formula d q l levels r.ledger r.left_next r.right_next
 

@@ -25,7 +25,7 @@ pub struct Compared {
 
 // A formula to compare, and the bytes that it stands in.
 #[derive(Clone, Copy)]
-pub struct Side<'a> {
+pub struct LentFormula<'a> {
     pub bytes: &'a [u8],
     pub formula: FormulaAt,
 }
@@ -33,8 +33,8 @@ pub struct Side<'a> {
 // Two formulas to compare, and the offset of the step that asks.
 #[derive(Clone, Copy)]
 struct Pair<'a> {
-    left: Side<'a>,
-    right: Side<'a>,
+    left: LentFormula<'a>,
+    right: LentFormula<'a>,
     offset: usize,
 }
 
@@ -48,8 +48,8 @@ struct Spot {
 
 // Whether the left formula is the right one; both may stand under so many binders that no term was put in for.
 pub fn same(
-    left: Side<'_>,
-    right: Side<'_>,
+    left: LentFormula<'_>,
+    right: LentFormula<'_>,
     under: usize,
     offset: usize,
     ledger: Ledger,

@@ -32,13 +32,11 @@ impl Judgement {
     pub fn front_on_ctime() -> Judgement
         ensures { result ≡ front_on_ctime }
     {
-        let terms = Terms::none();
-        let formula = FormulaAt {
-            at: 0,
-            terms: terms,
-        };
         Judgement {
-            formula: formula,
+            formula: FormulaAt {
+                at: 0,
+                terms: Terms::none(),
+            },
             from: Time::ctime().numbers(),
             to: Time::ctime().numbers(),
         }
@@ -177,7 +175,8 @@ fn past_head(bytes: &[u8], at: usize) -> Option<usize>
     past_places(bytes, head.next, head.count)
 }
 
-// Where a formula of at most so many levels ends.
+// Where a formula of at most so many levels ends. (`ends::formula_end` asks of each place its sort besides, of bytes that may be no
+// formula; here they are one, and no binders are carried along.)
 pub fn past_formula(bytes: &[u8], at: usize, left: u64) -> Option<usize>
     ensures { FormulaEnds bytes.now left at result }
 {

@@ -13,6 +13,7 @@ pub const MOST_BINDERS: usize = 8;
 pub const TERMS_NUMBERS: usize = MOST_BINDERS;
 
 // The terms put in for the binders passed, the latest last: one number each.
+// No invariant bounds the count: a row that judging is lent keeps these numbers in fixed memory, and may hold any.
 #[derive(Clone, Copy)]
 pub struct Terms {
     pub count: usize,

@@ -31,7 +31,8 @@ pub fn desk_door_on_value(
     as_number(open(value_of(value), request, moment, state), 0)
 }
 
-// How many of so many presses in a row go through, all of them with the same procap, at the same moment and in the same state. Its text is read once.
+// How many of so many presses in a row go through, all of them with the same procap, at the same moment and in the same state. Its text is
+// read once.
 pub fn desk_presses(
     text: &[u8],
     who: u16,

@@ -1,38 +1,19 @@
 // Numbers and terms of a fixed width, at a place of some bytes. Where the bytes end before, they are zeros.
-ghost use Rattle.std.specs.Prelude.{◌≡◌, ◌+◌, ◌<◌};
-ghost use Rattle.from_c.specs.Numbers.{one, two, eight, wide_term};
+ghost use Rattle.std.specs.Prelude.{◌≡◌, ◌-◌, ◌^◌, ◌≤◌, ◌<◌};
+ghost use Rattle.procap.specs.Bytes.{number};
+ghost use Rattle.from_c.specs.Numbers.{or_zero, wide_term};
 
-use procap::bytes::{NumberRead, byte_at, eight_bytes_at, two_bytes_at};
+use procap::bytes::number_at;
 use procap::fact::Term;
 
-// The number of one byte.
-pub(crate) fn one_at(bytes: &[u8], at: usize) -> u8
-    ensures { result ≡ one bytes.now at }
+// The number of N bytes, eight at the most.
+#[tactic(auto, unfolding(crate::specs::Numbers::or_zero))]
+pub(crate) fn number_or_zero<const N: usize>(bytes: &[u8], at: usize) -> u64
+    requires { N ≤ 8 }
+    ensures value { result ≡ or_zero (number bytes.now N at) }
+    ensures bound { result ≤ 256 ^ N - 1 }
 {
-    match byte_at(bytes, at) {
-        NumberRead::Number(number, _) => number as u8,
-        NumberRead::NoNumber => 0,
-    }
-}
-
-// The number of two bytes.
-pub(crate) fn two_at(bytes: &[u8], at: usize) -> u16
-    ensures { result ≡ two bytes.now at }
-{
-    match two_bytes_at(bytes, at) {
-        NumberRead::Number(number, _) => number as u16,
-        NumberRead::NoNumber => 0,
-    }
-}
-
-// The number of eight bytes.
-pub(crate) fn eight_at(bytes: &[u8], at: usize) -> u64
-    ensures { result ≡ eight bytes.now at }
-{
-    match eight_bytes_at(bytes, at) {
-        NumberRead::Number(number, _) => number,
-        NumberRead::NoNumber => 0,
-    }
+    number_at::<N>(bytes, at).map_or(0, |(number, _)| number)
 }
 
 // The term of nine bytes: its kind, and the number that it holds.
@@ -40,5 +21,8 @@ pub(crate) fn term_at(bytes: &[u8], at: usize) -> Term
     requires { at < usize.MAX }
     ensures { result ≡ wide_term bytes.now at }
 {
-    Term::of_numbers(one_at(bytes, at) as u64, eight_at(bytes, at + 1))
+    Term::of_numbers(
+        number_or_zero::<1>(bytes, at),
+        number_or_zero::<8>(bytes, at + 1),
+    )
 }

@@ -17,7 +17,8 @@ use text::reader::read_text;
 use text::writer::write_text;
 use verifier::verify::{direct, verify};
 
-// Verifies, and puts the text of the procap at the front of the buffer that is lent for it: 13 where it is shorter. The answer comes as one number.
+// Verifies, and puts the text of the procap at the front of the buffer that is lent for it: 13 where it is shorter. The answer comes as one
+// number.
 pub fn office_verify(
     who: u16,
     what: u16,

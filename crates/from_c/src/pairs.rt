@@ -3,7 +3,7 @@ ghost use Rattle.std.specs.Prelude.{◌≡◌, ◌+◌, ◌≤◌, take};
 ghost use Rattle.std.proofs.Common.{rules};
 ghost use Rattle.from_c.specs.Pairs.{pair_bytes, pairs_at_most, pair_at, pair_numbers};
 
-use crate::numbers::two_at;
+use crate::numbers::number_or_zero;
 use crate::row::{Front, InARow, front_of};
 
 // How many pairs are lent on at the most: one more than are taken, so that too many stay too many.
@@ -28,6 +28,6 @@ impl InARow for u32 {
     ghost takes_some = { Prim.search rules };
 
     fn at(bytes: &[u8], at: usize) -> u32 {
-        two_at(bytes, at) as u32 * 65_536 + two_at(bytes, at + 2) as u32
+        number_or_zero::<2>(bytes, at) as u32 * 65_536 + number_or_zero::<2>(bytes, at + 2) as u32
     }
 }

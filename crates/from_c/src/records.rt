@@ -3,7 +3,7 @@ ghost use Rattle.std.specs.Prelude.{◌≡◌, ◌+◌, ◌≤◌, length, take}
 ghost use Rattle.std.proofs.Common.{rules};
 ghost use Rattle.from_c.specs.Records.{record_bytes, lent_at_most, records_in, record_at, whole_record, no_record, time_of};
 
-use crate::numbers::{eight_at, term_at, two_at};
+use crate::numbers::{number_or_zero, term_at};
 use crate::row::{Front, InARow, front_of};
 use bl::Certificate;
 use procap::fact::Term;
@@ -46,11 +46,11 @@ fn whole_record(bytes: &[u8], at: usize) -> Certificate
     ensures { result ≡ whole_record bytes.now at }
 {
     Certificate {
-        principal: two_at(bytes, at),
+        principal: number_or_zero::<2>(bytes, at) as u16,
         from: time_of(term_at(bytes, at + 2)),
         to: time_of(term_at(bytes, at + 11)),
-        start: eight_at(bytes, at + 20) as usize,
-        length: eight_at(bytes, at + 28) as usize,
+        start: number_or_zero::<8>(bytes, at + 20) as usize,
+        length: number_or_zero::<8>(bytes, at + 28) as usize,
     }
 }
 

@@ -3,7 +3,7 @@ ghost use Rattle.std.specs.Prelude.{◌≡◌, ◌+◌, ◌≤◌, length};
 ghost use Rattle.std.proofs.Common.{rules};
 ghost use Rattle.from_c.specs.Values.{value_bytes, term_bytes, fact_bytes, argument_at, fact_at, value_of};
 
-use crate::numbers::{eight_at, one_at, term_at, two_at};
+use crate::numbers::{number_or_zero, term_at};
 use crate::row::{InARow, in_a_row};
 use procap::fact::{Argument, Fact, MOST_TERMS, Term};
 use procap::procap::{MOST_FACTS, Procap, Request};
@@ -21,11 +21,15 @@ pub(crate) fn value_of(bytes: &[u8]) -> Procap
     ensures { result ≡ value_of bytes.now }
 {
     Procap {
-        version: one_at(bytes, 0),
-        request: Request::of(two_at(bytes, 1), two_at(bytes, 3), two_at(bytes, 5)),
-        from: eight_at(bytes, 7),
-        to: eight_at(bytes, 15),
-        count: one_at(bytes, 23) as usize,
+        version: number_or_zero::<1>(bytes, 0) as u8,
+        request: Request::of(
+            number_or_zero::<2>(bytes, 1) as u16,
+            number_or_zero::<2>(bytes, 3) as u16,
+            number_or_zero::<2>(bytes, 5) as u16,
+        ),
+        from: number_or_zero::<8>(bytes, 7),
+        to: number_or_zero::<8>(bytes, 15),
+        count: number_or_zero::<1>(bytes, 23) as usize,
         facts: in_a_row(bytes, FACTS_START, MOST_FACTS, Fact::none()),
     }
 }
@@ -45,8 +49,8 @@ impl InARow for Fact {
             term: Term::Name(0),
         };
         Fact {
-            predicate: two_at(bytes, at),
-            count: one_at(bytes, at + 2) as usize,
+            predicate: number_or_zero::<2>(bytes, at) as u16,
+            count: number_or_zero::<1>(bytes, at + 2) as usize,
             arguments: in_a_row(bytes, at + TERMS_START, MOST_TERMS, none),
         }
     }

@@ -9,6 +9,7 @@ use Rattle.procap.specs.declared.time.Time.{Time}
 use Rattle.procap.specs.declared.answer.Answer.{Answer}
 use Rattle.procap.specs.declared.answer.Answer.TheVariants.{StepUnfit}
 use Rattle.procap.proofs.Granted.{no_grant}
+use Rattle.procap.specs.declared.fact.Fact.{Fact}
 use Rattle.bl.specs.Trees.{Formula}
 use Rattle.bl.specs.Questions.{Walk, done, misfit, asks, ◌>>=◌, Test}
 use Rattle.bl.specs.Readings.{run}
@@ -26,7 +27,7 @@ use Rattle.judging.proofs.StepWalks.{use_implication}
 
 -- ── Lines that pass, and lines that do not fit ──
 
-module _ {A : Type 0} {state list : List ℕ} {l : Ledger} {w : Walk A} (s : Sound (book l list)) where
+module _ {A : Type 0} {state : List ℕ} {list : List Fact} {l : Ledger} {w : Walk A} (s : Sound (book l list)) where
   pub passes : {a : A} → w ≡ done a → Gives state (book l list) w (book l list) a
   passes {a} e = rw e (idle state (book l list) a s)
 
@@ -80,49 +81,49 @@ comes_with state b m w c y so =
     record { value = y; gives = then state b m m w c.value (λ _. done y) y c.gives (idle state m y c.gives.sound); so = λ _. so }
 
 -- A part that takes a value or does not fit.
-pub comes_taken : {X : Type 0} (state list : List ℕ) (w : Walk X) (q : ℕ) (l r : Ledger) (So : X → Type 0) → X → Sound (book l list) → Takes w q l r So
+pub comes_taken : {X : Type 0} (state : List ℕ) (list : List Fact) (w : Walk X) (q : ℕ) (l r : Ledger) (So : X → Type 0) → X → Sound (book l list) → Takes w q l r So
     → Comes state (book l list) w (book r list) So
 comes_taken state list w q l r So y s (takes x e f so) = record { value = x; gives = rw f (passes s e); so = λ _. so }
 comes_taken state list w q l r So y s (unfit e f) = record { value = y; gives = stops s e f; so = λ g. absurd (misfitted_ends l q f g) }
 
 -- A step that infers, and one that checks.
-unfoldable pub comes_inferred : (state buffer : List ℕ) (b : Book) (w : Walk walk.Judgement) (e : ℕ) (r : Inferred) (list : List ℕ) → Yields state buffer b w e r list
+unfoldable pub comes_inferred : (state buffer : List ℕ) (b : Book) (w : Walk walk.Judgement) (e : ℕ) (r : Inferred) (list : List Fact) → Yields state buffer b w e r list
     → Comes state b w (book r.ledger list) (λ j. On buffer r.judgement j.0 j.1 j.2 × (r.next ≡ e))
 comes_inferred state buffer b w e r list y =
     record { value = (y.formula, y.from, y.to); gives = y.gives; so = λ g. (y.on g, y.ends g) }
 
-pub comes_checked : (state : List ℕ) (b : Book) (w : Test) (e : ℕ) (r : Checked) (list : List ℕ) → Passes state b w e r list
+pub comes_checked : (state : List ℕ) (b : Book) (w : Test) (e : ℕ) (r : Checked) (list : List Fact) → Passes state b w e r list
     → Comes state b w (book r.ledger list) (λ _. r.next ≡ e)
 comes_checked state b w e r list p = record { value = tt; gives = p.gives; so = p.ends }
 
 -- And back.
-pub comes_yields : (state buffer : List ℕ) (b : Book) (w : Walk walk.Judgement) (e : ℕ) (r : Inferred) (list : List ℕ)
+pub comes_yields : (state buffer : List ℕ) (b : Book) (w : Walk walk.Judgement) (e : ℕ) (r : Inferred) (list : List Fact)
     → Comes state b w (book r.ledger list) (λ j. On buffer r.judgement j.0 j.1 j.2 × (r.next ≡ e))
     → Yields state buffer b w e r list
 comes_yields state buffer b w e r list c =
     record { formula = c.value.0; from = c.value.1; to = c.value.2; gives = c.gives; on = λ g. (c.so g).0; ends = λ g. (c.so g).1 }
 
-comes_passes : (state : List ℕ) (b : Book) (w : Test) (e : ℕ) (r : Checked) (list : List ℕ) → Comes state b w (book r.ledger list) (λ _. r.next ≡ e)
+comes_passes : (state : List ℕ) (b : Book) (w : Test) (e : ℕ) (r : Checked) (list : List Fact) → Comes state b w (book r.ledger list) (λ _. r.next ≡ e)
     → Passes state b w e r list
 comes_passes state b w e r list c = record { gives = c.gives; ends = c.so }
 
 -- A test that is passed as something is taken, or does not fit.
-pub passes_taken : {state list : List ℕ} {w : Test} {q : ℕ} {l : Ledger} {e : ℕ} {r : Checked} → Sound (book l list) → Takes w q l r.ledger (λ _. r.next ≡ e)
+pub passes_taken : {state : List ℕ} {list : List Fact} {w : Test} {q : ℕ} {l : Ledger} {e : ℕ} {r : Checked} → Sound (book l list) → Takes w q l r.ledger (λ _. r.next ≡ e)
     → Passes state (book l list) w e r list
 passes_taken {state} {list} {w} {q} {l} {e} {r} s t =
     comes_passes state (book l list) w e r list (comes_taken state list w q l r.ledger (λ _. r.next ≡ e) tt s t)
 
 -- A test on the interval of a judgement is one on the interval that it is of.
-pub passes_on : (state bytes : List ℕ) (j : Judgement) (A : Formula) (a b : Time) → On bytes j A a b → (w : Time → Time → Test) (k : Book) (e : ℕ) (r : Checked) (list : List ℕ)
+pub passes_on : (state bytes : List ℕ) (j : Judgement) (A : Formula) (a b : Time) → On bytes j A a b → (w : Time → Time → Test) (k : Book) (e : ℕ) (r : Checked) (list : List Fact)
     → Passes state k (w (from_of j) (to_of j)) e r list → Passes state k (w a b) e r list
 passes_on state bytes j A a b on w k e r list p = rw (← on.from, ← on.to) p
 
 -- A part, and then a test that is passed; where the part has stopped, the end says nothing.
-module _ {X : Type 0} (state : List ℕ) (b : Book) (w : Walk X) {So : X → Type 0} (l : Ledger) (list : List ℕ) (c : Comes state b w (book l list) So) (g : X → Test) (e : ℕ) where
+module _ {X : Type 0} (state : List ℕ) (b : Book) (w : Walk X) {So : X → Type 0} (l : Ledger) (list : List Fact) (c : Comes state b w (book l list) So) (g : X → Test) (e : ℕ) where
   pub passes_halted : (GoesOn l → ⊥) → (next : ℕ) → Passes state b (and_then w g) e (record { ledger = l; next = next }) list
   passes_halted n next = comes_passes state b (and_then w g) e (record { ledger = l; next = next }) list (comes_halted state b (book l list) w g c tt n)
 
-  pub passes_then : GoesOn l → (r : Checked) (list' : List ℕ) → (Sound (book l list) → (x : X) → So x → Passes state (book l list) (g x) e r list')
+  pub passes_then : GoesOn l → (r : Checked) (list' : List Fact) → (Sound (book l list) → (x : X) → So x → Passes state (book l list) (g x) e r list')
       → Passes state b (and_then w g) e r list'
   passes_then going r list' rest =
       comes_passes state b (and_then w g) e r list'
@@ -142,7 +143,7 @@ misfit_stops state b r q a s h e =
     never_granted (stop_of b.ledger) (StepUnfit q) (a, kept_of r) (sym (stop_going (stop_of r.ledger) (Ok (a, kept_of r)) e) ∙ same)
 
 -- 26, before its second step.
-pub comes_used : (state buffer : List ℕ) (q : ℕ) (list : List ℕ) (l : Ledger) (F : Formula) (a b t1 t2 : Time) (middle next : ℕ) (r : Application)
+pub comes_used : (state buffer : List ℕ) (q : ℕ) (list : List Fact) (l : Ledger) (F : Formula) (a b t1 t2 : Time) (middle next : ℕ) (r : Application)
     → Sound (book l list) → Used state buffer q list l F a b t1 t2 middle next r
     → Comes state (book l list) (use_implication q t1 t2 (F, a, b)) (book r.ledger list)
     (λ x. On buffer r.premise x.0 t1 t2 × On buffer (part_of r.premise r.conclusion) x.1 t1 t2 × (r.middle ≡ middle) × (r.next ≡ next))

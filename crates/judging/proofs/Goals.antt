@@ -4,7 +4,7 @@ use native.Mathlib.Omega.{arith}
 use mathlib.Core.Path.{◌≡◌, refl, ◌∙◌}
 use mathlib.Core.List.{List, [], ◌∷◌}
 use Rattle.std.specs.Prelude.{Some}
-use Rattle.procap.specs.Bytes.{then, ensure, big_endian, next, number, term_by, many, predicate_and}
+use Rattle.procap.specs.Bytes.{then, present, ensure, big_endian, next, number, term_by, many, predicate_and}
 use Rattle.procap.specs.declared.procap.Request.{Request}
 use Rattle.bl.specs.Trees.{Formula, says, atom}
 use Rattle.bl.specs.Formulas.{place_of as of-the-sort, fixed_by, place_by, argument, place, formula_by, formula}
@@ -22,7 +22,7 @@ goal_read a b c d e f =
     says (name administrator) (atom may (name ((0 + a) * 256 + b) ∷ name ((0 + c) * 256 + d) ∷ name ((0 + e) * 256 + f) ∷ []))
 
 goal_reads : (a b c d e f : ℕ) → formula (goal_bytes a b c d e f) 2 [] 0 ≡ Some (goal_read a b c d e f, 17)
-unfolding then ensure big_endian next number term_by many predicate_and of-the-sort fixed_by place_by argument place formula_by formula
+unfolding then present ensure big_endian next number term_by many predicate_and of-the-sort fixed_by place_by argument place formula_by formula
 goal_reads a b c d e f = refl
 
 -- A number below 65,536 is its two bytes.

@@ -1,6 +1,6 @@
 -- A for-all that a term is put in for: of its sort, of another sort, or no for-all.
 use Prim.Native.Nat.{ℕ, ◌<◌}
-use mathlib.Core.Path.{◌≡◌, refl, ◌∙◌}
+use mathlib.Core.Path.{◌≡◌, refl, ◌∙◌, ap}
 use mathlib.Core.List.{List}
 use Rattle.std.specs.Prelude.{None, Option, Some}
 use mathlib.Core.Logic.{◌⊎◌, inl, inr}
@@ -73,7 +73,7 @@ module _ {bytes : List ℕ} {f : FormulaAt} {F : Formula} (m : Means bytes 0 f F
     where
       kind : {s : Sort} {A : Formula} → F ≡ all s A → (need_sort q s t ≡ misfit q) ⊎ (binder_tag s ≡ binder_of t) → put_in q t (F, a, b) ≡ misfit q
       kind e (inl g) = other_sort q t a b e g
-      kind {s} e (inr g) = absurd (all_tagged s e (λ k. n (k ∙ g)))
+      kind {s} e (inr g) = absurd (all_tagged s e (λ k. n (k ∙ ap Some g)))
 
       by : (o : Option ((s : Sort) × (A : Formula) × (F ≡ all s A))) → as_all F ≡ o → put_in q t (F, a, b) ≡ misfit q
       by None h = no_all q t a b h
@@ -87,7 +87,7 @@ pub instance_there : {bytes : List ℕ} (j : Judgement) {F : Formula} {a b : Tim
     → Takes (put_in q t (F, a, b)) q l l (λ x. On bytes body x.0 x.1 x.2)
 instance_there {bytes} j {F} {a} {b} {l} {at} {more} {body} o q t tag next form more-is e =
     let m = o.means in
-    let s = all_shape bytes 0 j.formula m (sort_of t) (tag ∙ own_binder t) in
+    let s = all_shape bytes 0 j.formula m (sort_of t) (tag ∙ ap Some (own_binder t)) in
     let n = next (inside bytes 0 j.formula m) in
     let room : j.formula.terms.count < most_binders = omega (arith, s.room) in
     let means =

@@ -10,6 +10,7 @@ use Rattle.procap.specs.declared.answer.Answer.{Answer}
 use Rattle.procap.specs.declared.time.Time.{Time}
 use Rattle.procap.specs.declared.time.Time.TheVariants.{Ctime}
 use Rattle.procap.proofs.Granted.{no_grant}
+use Rattle.procap.specs.declared.fact.Fact.{Fact}
 use Rattle.bl.specs.Trees.{Formula, top}
 use Rattle.bl.specs.Questions.{Walk, done, misfit, ◌>>=◌, Test, ask_order}
 use Rattle.bl.specs.Walk as walk
@@ -26,7 +27,7 @@ use Rattle.judging.proofs.Coming.{stops, comes_on, comes_halted, comes_taken, co
 -- ── Intervals ──
 
 -- One covers another by two orders, one after the other.
-pub both_orders : {state list : List ℕ} {l m r : Ledger} {q : ℕ} {a b c d : Time}
+pub both_orders : {state : List ℕ} {list : List Fact} {l m r : Ledger} {q : ℕ} {a b c d : Time}
     → Gives state (book l list) (ask_order q a c) (book m list) tt
     → Gives state (book m list) (ask_order q d b) (book r list) tt
     → Gives state (book l list) (walk.need_cover q a b c d) (book r list) tt
@@ -51,7 +52,7 @@ takes_then v h m g (unfit e f) = unfit (m ∙ ap (λ k. k >>= (λ x. done (h x))
 
 -- ── What is yielded ──
 
-module _ {state buffer list : List ℕ} {l : Ledger} {w : Walk walk.Judgement} {e : ℕ} (r : Inferred) (s : Sound (book l list)) where
+module _ {state buffer : List ℕ} {list : List Fact} {l : Ledger} {w : Walk walk.Judgement} {e : ℕ} (r : Inferred) (s : Sound (book l list)) where
   -- A judgement that is taken, with where the step ends, is yielded; or nothing is.
   taken : {q : ℕ} → Takes w q l r.ledger (λ j. On buffer r.judgement j.0 j.1 j.2 × (r.next ≡ e))
       → Yields state buffer (book l list) w e r list
@@ -68,7 +69,7 @@ module _ {state buffer list : List ℕ} {l : Ledger} {w : Walk walk.Judgement} {
       → Yields state buffer (book l list) w e r list
   takes_yields n t = taken (takes_so (λ j o. (o, n)) t)
 
-module _ {state buffer : List ℕ} {b : Book} {w : Walk walk.Judgement} {e : ℕ} {inferred : Inferred} {list : List ℕ}
+module _ {state buffer : List ℕ} {b : Book} {w : Walk walk.Judgement} {e : ℕ} {inferred : Inferred} {list : List Fact}
     (y : Yields state buffer b w e inferred list) (g : walk.Judgement → Walk walk.Judgement) (r : Inferred) where
   -- A step after one that has stopped.
   pub halts : (GoesOn inferred.ledger → ⊥) → r.ledger ≡ inferred.ledger → Yields state buffer b (and_then w g) e r list
@@ -87,7 +88,7 @@ module _ {state buffer : List ℕ} {b : Book} {w : Walk walk.Judgement} {e : ℕ
       (comes_inferred state buffer middle (g (y.formula, y.from, y.to)) end r list z))
 
 -- One side of the conjunction that was inferred, by what was taken of it.
-pub one_side : {state buffer : List ℕ} {b : Book} {w : Walk walk.Judgement} {e : ℕ} {inferred : Inferred} {list : List ℕ} (q : ℕ)
+pub one_side : {state buffer : List ℕ} {b : Book} {w : Walk walk.Judgement} {e : ℕ} {inferred : Inferred} {list : List Fact} (q : ℕ)
     (side : Formula × Formula → Formula) (r : Inferred) → Yields state buffer b w e inferred list
     → ((F : Formula) → GoesOn inferred.ledger → Means buffer 0 inferred.judgement.formula F
     → Takes (and_sides q F) q inferred.ledger r.ledger (λ x. On buffer r.judgement (side x) (from_of inferred.judgement) (to_of inferred.judgement)))
@@ -113,7 +114,7 @@ one_side {state} {buffer} {b} {w} {e} {inferred} {list} q side r y going stopped
         halts y after r ends (stopped ends)
 
 -- 26, before its second step, by what was taken of the implication and by the interval that it covers.
-pub put_to_use : {state buffer list : List ℕ} {l m : Ledger} {F : Formula} {from to start end a b t1 t2 : Time} {q middle next : ℕ}
+pub put_to_use : {state buffer : List ℕ} {list : List Fact} {l m : Ledger} {F : Formula} {from to start end a b t1 t2 : Time} {q middle next : ℕ}
     (j : Judgement) (first second : ℕ) (r : Application) → from ≡ a → to ≡ b → start ≡ t1 → end ≡ t2 → Sound (book l list)
     → Takes (implies_sides q F) q l m (λ x. On buffer (part_of j first) x.0 from to × On buffer (part_of j second) x.1 from to)
     → (Sound (book m list) → Gives state (book m list) (walk.need_cover q from to start end) (book r.ledger list) tt)
@@ -136,7 +137,7 @@ put_to_use {state} {buffer} {list} {l} {m} {F} {from} {to} {start} {end} {q = q}
         unused d (then state (book l list) (book m list) (book r.ledger list) (misfit q) tt rest tt stopped (orders stopped.sound))
 
 -- The formulas compared, then the intervals.
-pub fits : {state list : List ℕ} {l m r : Ledger} (q : ℕ) (F G : Formula) {from to a b : Time} (c d : Time) → from ≡ a → to ≡ b
+pub fits : {state : List ℕ} {list : List Fact} {l m r : Ledger} (q : ℕ) (F G : Formula) {from to a b : Time} (c d : Time) → from ≡ a → to ≡ b
     → Gives state (book l list) (walk.same q F G) (book m list) tt
     → Gives state (book m list) (walk.need_cover q from to c d) (book r list) tt
     → Gives state (book l list) (fits_goal q F a b G c d) (book r list) tt

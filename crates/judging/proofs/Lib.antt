@@ -1,4 +1,5 @@
 -- Laws on the steps and the walk.
+pub mod Stored
 pub mod RowLaws
 pub mod WalkParts
 pub mod StepWalks

@@ -1,16 +1,17 @@
 -- What a step takes of a formula where places stand: an "at" and an order have two times, "says" has a name, a state fact has terms.
 use Prim.Native.Nat.{ℕ, ◌+◌}
 use mathlib.Core.Path.{◌≡◌, sym, ◌∙◌, ap}
-use mathlib.Core.Bool.{Bool, true, false}
 use mathlib.Core.List.{List}
-use Rattle.std.specs.Prelude.{None, Some}
+use Rattle.std.proofs.lemmas.Option.{none-some, same_Some}
+use Rattle.std.specs.Prelude.{None, Option, Some}
 use Rattle.procap.specs.Numbered.{time_numbers, time_of}
 use Rattle.procap.proofs.Numbered.{time_back}
 use Rattle.procap.specs.Facts.{spelled, fact_of}
 use Rattle.procap.specs.declared.time.Time.{Time}
-use Rattle.procap.specs.declared.bytes.FactRead.{FactRead}
+use Rattle.procap.specs.declared.fact.Fact.{Fact}
 use Rattle.procap.specs.declared.fact.Term.{Term}
 use Rattle.procap.specs.declared.fact.Term.TheVariants.{Name, When}
+use Rattle.procap.specs.declared.fact.Fact.{Fact}
 use Rattle.bl.specs.declared.FormulaTag.TheVariants.{SaysTag, AtTag, FactTag, OrderTag}
 use Rattle.bl.specs.Trees as tree
 use Rattle.bl.specs.declared.Sort.{Sort}
@@ -22,13 +23,12 @@ use Rattle.ledger.specs.declared.Ledger.{Ledger}
 use Rattle.formula.specs.declared.terms.Terms.{Terms}
 use Rattle.formula.specs.declared.terms.Place.{Place}
 use Rattle.formula.specs.declared.terms.Place.TheVariants.{Fixed, Bound}
-use Rattle.formula.specs.declared.parts.PlaceRead.{PlaceRead}
 use Rattle.formula.specs.declared.parts.FormulaAt.{FormulaAt}
 use Rattle.formula.specs.declared.parts.Judgement.{Judgement}
 use Rattle.judging.specs.declared.judge.Span.{Span}
 use Rattle.ledger.specs.Books.{book, Sound, Gives}
 use Rattle.formula.specs.PutIn.{terms_of, FewTerms, place_of, fill_place}
-use Rattle.formula.specs.Meaning.{tag_of, begin, Means, On, SpellsPlaces}
+use Rattle.formula.specs.Meaning.{tag_of, begin, Means, On, PlaceReads, SpellsPlaces}
 use Rattle.judging.specs.Judging.{at_parts, fact_goal, order_goal, Takes, takes, unfit}
 use Rattle.judging.specs.Pieces.{two_times}
 use Rattle.formula.proofs.Shapes.{Stands, inside, says_shape, at_shape, fact_shape, order_shape}
@@ -67,32 +67,53 @@ unfolding as_name
 time_no_name e = rw e
 
 -- What reading a place tells: the terms are put in, and the place after it.
-abbrev PlaceTold : List ℕ → Terms → ℕ → PlaceRead → Type 0
-PlaceTold bytes terms at r =
-    ((sorts : List Sort) (x : tree.Place) (e : ℕ) → FewTerms terms → argument bytes sorts at ≡ Some (x, e)
-    → place_of r.place ≡ fill_place 0 (terms_of terms) x)
-    × ((sorts : List Sort) (x : tree.Place) (e : ℕ) → argument bytes sorts at ≡ Some (x, e) → r.next ≡ e)
+abbrev PlaceTold : List ℕ → Terms → ℕ → Option (Place × ℕ) → Type 0
+PlaceTold bytes terms at r = PlaceReads bytes at terms 0 r
+
+-- What is read there is told, and where nothing is told nothing is read.
+record OnePlace (found : Place) (next : ℕ) (terms : Terms) (x : tree.Place) (e : ℕ) : Type 0 where
+  is : FewTerms terms → place_of found ≡ fill_place 0 (terms_of terms) x
+  ends : next ≡ e
+
+one_place : (bytes : List ℕ) {terms : Terms} (at : ℕ) {found : Place} {next : ℕ} → PlaceTold bytes terms at (Some (found, next))
+    → (sorts : List Sort) (x : tree.Place) (e : ℕ) → argument bytes sorts at ≡ Some (x, e) → OnePlace found next terms x e
+one_place bytes at {found} {next} told sorts x e reads =
+    let there = told sorts x e reads in
+    let same = same_Some (found, next) (there.0, e) there.1 in
+    record { is = λ few. ap (λ p. place_of p.0) same ∙ there.2 few; ends = ap (λ p. p.1) same }
+
+pub no_place : (bytes : List ℕ) {terms : Terms} (at : ℕ) → PlaceTold bytes terms at None
+    → (sorts : List Sort) (x : tree.Place) (e : ℕ) → argument bytes sorts at ≡ Some (x, e) → ⊥
+no_place bytes at told sorts x e reads = none-some _ (told sorts x e reads).1
 
 -- ── Two places ──
 
 -- What two places in a row are.
-pub record Placed (one other : PlaceRead) (x y : tree.Place) (end : ℕ) : Type 0 where
-  pub first : place_of one.place ≡ x
-  pub second : place_of other.place ≡ y
-  pub ends : other.next ≡ end
+pub record Placed (one other : Place) (next : ℕ) (x y : tree.Place) (end : ℕ) : Type 0 where
+  pub first : place_of one ≡ x
+  pub second : place_of other ≡ y
+  pub ends : next ≡ end
 
-abbrev pub PlacesTold : List ℕ → Terms → ℕ → PlaceRead → PlaceRead → Type 0
-PlacesTold bytes terms at one other =
+abbrev pub PlacesTold : List ℕ → Terms → ℕ → Place → Place → ℕ → Type 0
+PlacesTold bytes terms at one other next =
     (sorts : List Sort) (x y : tree.Place) (middle end : ℕ) → FewTerms terms
     → argument bytes sorts at ≡ Some (x, middle) → argument bytes sorts middle ≡ Some (y, end)
-    → Placed one other (fill_place 0 (terms_of terms) x) (fill_place 0 (terms_of terms) y) end
+    → Placed one other next (fill_place 0 (terms_of terms) x) (fill_place 0 (terms_of terms) y) end
 
-pub both_placed : (bytes : List ℕ) {terms : Terms} (at : ℕ) {one other : PlaceRead}
-    → PlaceTold bytes terms at one → PlaceTold bytes terms one.next other → PlacesTold bytes terms at one other
-both_placed bytes {terms} at {one} {other} f g sorts x y middle end few e h =
-    let n = f.1 sorts x middle e in
-    let k : argument bytes sorts one.next ≡ Some (y, end) = rw n h in
-    record { first = f.0 sorts x middle few e; second = g.0 sorts y end few k; ends = g.1 sorts y end k }
+pub both_placed : (bytes : List ℕ) {terms : Terms} (at : ℕ) {one other : Place} {between next : ℕ}
+    → PlaceTold bytes terms at (Some (one, between)) → PlaceTold bytes terms between (Some (other, next)) → PlacesTold bytes terms at one other next
+both_placed bytes {terms} at {one} {other} {between} f g sorts x y middle end few e h =
+    let a = one_place bytes at f sorts x middle e in
+    let b = one_place bytes between g sorts y end (rw a.ends h) in
+    record { first = a.is few; second = b.is few; ends = b.ends }
+
+-- Where a second place is, it is told.
+pub no_second_place : (bytes : List ℕ) {terms : Terms} (at : ℕ) {one : Place} {between : ℕ}
+    → PlaceTold bytes terms at (Some (one, between)) → PlaceTold bytes terms between None
+    → (sorts : List Sort) (x y : tree.Place) (middle end : ℕ)
+    → argument bytes sorts at ≡ Some (x, middle) → argument bytes sorts middle ≡ Some (y, end) → ⊥
+no_second_place bytes at {between = between} f g sorts x y middle end e h =
+    no_place bytes between g sorts y end (rw (one_place bytes at f sorts x middle e).ends h)
 
 -- What reading two times tells.
 abbrev SpanTold : List ℕ → Terms → ℕ → ℕ → Ledger → Span → Type 0
@@ -105,12 +126,12 @@ SpanTold bytes terms at q l r =
 -- ── Formulas ──
 
 -- Who says, and what, as the code reads them.
-pub record SaysRead (bytes : List ℕ) (f : FormulaAt) (F : Formula) (read : PlaceRead) : Type 0 where
+pub record SaysRead (bytes : List ℕ) (f : FormulaAt) (F : Formula) (place : Place) (next : ℕ) : Type 0 where
   pub who : tree.Place
   pub said : Formula
   pub is : F ≡ says who said
-  pub named : place_of read.place ≡ who
-  pub means : Means bytes 0 (begin f read.next) said
+  pub named : place_of place ≡ who
+  pub means : Means bytes 0 (begin f next) said
 
 module _ {bytes : List ℕ} {f : FormulaAt} {F : Formula} (m : Means bytes 0 f F) {at : ℕ} (next : After bytes f.at at) where
   -- The two times of an "at" or of an order.
@@ -132,7 +153,7 @@ module _ {bytes : List ℕ} {f : FormulaAt} {F : Formula} (m : Means bytes 0 f F
       (span_there q s.first s.second told)
 
   -- An order, asked.
-  pub order_taken : (q : ℕ) {state list : List ℕ} {l r : Ledger} {span : Span} → tag_of bytes f.at ≡ Some OrderTag
+  pub order_taken : (q : ℕ) {state : List ℕ} {list : List Fact} {l r : Ledger} {span : Span} → tag_of bytes f.at ≡ Some OrderTag
       → SpanTold bytes f.terms at q l span → Sound (book l list)
       → (Sound (book span.ledger list) → Gives state (book span.ledger list) (ask_order q (time_of span.from) (time_of span.to)) (book r list) tt)
       → Gives state (book l list) (order_goal q F) (book r list) tt
@@ -150,40 +171,43 @@ module _ {bytes : List ℕ} {f : FormulaAt} {F : Formula} (m : Means bytes 0 f F
       span_given (unfit d e) = stops sound d e
 
   -- Who says, and what.
-  pub says_read : {read : PlaceRead} → tag_of bytes f.at ≡ Some SaysTag → PlaceTold bytes f.terms at read → SaysRead bytes f F read
+  pub says_read : {place : Place} {after : ℕ} → tag_of bytes f.at ≡ Some SaysTag → PlaceTold bytes f.terms at (Some (place, after))
+      → SaysRead bytes f F place after
   says_read tag told =
       let s = says_shape bytes 0 f m tag in
       let n = next (inside bytes 0 f m) in
       let e : argument bytes m.sorts at ≡ Some (s.named.written, s.after) = rw n s.named.reads in
-      record {
-        who = s.who;
-        said = s.said;
-        is = s.is;
-        named = told.0 m.sorts s.named.written s.after m.few e ∙ s.named.filled;
-        means = rw (told.1 m.sorts s.named.written s.after e) s.part.means;
-      }
+      let one = one_place bytes at told m.sorts s.named.written s.after e in
+      record { who = s.who; said = s.said; is = s.is; named = one.is m.few ∙ s.named.filled; means = rw one.ends s.part.means }
+
+  pub somebody_says : tag_of bytes f.at ≡ Some SaysTag → PlaceTold bytes f.terms at None → ⊥
+  somebody_says tag told =
+      let s = says_shape bytes 0 f m tag in
+      let n = next (inside bytes 0 f m) in
+      no_place bytes at told m.sorts s.named.written s.after (rw n s.named.reads)
 
 -- ── State facts ──
 
-module _ {bytes : List ℕ} {f : FormulaAt} {F : Formula} (m : Means bytes 0 f F) (q : ℕ) (tag : tag_of bytes f.at ≡ Some FactTag) (r : FactRead)
-    (told : (p : ℕ) (xs : List tree.Place) → Means bytes 0 f (fact p xs) → SpellsPlaces p xs r.found r.fact) where
-  -- What is told of the places of this fact.
-  spelled_there : (b : Bool) → r.found ≡ b
-      → let s = fact_shape bytes 0 f m tag in SpellsPlaces s.predicate s.places b r.fact
-  spelled_there b e =
+module _ {bytes : List ℕ} {f : FormulaAt} {F : Formula} (m : Means bytes 0 f F) (q : ℕ) (tag : tag_of bytes f.at ≡ Some FactTag) where
+  -- What is told of the places of a fact.
+  abbrev FactTold : Option Fact → Type 0
+  FactTold r = (p : ℕ) (xs : List tree.Place) → Means bytes 0 f (fact p xs) → SpellsPlaces p xs r
+
+  spelled_there : (r : Option Fact) → FactTold r → let s = fact_shape bytes 0 f m tag in SpellsPlaces s.predicate s.places r
+  spelled_there r told =
       let s = fact_shape bytes 0 f m tag in
-      rw e at (told s.predicate s.places (rw s.is at m))
+      told s.predicate s.places (rw s.is at m)
 
   -- A variable is left in it.
-  pub fact_open : r.found ≡ false → fact_goal q F ≡ misfit q
+  pub fact_open : FactTold None → fact_goal q F ≡ misfit q
   unfolding SpellsPlaces
-  fact_open e = no_terms q (fact_shape bytes 0 f m tag).is (spelled_there false e)
+  fact_open told = no_terms q (fact_shape bytes 0 f m tag).is (spelled_there None told)
 
   -- It is asked.
-  pub fact_taken : {state list after : List ℕ} {l a : Ledger} → r.found ≡ true
-      → (r.fact ≡ fact_of (spelled r.fact) → Gives state (book l list) (ask_fact q (spelled r.fact)) (book a after) tt)
+  pub fact_taken : (g : Fact) → FactTold (Some g) → {state : List ℕ} {list after : List Fact} {l a : Ledger}
+      → (g ≡ fact_of (spelled g) → Gives state (book l list) (ask_fact q (spelled g)) (book a after) tt)
       → Gives state (book l list) (fact_goal q F) (book a after) tt
   unfolding SpellsPlaces
-  fact_taken e ask =
-      let (ts, h, there, spells, in_form) = spelled_there true e in
+  fact_taken g told ask =
+      let (ts, h, there, spells, in_form) = spelled_there (Some g) told in
       rw (fact_there q h (fact_shape bytes 0 f m tag).is there, ← spells) (ask in_form)

@@ -14,7 +14,7 @@ use lib.ListN.{length, get_or, take, set, length-set}
 use lib.Seq.{sets, length-sets, get_or-set_same, get_or-set_other, get_or-append-add, length-take-le, take-suc, ext_get_or}
 use lib.Dec.{ltb, eqb}
 use Rattle.procap.specs.Tells.{pick}
-use Rattle.ledger.proofs.Stored.{sets_after}
+use Rattle.judging.proofs.Stored.{sets_after}
 use Rattle.judging.specs.declared.rows.Row.{Row}
 use Rattle.formula.specs.PutIn.{terms_numbers}
 use Rattle.formula.specs.PartPromises.{front_on_ctime}

@@ -8,6 +8,7 @@ use lib.ListN.{length, get_or}
 use Rattle.procap.specs.Lists.{nth}
 use Rattle.procap.specs.Bytes.{byte}
 use Rattle.procap.proofs.ReadApart.{byte_at}
+use Rattle.procap.specs.declared.fact.Fact.{Fact}
 use Rattle.bl.specs.Certificates.{Statement}
 use Rattle.bl.specs.Strength.{Pair}
 use Rattle.bl.specs.Rules as rules
@@ -73,7 +74,7 @@ assumed_at buffer rows below (suc n) (x ∷ Γ) (suc i) a l =
 
 -- ── The row ──
 
-module _ {state buffer list : List ℕ} {l : Ledger} {row : Row} {index below next : ℕ} (ps : List Pair) (q : ℕ) (v : rules.View) (r : Inferred)
+module _ {state buffer : List ℕ} {list : List Fact} {l : Ledger} {row : Row} {index below next : ℕ} (ps : List Pair) (q : ℕ) (v : rules.View) (r : Inferred)
     (s : Sound (book l list)) where
   -- A plain row that is shut out, one that is not, and a claim.
   pub shut_row : {x : Assumption} → RowIs buffer row index below x → row.whose ≡ None → index < below → r.ledger ≡ misfitted l q
@@ -105,7 +106,7 @@ module _ {state buffer list : List ℕ} {l : Ledger} {row : Row} {index below ne
 
 -- ── The steps ──
 
-module _ {state buffer list : List ℕ} {b : Book} {r : Inferred} (ps : List Pair) (proof rows : List ℕ) (q at : ℕ) (v : rules.View) {e next below : ℕ}
+module _ {state buffer : List ℕ} {list : List Fact} {b : Book} {r : Inferred} (ps : List Pair) (proof rows : List ℕ) (q at : ℕ) (v : rules.View) {e next below : ℕ}
     (after : After proof q at) (next_after : After proof at next) where
   -- 20: the assumption that the index names is used as it stands.
   pub local_used : (count index back : ℕ) (Γ : List Assumption) {i : ℕ} → index ≡ count - back - 1 → back ≡ get_or proof (q + 1) 0

@@ -6,13 +6,14 @@ use Rattle.procap.specs.declared.time.Time.{Time}
 use Rattle.procap.specs.declared.time.TimeNumbers.{TimeNumbers}
 use Rattle.procap.specs.declared.fact.Term.{Term}
 use Rattle.bl.specs.declared.FormulaTag.{FormulaTag}
-use Rattle.bl.specs.declared.FormulaTag.TheVariants.{TopTag, AndTag, ImpliesTag, AllNamesTag, AllTimesTag, SaysTag, AtTag, AtomTag, FactTag, OrderTag, OrTag, FalsityTag, NoFormulaTag}
+use Rattle.bl.specs.declared.FormulaTag.TheVariants.{TopTag, AndTag, ImpliesTag, AllNamesTag, AllTimesTag, SaysTag, AtTag, AtomTag, FactTag, OrderTag, OrTag, FalsityTag}
 use Rattle.bl.specs.Trees.{Formula, put}
 use Rattle.bl.specs.Questions.{Walk, done, misfit, ◌>>=◌, ◌>>◌, Test, ask_order, ask_fact, need}
 use Rattle.bl.specs.Kinds.{as_name, as_time, as_terms, as_top, as_and, as_implies, as_all, as_says, as_at, as_fact, as_order, as_or, as_falsity}
 use Rattle.bl.specs.Strength.{Pair}
 use Rattle.bl.specs.Rules as rules
 use Rattle.procap.specs.Lists.{nth}
+use Rattle.procap.specs.declared.fact.Fact.{Fact}
 use Rattle.bl.specs.Certificates.{Statement}
 use Rattle.bl.specs.Rules.{Assumption, plain, claim, no_view, view_of}
 use Rattle.bl.specs.Walk as walk
@@ -121,7 +122,6 @@ sides AtomTag q F = misfit q
 sides FactTag q F = misfit q
 sides OrderTag q F = misfit q
 sides FalsityTag q F = misfit q
-sides NoFormulaTag q F = misfit q
 
 -- The tags of formulas with two sides.
 unfoldable pub TwoSided : FormulaTag → Type 0
@@ -137,7 +137,6 @@ TwoSided FactTag = ⊥
 TwoSided OrderTag = ⊥
 TwoSided OrTag = Unit {0}
 TwoSided FalsityTag = ⊥
-TwoSided NoFormulaTag = ⊥
 
 -- The formula of an "at" and its interval.
 unfoldable pub at_parts : ℕ → Formula → Walk (Formula × Time × Time)
@@ -233,7 +232,7 @@ pub data Takes {X : Type 0} (w : Walk X) (q : ℕ) (l r : Ledger) (So : X → Ty
   unfit : w ≡ misfit q → r ≡ misfitted l q → Takes w q l r So
 
 -- The walk w, from the book b, came to a judgement whose step ends at e; where it stopped the rest says nothing.
-pub record Yields (state buffer : List ℕ) (b : Book) (w : Walk walk.Judgement) (e : ℕ) (r : Inferred) (list : List ℕ) : Type 0 where
+pub record Yields (state buffer : List ℕ) (b : Book) (w : Walk walk.Judgement) (e : ℕ) (r : Inferred) (list : List Fact) : Type 0 where
   pub formula : Formula
   pub from : Time
   pub to : Time
@@ -242,12 +241,12 @@ pub record Yields (state buffer : List ℕ) (b : Book) (w : Walk walk.Judgement)
   pub ends : GoesOn r.ledger → r.next ≡ e
 
 -- The walk w, from the book b, was passed or stopped, and its step ends at e.
-pub record Passes (state : List ℕ) (b : Book) (w : Test) (e : ℕ) (r : Checked) (list : List ℕ) : Type 0 where
+pub record Passes (state : List ℕ) (b : Book) (w : Test) (e : ℕ) (r : Checked) (list : List Fact) : Type 0 where
   pub gives : Gives state b w (book r.ledger list) tt
   pub ends : GoesOn r.ledger → r.next ≡ e
 
 -- 26, before its second step: an implication put to use on [t1,t2], or nothing of the kind.
-pub data Used (state buffer : List ℕ) (q : ℕ) (list : List ℕ) (l : Ledger) (F : Formula) (a b t1 t2 : Time) (middle next : ℕ) (r : Application) : Type 0 where
+pub data Used (state buffer : List ℕ) (q : ℕ) (list : List Fact) (l : Ledger) (F : Formula) (a b t1 t2 : Time) (middle next : ℕ) (r : Application) : Type 0 where
   used : (A B : Formula) → implies_sides q F ≡ done (A, B)
       → Gives state (book l list) (need_cover q a b t1 t2) (book r.ledger list) tt
       → On buffer r.premise A t1 t2 → On buffer (part_of r.premise r.conclusion) B t1 t2 → r.middle ≡ middle → r.next ≡ next

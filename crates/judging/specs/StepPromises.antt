@@ -3,6 +3,7 @@ use Rattle.std.specs.Prelude.{ℕ, ◌+◌, ◌≤◌, ◌<◌, ◌≡◌, List,
 use Rattle.procap.specs.Bytes.{byte}
 use Rattle.procap.specs.Numbered.{time_numbers}
 use Rattle.procap.specs.declared.time.Time.{Time}
+use Rattle.procap.specs.declared.fact.Fact.{Fact}
 use Rattle.bl.specs.declared.FormulaTag.{FormulaTag}
 use Rattle.bl.specs.declared.Sort.{Sort}
 use Rattle.bl.specs.Trees.{Place, Formula}
@@ -40,21 +41,21 @@ NeedsView strengths l q v k j r = (ps : List Pair) → LentStrengthsOf strengths
 -- A row that is an assumption is used as it stands.
 abbrev pub UsesRow : List ℕ → StrengthsLent → ℕ → Scope → ℕ → Ledger → ℕ → Inferred → Type 0
 UsesRow rows strengths index scope q l next r =
-    (state buffer list : List ℕ) (ps : List Pair) (x : Assumption) → Sound (book l list) → index < most_rows
+    (state buffer : List ℕ) (list : List Fact) (ps : List Pair) (x : Assumption) → Sound (book l list) → index < most_rows
     → LentStrengthsOf strengths ps → RowIs buffer (row_in rows index) index scope.shut x
     → Yields state buffer (book l list) (walk.assumed ps q (view_in scope.view) x) next r list
 
 -- 20: where the rows are the assumptions Γ, and the byte after the tag names one of them, that one is used.
 abbrev pub UsesLocal : List ℕ → List ℕ → StrengthsLent → Scope → ℕ → Ledger → Inferred → Type 0
 UsesLocal proof rows strengths scope q l r =
-    (state buffer list : List ℕ) (ps : List Pair) (Γ : List Assumption) (i e : ℕ) → Sound (book l list) → LentStrengthsOf strengths ps → Assumed buffer rows scope.shut scope.count Γ
+    (state buffer : List ℕ) (list : List Fact) (ps : List Pair) (Γ : List Assumption) (i e : ℕ) → Sound (book l list) → LentStrengthsOf strengths ps → Assumed buffer rows scope.shut scope.count Γ
     → scope.count ≤ most_rows → byte proof (q + 1) ≡ Some (i, e) → i < scope.count
     → Yields state buffer (book l list) (use_local ps q (view_in scope.view) Γ i) e r list
 
 -- 21: where the rows are the certificates cs, and the byte after the tag names one of them, that one is used.
 abbrev pub UsesCertificate : List ℕ → List ℕ → StrengthsLent → Scope → ℕ → Ledger → Inferred → Type 0
 UsesCertificate proof rows strengths scope q l r =
-    (state buffer list : List ℕ) (ps : List Pair) (cs : List Statement) (i e : ℕ) → Sound (book l list) → LentStrengthsOf strengths ps → Certified buffer rows cs
+    (state buffer : List ℕ) (list : List Fact) (ps : List Pair) (cs : List Statement) (i e : ℕ) → Sound (book l list) → LentStrengthsOf strengths ps → Certified buffer rows cs
     → byte proof (q + 1) ≡ Some (i, e) → i < length cs
     → Yields state buffer (book l list) (use_certificate ps q (view_in scope.view) cs i) e r list
 
@@ -103,13 +104,13 @@ TakesInsideInferred buffer q shell inferred r = GoesOn inferred.ledger → Takes
 -- 23, 24, 27: what was inferred is gone on with.
 abbrev pub Continues : List ℕ → Inferred → (walk.Judgement → Walk walk.Judgement) → Inferred → Type 0
 Continues buffer inferred g r =
-    (state : List ℕ) (b : Book) (w : Walk walk.Judgement) (e : ℕ) (list : List ℕ)
+    (state : List ℕ) (b : Book) (w : Walk walk.Judgement) (e : ℕ) (list : List Fact)
     → Yields state buffer b w e inferred list → Yields state buffer b (and_then w g) e r list
 
 -- 26: an implication is put to use on the times that stand where its second step ends.
 abbrev pub PutsToUse : List ℕ → List ℕ → ℕ → Inferred → ℕ → Application → Type 0
 PutsToUse buffer proof q inferred second_end r =
-    (state list : List ℕ) (F : Formula) (a b t1 t2 : Time) (c e₃ e₄ : ℕ)
+    (state : List ℕ) (list : List Fact) (F : Formula) (a b t1 t2 : Time) (c e₃ e₄ : ℕ)
     → GoesOn inferred.ledger → Sound (book inferred.ledger list) → On buffer inferred.judgement F a b
     → steps.time proof c second_end ≡ Some (t1, e₃) → steps.time proof c e₃ ≡ Some (t2, e₄)
     → Used state buffer q list inferred.ledger F a b t1 t2 inferred.next e₄ r
@@ -117,30 +118,30 @@ PutsToUse buffer proof q inferred second_end r =
 -- 25, 2D: a goal is met, or is not of the kind.
 abbrev pub MeetsGoal : List ℕ → Judgement → Ledger → (Formula → Test) → Ledger → Type 0
 MeetsGoal bytes goal l w r =
-    (state list : List ℕ) (G : Formula) → Sound (book l list) → Means bytes 0 goal.formula G
+    (state : List ℕ) (list : List Fact) (G : Formula) → Sound (book l list) → Means bytes 0 goal.formula G
     → Gives state (book l list) (w G) (book r list) tt
 
 -- 2C: the same, and the fact may be listed.
-abbrev pub MeetsFact : List ℕ → List ℕ → List ℕ → ℕ → Judgement → Ledger → Ledger → List ℕ → Type 0
+abbrev pub MeetsFact : List ℕ → List ℕ → List Fact → ℕ → Judgement → Ledger → Ledger → List Fact → Type 0
 MeetsFact bytes state list q goal l r list' =
     (G : Formula) → Sound (book l list) → Means bytes 0 goal.formula G → Gives state (book l list) (fact_goal q G) (book r list') tt
 
 -- An inferring step where one is checked: the same formula, on an interval around the goal's.
 abbrev pub FitsGoal : List ℕ → List ℕ → ℕ → Inferred → Judgement → Ledger → Type 0
 FitsGoal buffer bytes q inferred goal r =
-    (state list : List ℕ) (F : Formula) (a b : Time) (G : Formula)
+    (state : List ℕ) (list : List Fact) (F : Formula) (a b : Time) (G : Formula)
     → Sound (book inferred.ledger list) → On buffer inferred.judgement F a b → Means bytes 0 goal.formula G
     → Gives state (book inferred.ledger list) (fits_goal q F a b G (from_of goal) (to_of goal)) (book r list) tt
 
 -- The same with the walk that inferred it: where that has stopped, so has the whole.
 abbrev pub ChecksInferred : List ℕ → List ℕ → ℕ → Inferred → Judgement → Checked → Type 0
 ChecksInferred buffer bytes q inferred goal r =
-    (state : List ℕ) (b : Book) (w : Walk walk.Judgement) (e : ℕ) (list : List ℕ) (G : Formula)
+    (state : List ℕ) (b : Book) (w : Walk walk.Judgement) (e : ℕ) (list : List Fact) (G : Formula)
     → Yields state buffer b w e inferred list → Means bytes 0 goal.formula G
     → Passes state b (and_then w (λ j. fits_goal q j.0 j.1 j.2 G (from_of goal) (to_of goal))) e r list
 
 -- 31: the walk that inferred it, and then that it is falsity.
 abbrev pub ChecksFalsity : List ℕ → ℕ → Inferred → Checked → Type 0
 ChecksFalsity buffer q inferred r =
-    (state : List ℕ) (b : Book) (w : Walk walk.Judgement) (e : ℕ) (list : List ℕ)
+    (state : List ℕ) (b : Book) (w : Walk walk.Judgement) (e : ℕ) (list : List Fact)
     → Yields state buffer b w e inferred list → Passes state b (and_then w (falsity_inferred q)) e r list

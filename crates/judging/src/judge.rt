@@ -12,9 +12,10 @@ ghost use Rattle.judging.specs.RowNumbers.{rows_with};
 use crate::either::side_inside;
 use crate::rows::{MOST_ROWS, Row, put_row, row_at};
 use bl::FormulaTag;
-use formula::compare::same;
+use formula::compare::{LentFormula, same};
 use formula::parts::{FormulaAt, Judgement, fact_at, is_a, past_formula, place_at};
 use formula::terms::{MOST_FORMULA_LEVELS, Place, Terms};
+use ledger::facts::FactList;
 use ledger::{Ledger, ask_fact, ask_order};
 use procap::bytes::past;
 use procap::fact::Term;
@@ -289,17 +290,27 @@ pub fn sides_of(
     ensures { TakesSides bytes.now offset wanted judgement ledger result }
 {
     if !is_a(bytes, judgement.formula.at, wanted) {
-        return Sides {
-            ledger: ledger.misfit(offset),
-            first: 0,
-            second: 0,
-        };
+        return no_sides(ledger, offset);
     }
     let first = past(bytes, judgement.formula.at);
+    let Some(second) = past_formula(bytes, first, MOST_FORMULA_LEVELS) else {
+        return no_sides(ledger, offset);
+    };
     Sides {
         ledger,
         first,
-        second: past_formula(bytes, first, MOST_FORMULA_LEVELS),
+        second,
+    }
+}
+
+// The formula has no such sides.
+fn no_sides(ledger: Ledger, offset: usize) -> Sides
+    ensures { result.ledger ≡ misfitted ledger offset }
+{
+    Sides {
+        ledger: ledger.misfit(offset),
+        first: 0,
+        second: 0,
     }
 }
 
@@ -529,10 +540,12 @@ fn lifted(bytes: &[u8], offset: usize, judgement: Judgement, ledger: Ledger) -> 
 fn span_at(bytes: &[u8], at: usize, terms: Terms, offset: usize, ledger: Ledger) -> Span
     ensures { TakesTimes bytes.now at terms offset ledger result }
 {
-    let one = place_at(bytes, at, terms, 0);
-    let other = place_at(bytes, one.next, terms, 0);
-    let one_place = one.place;
-    let other_place = other.place;
+    let Some((one_place, between)) = place_at(bytes, at, terms, 0) else {
+        return no_span(ledger, offset);
+    };
+    let Some((other_place, next)) = place_at(bytes, between, terms, 0) else {
+        return no_span(ledger, offset);
+    };
     let Place::Fixed(one_term) = one_place else {
         return no_span(ledger, offset);
     };
@@ -549,7 +562,7 @@ fn span_at(bytes: &[u8], at: usize, terms: Terms, offset: usize, ledger: Ledger)
         ledger: ledger,
         from: from.numbers(),
         to: to.numbers(),
-        next: other.next,
+        next,
     }
 }
 
@@ -574,8 +587,9 @@ fn said(bytes: &[u8], offset: usize, judgement: Judgement, ledger: Ledger) -> In
     if !is_a(bytes, formula.at, FormulaTag::SaysTag) {
         return not_inside(judgement, ledger, offset);
     }
-    let read = place_at(bytes, past(bytes, formula.at), terms, 0);
-    let place = read.place;
+    let Some((place, next)) = place_at(bytes, past(bytes, formula.at), terms, 0) else {
+        return not_inside(judgement, ledger, offset);
+    };
     let Place::Fixed(term) = place else {
         return not_inside(judgement, ledger, offset);
     };
@@ -584,7 +598,7 @@ fn said(bytes: &[u8], offset: usize, judgement: Judgement, ledger: Ledger) -> In
     };
     let row = Row {
         whose: Some(principal as u64),
-        judgement: part_at(judgement, read.next),
+        judgement: part_at(judgement, next),
     };
     Inside {
         ledger: ledger,
@@ -621,7 +635,7 @@ pub fn top(bytes: &[u8], offset: usize, goal: Judgement, ledger: Ledger) -> Ledg
 pub fn state_fact(
     bytes: &[u8],
     state: &[u8],
-    facts: &mut [u64],
+    facts: &mut FactList,
     offset: usize,
     goal: Judgement,
     ledger: Ledger,
@@ -631,11 +645,10 @@ pub fn state_fact(
     if !is_a(bytes, goal.formula.at, FormulaTag::FactTag) {
         return ledger.misfit(offset);
     }
-    let read = fact_at(bytes, goal.formula);
-    if !read.found {
+    let Some(fact) = fact_at(bytes, goal.formula) else {
         return ledger.misfit(offset);
-    }
-    ask_fact(state, facts, ledger, offset, read.fact)
+    };
+    ask_fact(state, facts, ledger, offset, fact)
 }
 
 // 2D: the goal must be an order, and hold.
@@ -660,11 +673,17 @@ pub fn order(bytes: &[u8], offset: usize, goal: Judgement, ledger: Ledger) -> Le
 fn within(buffer: &[u8], bytes: &[u8], offset: usize, inferred: Inferred, goal: Judgement) -> Ledger
     ensures { FitsGoal buffer.now bytes.now offset inferred goal result }
 {
-    let compared = same(
-        buffer,
-        inferred.judgement.formula,
+    let inferred_side = LentFormula {
+        bytes: buffer,
+        formula: inferred.judgement.formula,
+    };
+    let goal_side = LentFormula {
         bytes,
-        goal.formula,
+        formula: goal.formula,
+    };
+    let compared = same(
+        inferred_side,
+        goal_side,
         0,
         offset,
         inferred.ledger,

@@ -1,36 +1,34 @@
 -- What a question leaves of a ledger, by cases of its number and its press; and that the walk of the question leads there.
-use Prim.Native.Nat.{ℕ, ◌+◌, ◌-◌, ◌*◌, ◌<◌}
+use Prim.Native.Nat.{ℕ, ◌-◌, ◌<◌}
 use mathlib.Core.Bool.{Bool, true, false}
-use mathlib.Core.Path.{◌≡◌, refl, sym, ap₂, ◌∙◌}
-use mathlib.Core.List.{List}
-use mathlib.Core.Logic.Dec
+use mathlib.Core.Path.{◌≡◌, refl, sym, ◌∙◌}
+use mathlib.Core.List.{List, [], ◌∷◌, ◌++◌, map}
 use mathlib.Core.Logic.{ite, if_pos, if_neg}
-use native.Mathlib.Decide.{ℕ_discrete, dec_lt}
+use native.Mathlib.Decide.{dec_lt}
 use lib.ListN.{length}
-use lib.Seq.{sets}
 use borrow.Author.Tests.{eq-eqb, ne_eqb, eqb-true, eqb-false}
 use lib.Dec.{eqb}
 use Rattle.procap.specs.Lists.{In}
 use Rattle.procap.specs.Tells.{Tells, pick}
-use Rattle.procap.specs.Facts.{spelled}
-use Rattle.procap.specs.Procaps.{most_facts}
+use Rattle.procap.specs.Facts.{spelled, fact_of}
+use Rattle.procap.specs.Procaps.{most_facts, HoldsAt}
+use Rattle.procap.specs.States.{stated}
 use Rattle.procap.specs.Order.{AtMost, decided}
-use Rattle.procap.specs.Deciding.{in?, spelled?, at_most?}
-use Rattle.procap.specs.declared.answer.Answer.TheVariants.{OrderFalse}
+use Rattle.procap.specs.Deciding.{in?, spelled?, at_most?, holds_at?}
+use Rattle.procap.specs.declared.answer.Answer.TheVariants.{OrderFalse, FactMissing}
 use Rattle.procap.specs.declared.fact.Fact.{Fact}
 use Rattle.procap.specs.declared.time.Time.{Time}
 use Rattle.procap.specs.declared.order.Decision.{Decision}
 use Rattle.procap.specs.declared.order.Decision.TheVariants.{Holds, Fails, RaisesFrom, LowersTo}
-use Rattle.bl.specs.Questions.{ask_order}
+use Rattle.bl.specs.Questions.{ask_order, ask_fact}
 use Rattle.bl.specs.Readings.{narrow}
 use Rattle.ledger.specs.declared.Reading.TheVariants.{Office, Press}
 use Rattle.ledger.specs.declared.Ledger.{Ledger}
-use Rattle.ledger.specs.Books.{fact_numbers, list_numbers, stop_of, reading_in, keeping, stopped_by, book, facts_in, kept_of, Sound, Gives, Leads, GoesOn}
-use Rattle.ledger.specs.Putting.{numbers_of_fact}
-use Rattle.ledger.specs.Asking.{narrowed_by, asked_by, order_asked, fact_listed}
+use Rattle.ledger.specs.Books.{Book, facts_said, stop_of, reading_in, stopped_by, book, kept_of, Sound, Gives, Leads, GoesOn}
+use Rattle.ledger.specs.Asking.{narrowed_by, asked_by, order_asked, fact_listed, fact_asked}
 use Rattle.ledger.proofs.Stopping.{going_number, number_going, tells_going, at_office, at_press}
 use Rattle.ledger.proofs.Giving.{not_going, stays}
-use Rattle.ledger.proofs.Asking.{narrows, order_fails, order_true, order_false}
+use Rattle.ledger.proofs.Asking.{narrows, order_fails, order_true, order_false, no_room, already_listed, listed_last, fact_true, fact_false}
 
 -- ── By where the ledger is read ──
 
@@ -62,42 +60,70 @@ module _ {A : Type 0} (l : Ledger) (was office press : A) where
 
 -- ── A fact ──
 
-module _ (list : List ℕ) (l : Ledger) (f : Fact) where
-  -- The list has room for one fact more.
-  abbrev room? : Dec ((length list ≡ list_numbers) × (l.count < most_facts))
-  room? = Dec.and (ℕ_discrete (length list) list_numbers) (dec_lt l.count most_facts)
-
-  -- Without room the book stays,
-  pub list_full : ((length list ≡ list_numbers) × (l.count < most_facts) → ⊥) → book l list ≡ fact_listed list l f
+module _ (list : List Fact) (f : Fact) where
+  -- Without room the list stays,
+  pub list_full : (length list < most_facts → ⊥) → list ≡ fact_listed list f
   unfolding fact_listed
-  list_full n = sym (if_neg room? n _ _)
+  list_full n = sym (if_neg (dec_lt (length list) most_facts) n _ _)
 
-  module _ (room : (length list ≡ list_numbers) × (l.count < most_facts)) where
-    -- as it does where the fact stands in the list;
-    pub list_has : In (spelled f) (facts_in list l.count) → book l list ≡ fact_listed list l f
+  module _ (room : length list < most_facts) where
+    -- as it does where the fact stands in it;
+    pub list_has : In (spelled f) (map spelled list) → list ≡ fact_listed list f
     unfolding fact_listed
-    list_has h = sym (if_pos room? room _ _ ∙ if_pos (in? spelled? (spelled f) (facts_in list l.count)) h _ _)
+    list_has h = sym (if_pos (dec_lt (length list) most_facts) room _ _ ∙ if_pos (in? spelled? (spelled f) (map spelled list)) h _ _)
 
-    -- else the fact's numbers are stored after the others, and it is counted.
-    pub list_lacks : (In (spelled f) (facts_in list l.count) → ⊥) → {r : Ledger} {more : List ℕ} → r ≡ keeping l l.from l.to (l.count + 1)
-        → more ≡ sets list (l.count * fact_numbers) (numbers_of_fact f) → book r more ≡ fact_listed list l f
+    -- else the fact goes to its end.
+    pub list_lacks : (In (spelled f) (map spelled list) → ⊥) → list ++ (f ∷ []) ≡ fact_listed list f
     unfolding fact_listed
-    list_lacks n e stored =
-        ap₂ book e stored ∙ sym (if_pos room? room _ _ ∙ if_neg (in? spelled? (spelled f) (facts_in list l.count)) n _ _)
+    list_lacks n = sym (if_pos (dec_lt (length list) most_facts) room _ _ ∙ if_neg (in? spelled? (spelled f) (map spelled list)) n _ _)
+
+module _ (state : List ℕ) (list : List Fact) (l : Ledger) (q : ℕ) (f : Fact) (s : Sound (book l list)) where
+  -- The list that the office leaves leads where the question does.
+  listed_leads : reading_in l ≡ Office → f ≡ fact_of (spelled f) → Gives state (book l list) (ask_fact q (spelled f)) (book l (fact_listed list f)) tt
+  listed_leads o form = by (dec_lt (length list) most_facts) (in? spelled? (spelled f) (map spelled list))
+    where
+      by : Dec (length list < most_facts) → Dec (In (spelled f) (map spelled list)) → Gives state (book l list) (ask_fact q (spelled f)) (book l (fact_listed list f)) tt
+      by (no n) has = rw (← list_full list f n) (no_room state list l q f s n)
+      by (yes room) (yes h) = rw (← list_has list f room h) (already_listed state list l q f s o h)
+      by (yes room) (no new) = rw (← list_lacks list f room new) (listed_last state list l q f s o new room form)
+
+  -- At a press it holds there, or stops the walk.
+  pressed_fact : (m : ℕ) → reading_in l ≡ Press m
+      → Gives state (book l list) (ask_fact q (spelled f))
+      (ite (holds_at? m (facts_said (stated state)) (spelled f)) (book l list) (book (stopped_by (FactMissing q) l) list)) tt
+  pressed_fact m o = by (holds_at? m (facts_said (stated state)) (spelled f))
+    where
+      by : Dec (HoldsAt m (facts_said (stated state)) (spelled f))
+          → Gives state (book l list) (ask_fact q (spelled f))
+          (ite (holds_at? m (facts_said (stated state)) (spelled f)) (book l list) (book (stopped_by (FactMissing q) l) list)) tt
+      by (yes h) = rw (if_pos (holds_at? m (facts_said (stated state)) (spelled f)) h (book l list) (book (stopped_by (FactMissing q) l) list)) (fact_true state list l m q (spelled f) s o h)
+      by (no n) = rw (if_neg (holds_at? m (facts_said (stated state)) (spelled f)) n (book l list) (book (stopped_by (FactMissing q) l) list)) (fact_false state list l m q (spelled f) s o n)
+
+  -- The book that is left is where the question leads.
+  pub fact_leads : {b : Book} → b ≡ fact_asked state list l q f → f ≡ fact_of (spelled f) → Gives state (book l list) (ask_fact q (spelled f)) b tt
+  unfolding fact_asked
+  fact_leads e form =
+      rw e
+      (asked_cases l (book l list) (book l (fact_listed list f))
+      (ite (holds_at? (l.press - 1) (facts_said (stated state)) (spelled f)) (book l list) (book (stopped_by (FactMissing q) l) list))
+      (λ b. Gives state (book l list) (ask_fact q (spelled f)) b tt)
+      (λ n. stays state (book l list) _ _ tt (not_going (stop_of l) n).1 s)
+      (λ o. listed_leads o form)
+      (λ o. pressed_fact (l.press - 1) o))
 
 -- ── An order ──
 
 -- The office's decision leads where the question does.
-narrowed_leads : (state list : List ℕ) (l : Ledger) (q : ℕ) (t u : Time) → Sound (book l list) → reading_in l ≡ Office
+narrowed_leads : (state : List ℕ) (list : List Fact) (l : Ledger) (q : ℕ) (t u : Time) → Sound (book l list) → reading_in l ≡ Office
     → (d : Decision) → d ≡ decided t u → Gives state (book l list) (ask_order q t u) (book (narrowed_by l q d) list) tt
 unfolding narrowed_by narrow kept_of
-narrowed_leads state list l q t u s o Holds e = narrows state list l q t u Holds s o e l refl refl refl refl
+narrowed_leads state list l q t u s o Holds e = narrows state list l q t u Holds s o e l refl refl refl
 narrowed_leads state list l q t u s o Fails e = order_fails state list l q t u Fails s o e refl
-narrowed_leads state list l q t u s o (RaisesFrom k) e = narrows state list l q t u (RaisesFrom k) s o e _ refl refl refl refl
-narrowed_leads state list l q t u s o (LowersTo k) e = narrows state list l q t u (LowersTo k) s o e _ refl refl refl refl
+narrowed_leads state list l q t u s o (RaisesFrom k) e = narrows state list l q t u (RaisesFrom k) s o e _ refl refl refl
+narrowed_leads state list l q t u s o (LowersTo k) e = narrows state list l q t u (LowersTo k) s o e _ refl refl refl
 
 -- At a press it holds there, or stops the walk.
-pressed_leads : (state list : List ℕ) (l : Ledger) (q : ℕ) (t u : Time) (m : ℕ) → Sound (book l list) → reading_in l ≡ Press m
+pressed_leads : (state : List ℕ) (list : List Fact) (l : Ledger) (q : ℕ) (t u : Time) (m : ℕ) → Sound (book l list) → reading_in l ≡ Press m
     → Gives state (book l list) (ask_order q t u) (book (ite (at_most? m t u) l (stopped_by (OrderFalse q) l)) list) tt
 pressed_leads state list l q t u m s o = by (at_most? m t u)
   where

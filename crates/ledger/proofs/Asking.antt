@@ -1,7 +1,7 @@
 -- What a question that is asked leaves of a book: at the office it narrows the moments or lists a fact, at a press it is true or stops the walk.
-use Prim.Native.Nat.{ℕ, ◌+◌, ◌*◌, ◌<◌}
+use Prim.Native.Nat.{ℕ, ◌<◌}
 use mathlib.Core.Path.{◌≡◌, refl, sym, ap, ◌∙◌}
-use mathlib.Core.List.{List}
+use mathlib.Core.List.{List, [], ◌∷◌, ◌++◌, map, map-append}
 use Rattle.std.specs.Prelude.{Err, None, Ok, Option, Some}
 use mathlib.Core.Logic.{ite, if_pos, if_neg, ⊎_elim}
 use native.Mathlib.Omega.{arith}
@@ -26,11 +26,10 @@ use Rattle.state.specs.Standing.{Stands}
 use Rattle.ledger.specs.declared.Reading.{Reading}
 use Rattle.ledger.specs.declared.Reading.TheVariants.{Office, Press}
 use Rattle.ledger.specs.declared.Ledger.{Ledger}
-use Rattle.ledger.specs.Books.{book, Sound, fact_numbers, list_numbers, fact_in, facts_in, Gives, stop_of, reading_in, keeping, stopped_by, kept_of, reading_of, facts_said, resume, unless_stopped}
-use Rattle.ledger.specs.Putting.{KeptBefore}
+use Rattle.ledger.specs.Books.{book, Sound, Gives, stop_of, reading_in, stopped_by, kept_of, reading_of, facts_said, resume, unless_stopped}
 use Rattle.ledger.proofs.Stopping.{Stops, refusal_stops, fault_stops}
 use Rattle.ledger.proofs.Giving.{goes_or_stopped, stays, refuses, same_sound}
-use Rattle.ledger.proofs.Listing.{more_sound, facts_more}
+use Rattle.ledger.proofs.Listing.{more_sound}
 
 -- ── A question, as a book is read ──
 
@@ -38,9 +37,9 @@ use Rattle.ledger.proofs.Listing.{more_sound, facts_more}
 abbrev asked : Question → ℕ → Test
 asked x q = ask x q (done tt)
 
-module _ (state list : List ℕ) (l : Ledger) (x : Question) (q : ℕ) where
+module _ (state : List ℕ) (list : List Fact) (l : Ledger) (x : Question) (q : ℕ) where
   -- Where a question is granted, the walk goes on with what is left.
-  grants : (list' : List ℕ) (r : Ledger) → reading_in r ≡ reading_in l → stop_of r ≡ stop_of l → Sound (book r list')
+  grants : (list' : List Fact) (r : Ledger) → reading_in r ≡ reading_in l → stop_of r ≡ stop_of l → Sound (book r list')
       → answered (reading_of state (reading_in l)) x q (kept_of (book l list)) ≡ Ok (kept_of (book r list'))
       → Gives state (book l list) (asked x q) (book r list') tt
   unfolding resume run go_on
@@ -66,13 +65,13 @@ learnt : (state : List ℕ) (o : Reading) (x : Question) (q : ℕ) (s : Kept) �
 unfolding reading_of answered
 learnt state o x q s e = rw e
 
-module _ (state list : List ℕ) (l : Ledger) (q : ℕ) (t u : Time) (d : Decision) (s : Sound (book l list)) (o : reading_in l ≡ Office) (h : d ≡ decided t u) where
+module _ (state : List ℕ) (list : List Fact) (l : Ledger) (q : ℕ) (t u : Time) (d : Decision) (s : Sound (book l list)) (o : reading_in l ≡ Office) (h : d ≡ decided t u) where
   -- An order narrows the moments as it was decided.
-  pub narrows : (r : Ledger) → reading_in r ≡ reading_in l → stop_of r ≡ stop_of l → r.count ≡ l.count
+  pub narrows : (r : Ledger) → reading_in r ≡ reading_in l → stop_of r ≡ stop_of l
       → narrow q (kept_of (book l list)) d ≡ Ok (kept_of (book r list))
       → Gives state (book l list) (ask_order q t u) (book r list) tt
   unfolding learn
-  narrows r e f g k = grants state list l (at_most t u) q list r e f (same_sound list l r g s) (learnt state (reading_in l) _ q _ o ∙ rw (← h) k)
+  narrows r e f k = grants state list l (at_most t u) q list r e f (same_sound list l r s) (learnt state (reading_in l) _ q _ o ∙ rw (← h) k)
 
   -- An order that is decided false stops the walk.
   pub order_fails : d ≡ Fails → Gives state (book l list) (ask_order q t u) (book (stopped_by (OrderFalse q) l) list) tt
@@ -80,7 +79,7 @@ module _ (state list : List ℕ) (l : Ledger) (q : ℕ) (t u : Time) (d : Decisi
   order_fails k = denies state list l (at_most t u) q (OrderFalse q) (refusal_stops (OrderFalse q) (omega arith)) s (learnt state (reading_in l) _ q _ o ∙ rw (← h, k))
 
 -- Without room for a fact no walk that asks for one goes on.
-pub no_room : (state list : List ℕ) (l : Ledger) (q : ℕ) (f : Fact) → Sound (book l list) → (l.count < most_facts → ⊥)
+pub no_room : (state : List ℕ) (list : List Fact) (l : Ledger) (q : ℕ) (f : Fact) → Sound (book l list) → (length list < most_facts → ⊥)
     → Gives state (book l list) (ask_fact q (spelled f)) (book l list) tt
 unfolding asks cost
 no_room state list l q f s full = record {
@@ -89,30 +88,28 @@ no_room state list l q f s full = record {
   resumed = λ room. ⊎_elim (λ going. absurd (omega (arith, room going, full))) (λ e. (stays state (book l list) e.0 _ tt e.1 s).resumed room) (goes_or_stopped (stop_of l));
 }
 
-module _ (state list : List ℕ) (l : Ledger) (q : ℕ) (f : Fact) (s : Sound (book l list)) (o : reading_in l ≡ Office) where
+module _ (state : List ℕ) (list : List Fact) (l : Ledger) (q : ℕ) (f : Fact) (s : Sound (book l list)) (o : reading_in l ≡ Office) where
   -- A fact that is listed leaves the book as it is.
-  pub already_listed : In (spelled f) (facts_in list l.count) → Gives state (book l list) (ask_fact q (spelled f)) (book l list) tt
+  pub already_listed : In (spelled f) (map spelled list) → Gives state (book l list) (ask_fact q (spelled f)) (book l list) tt
   unfolding learn list_fact kept_of
   already_listed h =
       grants state list l (holds (spelled f)) q list l refl refl s
-      (learnt state (reading_in l) _ q _ o ∙ ap Ok (if_pos (in? spelled? (spelled f) (facts_in list l.count)) h _ _))
+      (learnt state (reading_in l) _ q _ o ∙ ap Ok (if_pos (in? spelled? (spelled f) (map spelled list)) h _ _))
 
   -- A new one, for which there is room, is listed last.
-  pub listed_last : (In (spelled f) (facts_in list l.count) → ⊥) → (more : List ℕ) (r : Ledger) → l.count < most_facts → length more ≡ list_numbers
-      → fact_in more l.count ≡ f → KeptBefore (l.count * fact_numbers) list more → f ≡ fact_of (spelled f)
-      → r ≡ keeping l l.from l.to (l.count + 1)
-      → Gives state (book l list) (ask_fact q (spelled f)) (book r more) tt
+  pub listed_last : (In (spelled f) (map spelled list) → ⊥) → length list < most_facts → f ≡ fact_of (spelled f)
+      → Gives state (book l list) (ask_fact q (spelled f)) (book l (list ++ (f ∷ []))) tt
   unfolding learn list_fact kept_of
-  listed_last new more r h room put kept form e =
-      grants state list l (holds (spelled f)) q more r (ap reading_in e) (ap stop_of e)
-      (more_sound list more l f put kept r s room h form (ap (λ x. x.count) e))
+  listed_last new room form =
+      grants state list l (holds (spelled f)) q (list ++ (f ∷ [])) l refl refl
+      (more_sound list l f s room form)
       (learnt state (reading_in l) _ q _ o
-      ∙ ap Ok (if_neg (in? spelled? (spelled f) (facts_in list l.count)) new _ _)
-      ∙ rw e (ap (λ fs. Ok record { from = l.from; to = l.to; facts = fs }) (sym (facts_more list more l f put kept))))
+      ∙ ap Ok (if_neg (in? spelled? (spelled f) (map spelled list)) new _ _)
+      ∙ ap (λ fs. Ok record { from = l.from; to = l.to; facts = fs }) (sym (map-append spelled list (f ∷ []))))
 
 -- ── At a press ──
 
-module _ (state list : List ℕ) (l : Ledger) (m : ℕ) (x : Question) (q : ℕ) (s : Sound (book l list)) (o : reading_in l ≡ Press m) where
+module _ (state : List ℕ) (list : List Fact) (l : Ledger) (m : ℕ) (x : Question) (q : ℕ) (s : Sound (book l list)) (o : reading_in l ≡ Press m) where
   -- What the state says.
   said : List Spelled
   said = facts_said (stated state)
@@ -132,7 +129,7 @@ module _ (state list : List ℕ) (l : Ledger) (m : ℕ) (x : Question) (q : ℕ)
   unfolding said
   false_at_press n = denies state list l x q (fault x q) (fault_stops x q) s (met ∙ if_neg (true? m said x) n _ _)
 
-module _ (state list : List ℕ) (l : Ledger) (m q : ℕ) (t u : Time) (s : Sound (book l list)) (o : reading_in l ≡ Press m) where
+module _ (state : List ℕ) (list : List Fact) (l : Ledger) (m q : ℕ) (t u : Time) (s : Sound (book l list)) (o : reading_in l ≡ Press m) where
   -- An order at a press.
   pub order_true : AtMost m t u → Gives state (book l list) (ask_order q t u) (book l list) tt
   unfolding True
@@ -141,6 +138,16 @@ module _ (state list : List ℕ) (l : Ledger) (m q : ℕ) (t u : Time) (s : Soun
   pub order_false : (AtMost m t u → ⊥) → Gives state (book l list) (ask_order q t u) (book (stopped_by (OrderFalse q) l) list) tt
   unfolding True fault
   order_false n = false_at_press state list l m (at_most t u) q s o n
+
+-- A fact at a press.
+module _ (state : List ℕ) (list : List Fact) (l : Ledger) (m q : ℕ) (f : Spelled) (s : Sound (book l list)) (o : reading_in l ≡ Press m) where
+  pub fact_true : HoldsAt m (facts_said (stated state)) f → Gives state (book l list) (ask_fact q f) (book l list) tt
+  unfolding True
+  fact_true h = true_at_press state list l m (holds f) q s o h
+
+  pub fact_false : (HoldsAt m (facts_said (stated state)) f → ⊥) → Gives state (book l list) (ask_fact q f) (book (stopped_by (FactMissing q) l) list) tt
+  unfolding True fault
+  fact_false n = false_at_press state list l m (holds f) q s o n
 
 -- The facts that a state says are those that stand in it.
 stands_said : (bytes : List ℕ) (f : Spelled) → Stands bytes f → In f (facts_said (stated bytes))
@@ -167,12 +174,3 @@ module _ (state : List ℕ) (m : ℕ) (f put : Fact) (e : put ≡ fact_at_moment
 
   pub holds_not : (Stands state (spelled put) → ⊥) → HoldsAt m (facts_said (stated state)) (spelled f) → ⊥
   holds_not n h = n (said_stands state _ (rw as_asked h))
-
-  module _ (list : List ℕ) (l : Ledger) (q : ℕ) (s : Sound (book l list)) (o : reading_in l ≡ Press m) where
-    pub fact_stands : Stands state (spelled put) → Gives state (book l list) (ask_fact q (spelled f)) (book l list) tt
-    unfolding True
-    fact_stands h = true_at_press state list l m (holds (spelled f)) q s o (holds_there h)
-
-    pub fact_misses : (Stands state (spelled put) → ⊥) → Gives state (book l list) (ask_fact q (spelled f)) (book (stopped_by (FactMissing q) l) list) tt
-    unfolding True fault
-    fact_misses n = false_at_press state list l m (holds (spelled f)) q s o (holds_not n)

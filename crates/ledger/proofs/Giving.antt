@@ -3,11 +3,14 @@ use Prim.Native.Nat.{ℕ}
 use native.Mathlib.Omega.{arith}
 use mathlib.Core.Path.{◌≡◌, refl, sym, ap, ◌∙◌}
 use mathlib.Core.List.{List}
+use lib.ListN.{length-map}
 use mathlib.Core.Logic.{◌⊎◌, inl, inr, ⊎_elim}
 use Rattle.std.specs.Prelude.{Err, Ok}
+use Rattle.procap.specs.Facts.{spelled}
 use Rattle.procap.specs.Outcome.{Outcome, go_on}
 use Rattle.procap.specs.declared.answer.Answer.{Answer}
 use Rattle.procap.specs.declared.answer.Answer.TheVariants.{StepUnfit}
+use Rattle.procap.specs.declared.fact.Fact.{Fact}
 use Rattle.bl.specs.Questions.{Walk, done, misfit, ask, ◌>>=◌}
 use Rattle.bl.specs.Readings as bl
 use Rattle.bl.specs.Readings.{Kept, run, answered}
@@ -15,8 +18,7 @@ use Rattle.bl.proofs.ListGrows.{list_grows, asks_both, asks_first}
 use Rattle.procap.proofs.Granted.{no_grant}
 use Rattle.ledger.specs.declared.Ledger.{Ledger}
 use Rattle.ledger.specs.Books.{Book, book, Sound, HasRoom, Gives, stop_of, reading_in, misfitted, stopped_by, kept_of, reading_of, resume, unless_stopped, GoesOn}
-use Rattle.ledger.proofs.Listing.{facts_counted}
-use Rattle.ledger.proofs.Stopping.{Stops, refusal_stops, stopped_now, stopped_before, stopped_reading, stopped_count}
+use Rattle.ledger.proofs.Stopping.{Stops, refusal_stops, stopped_now, stopped_before, stopped_reading}
 
 -- ── One line of a `do` ──
 
@@ -97,7 +99,7 @@ room_then state b m w a g h room going =
     let (before, run-granted) = from_going _ _ _ _ going (h.resumed (room_first b w g room)) (a, kept_of m) refl in
     let listed = list_grows o w (kept_of b) a (kept_of m) run-granted in
     let both = asks_both o w g (kept_of b) a (kept_of m) run-granted in
-    omega (arith, room before, listed, both, facts_counted b.list b.ledger.count, facts_counted m.list m.ledger.count)
+    omega (arith, room before, listed, both, length-map b.list spelled, length-map m.list spelled)
 
 -- ── Two lines ──
 
@@ -114,9 +116,9 @@ then state b m r w a g x e f = record {
 pub idle : {A : Type 0} (state : List ℕ) (b : Book) (a : A) → Sound b → Gives state b (done a) b a
 idle state b a s = record { same_reading = refl; sound = s; resumed = λ _. refl }
 
--- A book whose ledger counts as many facts is as sound.
-pub same_sound : (list : List ℕ) (l r : Ledger) → r.count ≡ l.count → Sound (book l list) → Sound (book r list)
-same_sound list l r e s = record { room = s.room; few = rw e s.few; in_form = λ i h. s.in_form i (rw e at h) }
+-- A book is as sound with another ledger.
+pub same_sound : (list : List Fact) (l r : Ledger) → Sound (book l list) → Sound (book r list)
+same_sound list l r s = record { few = s.few; in_form = s.in_form }
 
 -- A book goes on, or has stopped.
 pub goes_or_stopped : (s : Outcome (Unit {0})) → (s ≡ Ok tt) ⊎ ((answer : Answer) × (s ≡ Err answer))
@@ -124,13 +126,13 @@ goes_or_stopped (Ok tt) = inl refl
 goes_or_stopped (Err answer) = inr (answer, refl)
 
 -- A walk that comes to an answer stops the book with it, unless the book had stopped before.
-pub refuses : {A : Type 0} (state list : List ℕ) (l : Ledger) (answer : Answer) (w : Walk A) (a : A) → Stops answer → Sound (book l list)
+pub refuses : {A : Type 0} (state : List ℕ) (list : List Fact) (l : Ledger) (answer : Answer) (w : Walk A) (a : A) → Stops answer → Sound (book l list)
     → run (reading_of state (reading_in l)) w (kept_of (book l list)) ≡ Err answer
     → Gives state (book l list) w (book (stopped_by answer l) list) a
 unfolding resume
 refuses state list l answer w a k s h = record {
   same_reading = stopped_reading answer l;
-  sound = same_sound list l (stopped_by answer l) (stopped_count answer l) s;
+  sound = same_sound list l (stopped_by answer l) s;
   resumed = λ _. ⊎_elim now before (goes_or_stopped (stop_of l));
 }
   where
@@ -141,7 +143,7 @@ refuses state list l answer w a k s h = record {
     before e = stop_refused _ e.0 _ (stopped_before l answer e.0 e.1) ∙ sym (stop_refused (stop_of l) e.0 _ e.1)
 
 -- A step that does not fit.
-pub misfits : {A : Type 0} (state list : List ℕ) (l : Ledger) (q : ℕ) (a : A) → Sound (book l list)
+pub misfits : {A : Type 0} (state : List ℕ) (list : List Fact) (l : Ledger) (q : ℕ) (a : A) → Sound (book l list)
     → Gives state (book l list) (misfit q) (book (misfitted l q) list) a
 unfolding run
 misfits state list l q a s = refuses state list l (StepUnfit q) (misfit q) a (refusal_stops (StepUnfit q) (omega arith)) s refl

@@ -3,5 +3,4 @@ pub mod Stopping
 pub mod Giving
 pub mod Asking
 pub mod Asked
-pub mod Stored
 pub mod Listing

@@ -68,7 +68,7 @@ pub stopped_before : (l : Ledger) (answer before : Answer) → stop_of l ≡ Err
 unfolding stopped_by
 stopped_before l answer before e = rw (ne_eqb l.number 0 (λ z. no_grant (sym e ∙ number_going l z))) e
 
--- It leaves the reading and the count as they were.
+-- It leaves the reading as it was.
 pick_same : {A : Type 0} (f : Ledger → A) (b : Bool) (l r : Ledger) → f r ≡ f l → f (pick b r l) ≡ f l
 pick_same f true l r e = e
 pick_same f false l r e = refl
@@ -76,7 +76,3 @@ pick_same f false l r e = refl
 pub stopped_reading : (answer : Answer) (l : Ledger) → reading_in (stopped_by answer l) ≡ reading_in l
 unfolding stopped_by
 stopped_reading answer l = pick_same reading_in (eqb l.number 0) l _ refl
-
-pub stopped_count : (answer : Answer) (l : Ledger) → (stopped_by answer l).count ≡ l.count
-unfolding stopped_by
-stopped_count answer l = pick_same (λ x. x.count) (eqb l.number 0) l _ refl

@@ -1,16 +1,14 @@
--- A walk that goes on from a ledger and the list of facts beside it.
-use Rattle.std.specs.Prelude.{ℕ, zero, suc, ◌+◌, ◌-◌, ◌*◌, ◌%◌, ◌≤◌, ◌<◌, ◌≡◌, List, [], ◌∷◌, ◌++◌, length, get_or, leb, eqb, Err, None, Option, Some, Ok}
+-- A walk that goes on from a ledger and the facts that are listed beside it.
+use Rattle.std.specs.Prelude.{ℕ, ◌+◌, ◌-◌, ◌≤◌, ◌≡◌, List, [], length, map, leb, eqb, Err, None, Option, Some, Ok}
 use Rattle.procap.specs.Tells.{pick}
 use Rattle.procap.specs.Times.{earliest, latest}
 use Rattle.procap.specs.Answers.{number_of, place_of, answer_with}
 use Rattle.procap.specs.Facts.{Spelled, spelled, fact_of}
-use Rattle.procap.specs.Numbered.{of_numbers}
 use Rattle.procap.specs.Procaps.{most_facts}
 use Rattle.procap.specs.States.{stated}
 use Rattle.procap.specs.Outcome.{Outcome}
 use Rattle.procap.specs.declared.answer.Answer.{Answer}
 use Rattle.procap.specs.declared.answer.Answer.TheVariants.{MomentAboveLatest, StepUnfit}
-use Rattle.procap.specs.declared.fact.Argument.{Argument}
 use Rattle.procap.specs.declared.fact.Fact.{Fact}
 use Rattle.bl.specs.Questions.{Walk, done, asks, Test}
 use Rattle.bl.specs.Readings as bl
@@ -19,28 +17,20 @@ use Rattle.ledger.specs.declared.Reading.{Reading}
 use Rattle.ledger.specs.declared.Reading.TheVariants.{Office, Press}
 use Rattle.ledger.specs.declared.Ledger.{Ledger}
 
--- How many numbers a listed fact takes: its predicate, its count, and two for each of four terms.
-abbrev pub fact_numbers : ℕ
-fact_numbers = 10
-
--- How many the whole list takes.
-abbrev pub list_numbers : ℕ
-list_numbers = 160
-
--- The ledger, and the numbers of the list beside it.
+-- The ledger, and the facts that are listed beside it.
 pub record Book : Type 0 where
   pub ledger : Ledger
-  pub list : List ℕ
+  pub list : List Fact
 
 -- A ledger with every moment left, read at the office (0) or at a press (its moment plus one).
 abbrev pub opened : ℕ → Ledger
-opened n = record { number = 0; place = 0; press = n; from = earliest; to = latest; count = 0 }
+opened n = record { number = 0; place = 0; press = n; from = earliest; to = latest }
 
 -- The ledger stopped by an answer, unless it was before.
 unfoldable pub stopped_by : Answer → Ledger → Ledger
 stopped_by answer l =
     pick (eqb l.number 0)
-    (record { number = number_of answer; place = place_of answer; press = l.press; from = l.from; to = l.to; count = l.count })
+    (record { number = number_of answer; place = place_of answer; press = l.press; from = l.from; to = l.to })
     l
 
 -- The ledger at the start of a walk. Above the latest moment it has stopped by 11, with no press to read at.
@@ -68,41 +58,21 @@ reading_by n = pick (eqb n 0) Office (Press (n - 1))
 abbrev pub reading_in : Ledger → Reading
 reading_in l = reading_by l.press
 
--- The ledger with these moments left and so many facts listed.
-abbrev pub keeping : Ledger → ℕ → ℕ → ℕ → Ledger
-keeping l from to count = record { number = l.number; place = l.place; press = l.press; from = from; to = to; count = count }
+-- The ledger with these moments left.
+abbrev pub keeping : Ledger → ℕ → ℕ → Ledger
+keeping l from to = record { number = l.number; place = l.place; press = l.press; from = from; to = to }
 
-abbrev pub book : Ledger → List ℕ → Book
+abbrev pub book : Ledger → List Fact → Book
 book l list = record { ledger = l; list = list }
-
--- The term that two numbers of the list stand for.
-abbrev pub argument_in : List ℕ → ℕ → Argument
-argument_in list at = record { term = of_numbers (get_or list at 0) (get_or list (at + 1) 0) }
-
--- The fact at an index of the list.
-unfoldable pub fact_in : List ℕ → ℕ → Fact
-fact_in list i =
-    let start = i * fact_numbers in
-    record {
-      predicate = get_or list start 0 % 65536;
-      count = get_or list (start + 1) 0;
-      arguments = argument_in list (start + 2) ∷ argument_in list (start + 4) ∷ argument_in list (start + 6) ∷ argument_in list (start + 8) ∷ [];
-    }
-
--- The first facts of the list, in order.
-unfoldable pub facts_in : List ℕ → ℕ → List Spelled
-facts_in list zero = []
-facts_in list (suc n) = facts_in list n ++ (spelled (fact_in list n) ∷ [])
 
 -- What a book keeps.
 unfoldable pub kept_of : Book → Kept
-kept_of b = record { from = b.ledger.from; to = b.ledger.to; facts = facts_in b.list b.ledger.count }
+kept_of b = record { from = b.ledger.from; to = b.ledger.to; facts = map spelled b.list }
 
--- A book has room for all facts, lists no more, and has zeros past the terms of each.
+-- A book lists no more facts than a procap holds, each with zeros past its terms.
 pub record Sound (b : Book) : Type 0 where
-  pub room : length b.list ≡ list_numbers
-  pub few : b.ledger.count ≤ most_facts
-  pub in_form : (i : ℕ) → i < b.ledger.count → fact_in b.list i ≡ fact_of (spelled (fact_in b.list i))
+  pub few : length b.list ≤ most_facts
+  pub in_form : b.list ≡ map fact_of (map spelled b.list)
 
 -- The facts that a state says; bytes that are no state say none.
 unfoldable pub facts_said : Option (List Spelled) → List Spelled
@@ -125,7 +95,7 @@ resume state b w = unless_stopped (stop_of b.ledger) (run (reading_of state (rea
 
 -- While the walk w goes on from the book b, the facts listed and those that it still asks for are at most 16.
 abbrev pub HasRoom : {A : Type 0} → Book → Walk A → Type 0
-HasRoom b w = GoesOn b.ledger → b.ledger.count + asks w ≤ most_facts
+HasRoom b w = GoesOn b.ledger → length b.list + asks w ≤ most_facts
 
 -- The work of the walk w, from the book b, led to the book b' and the value a: with room for its facts, what is left to read is what was to be read.
 pub record Gives {A : Type 0} (state : List ℕ) (b : Book) (w : Walk A) (b' : Book) (a : A) : Type 0 where
@@ -139,4 +109,4 @@ misfitted l q = stopped_by (StepUnfit q) l
 
 -- The walk w leads from the one ledger to the other, whatever is listed.
 abbrev pub Leads : Ledger → Test → Ledger → Type 0
-Leads l w r = (state list : List ℕ) → Sound (book l list) → Gives state (book l list) w (book r list) tt
+Leads l w r = (state : List ℕ) (list : List Fact) → Sound (book l list) → Gives state (book l list) w (book r list) tt

@@ -1,4 +1,3 @@
 -- What a ledger keeps, and what it is to go on from one.
 pub mod Books
-pub mod Putting
 pub mod Asking

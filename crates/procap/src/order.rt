@@ -1,4 +1,5 @@
-// The order of two times: one table by the kind of the left and of the right time, with the page's rows in the page's order. It is read at a moment, and with the clock still open.
+// The order of two times: one table by the kind of the left and of the right time, with the page's rows in the page's order. It is
+// read at a moment, and with the clock still open.
 ghost use Rattle.std.specs.Prelude.{◌≡◌};
 ghost use Rattle.procap.specs.Tells.{Tells};
 ghost use Rattle.procap.specs.Order.{AtMost, decided};

@@ -1,4 +1,5 @@
-// Numbers in strictly rising order at the front of a lent slice: where one stands, and one put among them.
+// Numbers in strictly rising order at the front of a lent slice: where one stands, and one put among them. Who lends the slice keeps
+// the count beside it: the two calls promise what they do of every slice and every count, as docs/PROMISES.md says.
 #![tactic(auto)]
 
 ghost use Rattle.std.specs.Prelude.{◌≡◌, ◌+◌, ◌≤◌, ◌<◌, length, take};

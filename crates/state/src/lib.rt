@@ -31,7 +31,8 @@ pub fn stands_in(state: &[u8], wanted: Fact) -> bool
     find(state, wanted).unwrap_or(false)
 }
 
-// Whether the fact stands in the whole state; nothing of bytes that are no state.
+// Whether the fact stands in the whole state; nothing of bytes that are no state. (Each fact tells where the next begins, so the loop
+// counts nothing that a `for` could count.)
 fn find(state: &[u8], wanted: Fact) -> Option<bool>
     ensures { Finds (stated state.now) (spelled wanted) result }
 {
@@ -77,9 +78,9 @@ fn fact_with(state: &[u8], predicate: u16, terms: usize, at: usize) -> Option<(F
         (argument.term, next) = settled_term_at(state, next)?;
     }
     let fact = Fact {
-        predicate: predicate,
+        predicate,
         count: terms,
-        arguments: arguments,
+        arguments,
     };
     Some((fact, next))
 }

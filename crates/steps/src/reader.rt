@@ -1,4 +1,5 @@
-// The reader of proof bytes: the lent bytes and a place in them. Every byte of a proof that is looked at, to see that it is well formed or to walk it, is read by it.
+// The reader of proof bytes: the lent bytes and a place in them, as D77 has it. Every byte of a proof that is looked at, to see that it
+// is well formed or to walk it, is read by it.
 ghost use Rattle.std.specs.Prelude.{◌≡◌, ◌+◌, ◌≤◌, ◌<◌, length, get_or, slice_get};
 
 use procap::bytes::past;

@@ -72,7 +72,8 @@ impl Room {
     }
 }
 
-// The two times of the 26 whose second part began at a place; a step that must infer, or one that checks; the second part of a 26, which checks, and its times; two steps that check.
+// The two times of the 26 whose second part began at a place; a step that must infer, or one that checks; the second part of a 26,
+// which checks, and its times; two steps that check.
 #[derive(Clone, Copy)]
 pub(crate) enum Todo {
     Times(usize),

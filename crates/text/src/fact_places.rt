@@ -40,10 +40,7 @@ pub(crate) fn lines_at(text: &[u8], at: usize, count: usize) -> Option<(Lines, u
         places[i] = next;
         next = end;
     }
-    let lines = Lines {
-        count: count,
-        places: places,
-    };
+    let lines = Lines { count, places };
     Some((lines, next))
 }
 

@@ -44,15 +44,15 @@ fn fact_with(text: &[u8], predicate: u16, at: usize) -> Option<(Fact, usize)>
             break;
         };
         let (term, after_term) = term_at(text, after_space)?;
-        *argument = Argument { term: term };
+        *argument = Argument { term };
         next = after_term;
         count += 1;
     }
     let line_end = after(text, next, b"\n")?;
     let fact = Fact {
-        predicate: predicate,
-        count: count,
-        arguments: arguments,
+        predicate,
+        count,
+        arguments,
     };
     Some((fact, line_end))
 }

@@ -30,7 +30,8 @@ fn digit_at(text: &[u8], at: usize) -> Option<u64>
     }
 }
 
-// The number at a place, up to a limit and in its one spelling.
+// The number at a place, up to a limit and in its one spelling. (Digits are read one by one: where they end is handed back, and the
+// library's `parse` would take the spellings `007` and `+7` too.)
 pub fn number(text: &[u8], at: usize, limit: u64) -> Option<(u64, usize)>
     ensures reads { result ≡ number_to text.now limit at }
     ensures bound { IfSome result (λ r. r.0 ≤ limit) }

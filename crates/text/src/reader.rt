@@ -49,7 +49,7 @@ pub fn read_text(text: &[u8]) -> ReadText
     };
     ReadText {
         answer: Answer::Granted,
-        procap: procap,
+        procap,
     }
 }
 
@@ -76,10 +76,10 @@ fn look_over_facts(text: &[u8], request: Request, from: u64, to: u64, at: usize)
         return None;
     }
     Some(Overview {
-        request: request,
-        from: from,
-        to: to,
-        lines: lines,
+        request,
+        from,
+        to,
+        lines,
     })
 }
 

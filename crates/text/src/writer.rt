@@ -68,11 +68,8 @@ fn told(written: Result<usize, Answer>) -> WrittenText
     match written {
         Ok(length) => WrittenText {
             answer: Answer::Granted,
-            length: length,
+            length,
         },
-        Err(answer) => WrittenText {
-            answer: answer,
-            length: 0,
-        },
+        Err(answer) => WrittenText { answer, length: 0 },
     }
 }

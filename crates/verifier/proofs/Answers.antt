@@ -4,11 +4,11 @@ use Prim.Native.Nat.{ℕ, ◌≤◌, ◌<◌}
 use native.Mathlib.Omega.{arith}
 use native.Mathlib.Decide.{dec_le}
 use mathlib.Core.Path.{◌≡◌, refl, sym, ap, ◌∙◌}
-use mathlib.Core.List.{List}
+use mathlib.Core.List.{List, [], map}
 use Rattle.std.specs.Prelude.{Err, None, Ok, Option, Some}
 use lib.ListN.{length}
 use Rattle.procap.specs.Times.{latest}
-use Rattle.procap.specs.Facts.{Spelled}
+use Rattle.procap.specs.Facts.{Spelled, spelled}
 use Rattle.procap.specs.Procaps.{procap_of}
 use Rattle.procap.specs.States.{stated}
 use Rattle.procap.specs.Desk.{read_press}
@@ -18,6 +18,7 @@ use Rattle.procap.specs.declared.answer.Answer.TheVariants.{ProofMalformed, NoMo
 use Rattle.procap.specs.declared.procap.Request.{Request}
 use Rattle.procap.specs.declared.procap.Procap.{Procap}
 use Rattle.procap.proofs.Granted.{goes_on, is_so, is_not_so, no_grant, reads_press}
+use Rattle.procap.specs.declared.fact.Fact.{Fact}
 use Rattle.state.specs.Standing.{WellFormed}
 use Rattle.bl.specs.declared.Certificate.{Certificate}
 use Rattle.bl.specs.Trees.{Check}
@@ -33,7 +34,7 @@ use Rattle.bl.proofs.Called.{few_pairs, too_many_pairs, policy_from, case_read}
 use Rattle.ledger.specs.declared.Reading.{Reading}
 use Rattle.ledger.specs.declared.Reading.TheVariants.{Office, Press}
 use Rattle.ledger.specs.declared.Ledger.{Ledger}
-use Rattle.ledger.specs.Books.{begun, stop_of, GoesOn, Book, book, list_numbers, Sound, facts_in, kept_of, facts_said, resume}
+use Rattle.ledger.specs.Books.{begun, stop_of, GoesOn, Book, book, Sound, kept_of, facts_said, resume}
 use Rattle.ledger.proofs.Giving.{stop_refused, stop_going}
 use Rattle.verifier.specs.Verifying.{Taken, Walked, PolicyRead, CaseReads, CaseRead}
 use Rattle.steps.specs.Ends.{ToldChecking}
@@ -47,12 +48,12 @@ refused_on o f answer e = rw e refl
 
 -- ── The end ──
 
-module _ (r : Request) (l : Ledger) (list : List ℕ) where
+module _ (r : Request) (l : Ledger) (list : List Fact) where
   pub none_left : l.to < l.from → Err NoMomentLeft ≡ issue r (kept_of (book l list))
   unfolding issue kept_of
   none_left e = sym (refused_on _ _ NoMomentLeft (is_not_so NoMomentLeft (dec_le l.from l.to) (λ h. omega arith)))
 
-  pub some_left : l.from ≤ l.to → (p : Procap) → p ≡ procap_of r l.from l.to (facts_in list l.count) → Ok p ≡ issue r (kept_of (book l list))
+  pub some_left : l.from ≤ l.to → (p : Procap) → p ≡ procap_of r l.from l.to (map spelled list) → Ok p ≡ issue r (kept_of (book l list))
   unfolding issue kept_of
   some_left h p is = ap Ok is ∙ sym (goes_on _ _ tt (is_so NoMomentLeft (dec_le l.from l.to) h))
 
@@ -167,7 +168,7 @@ unfolding resume run
 resume_going state b e = stop_going _ _ e
 
 module _ (r : Request) (records : List Certificate) (buffer pairs proof : List ℕ) {rows ends : List ℕ} (case : CaseRead records buffer pairs proof rows ends (Ok tt))
-    (state : List ℕ) (reading : Reading) (list : List ℕ) (l : Ledger) (list' : List ℕ) (room : length list ≡ list_numbers)
+    (state : List ℕ) (reading : Reading) (list : List Fact) (l : Ledger) (list' : List Fact) (none : list ≡ [])
     (walked : Walked (record { request = r; reading = reading }) (PolicyRead buffer rows pairs) proof state ends list l list') where
   -- The case that was read.
   abbrev the_case : Case
@@ -181,7 +182,7 @@ module _ (r : Request) (records : List Certificate) (buffer pairs proof : List �
   begins = resume state (book (begun reading) list) the_walk
 
   came : Sound (book l list') × (resume state (book l list') (done (tt {0})) ≡ begins)
-  came = walked the_case.0 the_case.1 room (case.reads the_case case.stops.1)
+  came = walked the_case.0 the_case.1 none (case.reads the_case case.stops.1)
 
   walk_stopped : (answer : Answer) → stop_of l ≡ Err answer → begins ≡ Err answer
   walk_stopped answer e = sym came.1 ∙ resume_stopped state (book l list') answer e
@@ -192,7 +193,7 @@ module _ (r : Request) (records : List Certificate) (buffer pairs proof : List �
   -- At the office its answer refuses; else what its ledger keeps is issued.
   module _ (at_office : reading ≡ Office) where
     office_run : begins ≡ run office the_walk start
-    office_run = rw at_office (office_begins state list the_walk)
+    office_run = rw (at_office, none) (office_begins state the_walk)
 
     pub verify_stopped : (answer : Answer) → stop_of l ≡ Err answer → Err answer ≡ verified r records buffer pairs proof
     verify_stopped answer e =
@@ -207,7 +208,7 @@ module _ (r : Request) (records : List Certificate) (buffer pairs proof : List �
   module _ (m : ℕ) (at_press : reading ≡ Press m) (in_range : m ≤ latest) (says : WellFormed state) where
     press_run : begins ≡ run (press m says.0) the_walk start
     unfolding facts_said
-    press_run = rw at_press (press_begins state list the_walk m in_range ∙ rw says.1)
+    press_run = rw (at_press, none) (press_begins state the_walk m in_range ∙ rw says.1)
 
     check_from : directly r records buffer pairs proof m state ≡ go_on (run (press m says.0) the_walk start) (λ w. Ok w.0)
     check_from = direct_from r records buffer pairs proof the_case case.stops.1 m state ∙ goes_on _ _ says.0 (reads_press m state says.0 in_range says.1)

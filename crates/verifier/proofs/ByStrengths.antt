@@ -16,6 +16,7 @@ use Rattle.ledger.specs.declared.Ledger.{Ledger}
 use Rattle.walk.specs.Walking.{PolicyLent}
 use Rattle.verifier.specs.declared.verify.Asked.{Asked}
 use Rattle.verifier.specs.Verifying.{PolicyRead, Walked}
+use Rattle.procap.specs.declared.fact.Fact.{Fact}
 
 -- No pairs give no strengths.
 pub none_give : (pairs : List ℕ) (ps : List Pair) → length pairs ≡ 0 → pairs_in pairs ≡ Ok ps → LentStrengthsOf None ps
@@ -27,7 +28,7 @@ pub found_give : (pairs : List ℕ) (before strengths : Strengths) (ps : List Pa
 found_give pairs before strengths ps none found e = pairs_from pairs ps e λ few is. rw is (found few none)
 
 -- So the walk by these is the walk by those.
-pub by_strengths : (asked : Asked) (buffer pairs rows : List ℕ) (strengths : StrengthsLent) (proof state ends list : List ℕ) {l : Ledger} {list' : List ℕ}
+pub by_strengths : (asked : Asked) (buffer pairs rows : List ℕ) (strengths : StrengthsLent) (proof state ends : List ℕ) (list : List Fact) {l : Ledger} {list' : List Fact}
     → ((ps : List Pair) → pairs_in pairs ≡ Ok ps → LentStrengthsOf strengths ps)
     → Walked asked (PolicyLent buffer rows strengths) proof state ends list l list'
     → Walked asked (PolicyRead buffer rows pairs) proof state ends list l list'

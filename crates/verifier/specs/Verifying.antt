@@ -1,9 +1,10 @@
 -- What the parts of verify and of the direct check promise.
-use Rattle.std.specs.Prelude.{ℕ, ◌+◌, ◌≤◌, ◌<◌, ◌≡◌, List, length, get_or, Err, Ok, Some}
+use Rattle.std.specs.Prelude.{ℕ, ◌+◌, ◌≤◌, ◌<◌, ◌≡◌, List, [], length, get_or, Err, Ok, Some}
 use Rattle.procap.specs.Lent.{Lent, LentToWrite}
 use Rattle.procap.specs.Numbered.{time_numbers}
 use Rattle.procap.specs.Outcome.{Outcome, go_on, answer_of, procap_handed}
 use Rattle.procap.specs.declared.time.Time.TheVariants.{Moment}
+use Rattle.procap.specs.declared.fact.Fact.{Fact}
 use Rattle.procap.specs.declared.procap.Request.{Request}
 use Rattle.procap.specs.declared.procap.Procap.{Procap}
 use Rattle.bl.specs.declared.Certificate.{Certificate}
@@ -22,7 +23,8 @@ use Rattle.verifier.specs.declared.verify.Verified.{Verified}
 use Rattle.verifier.specs.declared.verify.Asked.{Asked}
 use Rattle.steps.specs.Ends.{ToldChecking, EndsTold}
 use Rattle.ledger.specs.declared.Ledger.{Ledger}
-use Rattle.ledger.specs.Books.{begun, book, list_numbers, Sound, resume}
+use Rattle.ledger.specs.Books.{begun, book, Sound, resume}
+use Rattle.ledger.specs.Asking.{ListLent}
 use Rattle.judging.specs.declared.rows.Row.{Row}
 use Rattle.formula.specs.PutIn.{no_terms}
 use Rattle.judging.specs.RowsOf.{row_in, all_numbers, Certified}
@@ -54,18 +56,18 @@ pub record CaseReads (IsPolicy : Policy → Type 0) (ends proof : List ℕ) (π 
   pub proof_reads : proof_in (length π.statements) proof ≡ Some N
   pub told : ToldChecking ends N
 
--- The ledger and the list at the end are what the walk of the proof comes to, from the ledger at its start.
-abbrev pub Walked : Asked → (Policy → Type 0) → List ℕ → List ℕ → List ℕ → List ℕ → Ledger → List ℕ → Type 0
+-- The ledger and the list at the end are what the walk of the proof comes to, from the ledger at its start and an empty list.
+abbrev pub Walked : Asked → (Policy → Type 0) → List ℕ → List ℕ → List ℕ → List Fact → Ledger → List Fact → Type 0
 Walked asked IsPolicy proof state ends list l list' =
-    (π : Policy) (N : Check) → length list ≡ list_numbers → CaseReads IsPolicy ends proof π N
+    (π : Policy) (N : Check) → list ≡ [] → CaseReads IsPolicy ends proof π N
     → Sound (book l list') × (resume state (book l list') (done (tt {0})) ≡ resume state (book (begun asked.reading) list) (walk asked.request π N))
 
 -- The same of what is lent, where r is the ledger at the end: over pairs, and over the strengths that were found.
-abbrev pub WalkedOver : Asked → Lent → Lent → Lent → Lent → Lent → Lent → LentToWrite → Ledger → Type 0
+abbrev pub WalkedOver : Asked → Lent → Lent → Lent → Lent → Lent → Lent → ListLent → Ledger → Type 0
 WalkedOver asked buffer pairs proof state rows ends facts r =
     Walked asked (PolicyRead buffer.entry.now rows.entry.now pairs.entry.now) proof.entry.now state.entry.now ends.entry.now facts.entry.now r facts.exit.now
 
-abbrev pub WalkedBy : Asked → Lent → Lent → Lent → Lent → Both StrengthsLent StrengthsLent → Lent → LentToWrite → Ledger → Type 0
+abbrev pub WalkedBy : Asked → Lent → Lent → Lent → Lent → Both StrengthsLent StrengthsLent → Lent → ListLent → Ledger → Type 0
 WalkedBy asked buffer proof state rows strengths ends facts r =
     Walked asked (PolicyLent buffer.entry.now rows.entry.now strengths.entry) proof.entry.now state.entry.now ends.entry.now facts.entry.now r facts.exit.now
 

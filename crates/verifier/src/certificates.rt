@@ -80,7 +80,7 @@ fn row_of(certificate: Certificate) -> Row
     ensures { result ≡ row_of certificate }
 {
     Row {
-        whose: Some(u64::from(certificate.principal)),
+        whose: Some(certificate.principal as u64),
         judgement: Judgement {
             formula: FormulaAt {
                 at: certificate.start,

@@ -15,7 +15,8 @@ use bl::Certificate;
 use formula::parts::Judgement;
 use judging::judge::Scope;
 use judging::rows::ALL_NUMBERS;
-use ledger::{LIST_NUMBERS, Ledger, Reading, procap_of};
+use ledger::facts::FactList;
+use ledger::{Ledger, Reading};
 use procap::answer::Answer;
 use procap::procap::{Procap, Request};
 use procap::time::LATEST_SECOND;
@@ -80,7 +81,7 @@ fn procap_for(
     let mut rows = [0u64; ALL_NUMBERS];
     let mut ends = [0u16; MOST_ENDS];
     read_case(certificates, buffer, pairs, proof, &mut rows, &mut ends)?;
-    let mut facts = [0u64; LIST_NUMBERS];
+    let mut facts = FactList::none();
     let asked = Asked {
         request,
         reading: Reading::Office,
@@ -91,13 +92,13 @@ fn procap_for(
 }
 
 // The procap of what is kept, unless no moment is left.
-fn issued(request: Request, ledger: Ledger, facts: &[u64]) -> Result<Procap, Answer>
+fn issued(request: Request, ledger: Ledger, facts: &FactList) -> Result<Procap, Answer>
     ensures { Sound (book ledger facts.now) → result ≡ issue request (kept_of (book ledger facts.now)) }
 {
     if ledger.to < ledger.from {
         return Err(Answer::NoMomentLeft);
     }
-    Ok(procap_of(request, ledger, facts))
+    Ok(facts.procap(request, ledger))
 }
 
 // Whether the proof, checked at a moment in a state, is accepted there.
@@ -140,7 +141,7 @@ fn accepted(
     if !state::well_formed(state) {
         return Err(Answer::StateMalformed);
     }
-    let mut facts = [0u64; LIST_NUMBERS];
+    let mut facts = FactList::none();
     let asked = Asked {
         request,
         reading: Reading::Press(moment),
@@ -184,7 +185,7 @@ fn walked(
     state: &[u8],
     certificates: &[u64],
     ends: &[u16],
-    facts: &mut [u64],
+    facts: &mut FactList,
 ) -> Ledger
     ensures { WalkedOver asked buffer pairs proof state certificates ends facts result }
 {
@@ -206,7 +207,7 @@ fn walked_by(
     certificates: &[u64],
     strengths: Option<&Strengths>,
     ends: &[u16],
-    facts: &mut [u64],
+    facts: &mut FactList,
 ) -> Ledger
     ensures { WalkedBy asked buffer proof state certificates strengths ends facts result }
 {

@@ -24,10 +24,11 @@ use Rattle.judging.specs.RowNumbers.{rows_with}
 use Rattle.judging.specs.Judging.{view_in, scope_with, Passes}
 use Rattle.walk.specs.Walking.{Sources, Around, Keeps, ChecksAt}
 use Rattle.walk.proofs.Surroundings.{around_more, around_kept, scope_more, keeps_others}
+use Rattle.procap.specs.declared.fact.Fact.{Fact}
 
 module _ (S : Sources) (rows : List ℕ) (scope : Scope) (left : ℕ) (goal_bytes : List ℕ) (goal : Judgement)
     {between more : List ℕ} (row : Row) (kept : Keeps scope.count rows between) (put : more ≡ rows_with between scope.count row) (all : length more ≡ length between)
-    (ledger : Ledger) (list : List ℕ) (at : ℕ) {r : Checked} {list' : List ℕ}
+    (ledger : Ledger) (list : List Fact) (at : ℕ) {r : Checked} {list' : List Fact}
     (checks : ChecksAt S more (scope_with scope) ledger list left goal_bytes goal at r list') where
   pub part_assuming : (π : Policy) (Γ : List Assumption) (N : Check) (e : ℕ) → Sound (book ledger list) → Around S rows scope (suc left) π Γ
       → check_step S.proof (length π.statements) left (suc scope.count) at ≡ Some (N, e) → ToldChecking S.ends N

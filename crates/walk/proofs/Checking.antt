@@ -7,6 +7,7 @@ use Rattle.std.specs.Prelude.{None, Some}
 use native.Mathlib.Omega.{arith}
 use lib.ListN.{length, get_or}
 use Rattle.procap.specs.Bytes.{Reader}
+use Rattle.procap.specs.declared.fact.Fact.{Fact}
 use Rattle.bl.specs.declared.InferTag.{InferTag}
 use Rattle.bl.specs.declared.CheckTag.{CheckTag}
 use Rattle.bl.specs.declared.CheckTag.TheVariants.{PairTag, TopStepTag, AtInTag, AtOutTag, SaysInTag, SaysOutTag, StateTag, OrderStepTag, OrLeftTag, OrRightTag, OrOutTag, FalsityOutTag, InferredTag}
@@ -142,23 +143,23 @@ take_read proof ends c n h q tag shell N e takes_says reads told =
 
 -- ── The steps ──
 
-module _ (S : Sources) (rows : List ℕ) (scope : Scope) (ledger : Ledger) (list goal_bytes : List ℕ) (goal : Judgement) where
+module _ (S : Sources) (rows : List ℕ) (scope : Scope) (ledger : Ledger) (list : List Fact) (goal_bytes : List ℕ) (goal : Judgement) where
   -- The view of the steps here.
   abbrev view : View
   view = view_in scope.view
 
   -- The first test: is a level left?
-  pub check_none : (left at : ℕ) {r : Checked} {list' : List ℕ} → left ≡ 0 → ChecksAt S rows scope ledger list left goal_bytes goal at r list'
+  pub check_none : (left at : ℕ) {r : Checked} {list' : List Fact} → left ≡ 0 → ChecksAt S rows scope ledger list left goal_bytes goal at r list'
   check_none left at z π Γ N e sound around reads told = absurd (no_check_step S.proof (length π.statements) left scope.count at N e z reads)
 
   -- Then the step is read by its tag, if there is one.
-  pub check_no_tag : (left at : ℕ) {r : Checked} {list' : List ℕ} → check_tag (get_or S.proof at 0) ≡ None → ChecksAt S rows scope ledger list left goal_bytes goal at r list'
+  pub check_no_tag : (left at : ℕ) {r : Checked} {list' : List Fact} → check_tag (get_or S.proof at 0) ≡ None → ChecksAt S rows scope ledger list left goal_bytes goal at r list'
   check_no_tag zero at t π Γ N e sound around reads told = absurd (no_check_step S.proof (length π.statements) zero scope.count at N e refl reads)
   check_no_tag (suc n) at t π Γ N e sound around reads told =
       let found = check_read S.proof (length π.statements) n scope.count at N e reads in
       absurd (none-some found.1.tag (sym t ∙ found.1.is))
 
-  pub check_tagged : (left n at : ℕ) (tag : CheckTag) {r : Checked} {list' : List ℕ} → left ≡ suc n → check_tag (get_or S.proof at 0) ≡ Some tag
+  pub check_tagged : (left n at : ℕ) (tag : CheckTag) {r : Checked} {list' : List Fact} → left ≡ suc n → check_tag (get_or S.proof at 0) ≡ Some tag
       → (at < length S.proof → ChecksBy S rows scope ledger list n tag goal_bytes goal at r list')
       → ChecksAt S rows scope ledger list left goal_bytes goal at r list'
   check_tagged left n at tag more t h π Γ N e sound around reads =
@@ -168,7 +169,7 @@ module _ (S : Sources) (rows : List ℕ) (scope : Scope) (ledger : Ledger) (list
 
   -- An inferring step where one is checked.
   pub check_inferred : (left n at : ℕ) (tag : InferTag) → left ≡ suc n → check_tag (get_or S.proof at 0) ≡ Some (InferredTag tag)
-      → {inferred : Inferred} {list' : List ℕ} → InfersAt S rows scope ledger list left at inferred list'
+      → {inferred : Inferred} {list' : List Fact} → InfersAt S rows scope ledger list left at inferred list'
       → {r : Checked} → ChecksInferred S.buffer goal_bytes at inferred goal r
       → ChecksAt S rows scope ledger list left goal_bytes goal at r list'
   unfolding ToldChecking
@@ -182,15 +183,15 @@ module _ (S : Sources) (rows : List ℕ) (scope : Scope) (ledger : Ledger) (list
 
   module _ (left at : ℕ) where
     -- The step here, by its tag.
-    abbrev By : CheckTag → Checked → List ℕ → Type 0
+    abbrev By : CheckTag → Checked → List Fact → Type 0
     By tag r list' = ChecksBy S rows scope ledger list left tag goal_bytes goal at r list'
 
     -- What a step without parts makes of its goal.
-    abbrev Goes : Ledger → List ℕ → (ℕ → Formula → Test) → Type 0
+    abbrev Goes : Ledger → List Fact → (ℕ → Formula → Test) → Type 0
     Goes l list' part = (G : Formula) → Sound (book ledger list) → Means goal_bytes 0 goal.formula G → Gives S.state (book ledger list) (part at G) (book l list') tt
 
     -- 25, 2C and 2D, which end after their tag.
-    module _ (inside : at < length S.proof) {next : ℕ} (ends : at < length S.proof → next ≡ at + 1) {l : Ledger} {list' : List ℕ} where
+    module _ (inside : at < length S.proof) {next : ℕ} (ends : at < length S.proof → next ≡ at + 1) {l : Ledger} {list' : List Fact} where
       pub check_trivial : Goes l list' top_goal → By TopStepTag (record { ledger = l; next = next }) list'
       check_trivial h π Γ N e sound around reads told G means =
           let found = trivial_read S.proof (length π.statements) left scope.count at N e reads in
@@ -220,7 +221,7 @@ module _ (S : Sources) (rows : List ℕ) (scope : Scope) (ledger : Ledger) (list
           rw (found.is, pair_walk π Γ view at G (from_of goal) (to_of goal) found.one found.other)
           (passes_halted S.state (book ledger list) (and_sides at G) parts.ledger list (sides_come sound G means) _ e n next)
 
-      module _ (going : GoesOn parts.ledger) {begin : ℕ} (begins : at < length S.proof → begin ≡ at + 1) {one : Checked} {list₁ : List ℕ}
+      module _ (going : GoesOn parts.ledger) {begin : ℕ} (begins : at < length S.proof → begin ≡ at + 1) {one : Checked} {list₁ : List Fact}
           (checks : ChecksAt S rows scope parts.ledger list left goal_bytes (part_of goal parts.first) begin one list₁) where
         one_comes : (π : Policy) (Γ : List Assumption) (N : Check) (e : ℕ) → Sound (book parts.ledger list) → Around S rows scope (suc left) π Γ
             → check_step S.proof (length π.statements) left scope.count (at + 1) ≡ Some (N, e) → ToldChecking S.ends N
@@ -242,7 +243,7 @@ module _ (S : Sources) (rows : List ℕ) (scope : Scope) (ledger : Ledger) (list
             (λ sound x on. passes_halted S.state (book parts.ledger list) _ one.ledger list₁
             (one_comes π Γ found.one found.middle sound around found.one_reads both.0 x.0 on.0) _ e n one.next))
 
-        pub check_pair : GoesOn one.ledger → {other : Checked} {list₂ : List ℕ}
+        pub check_pair : GoesOn one.ledger → {other : Checked} {list₂ : List Fact}
             → ChecksAt S rows scope one.ledger list₁ left goal_bytes (part_of goal parts.second) one.next other list₂
             → By PairTag other list₂
         unfolding ToldChecking
@@ -272,7 +273,7 @@ module _ (S : Sources) (rows : List ℕ) (scope : Scope) (ledger : Ledger) (list
         -- The part, for what it is that stands inside.
         part_passes : (π : Policy) (Γ : List Assumption) (N : Check) (e : ℕ) → Sound (book held.ledger list) → Around S rows scope (suc left) π Γ
             → (begin : ℕ) → check_step S.proof (length π.statements) left scope.count begin ≡ Some (N, e) → ToldChecking S.ends N
-            → {r : Checked} {list' : List ℕ}
+            → {r : Checked} {list' : List Fact}
             → ChecksAt S rows (scope_inside scope held.row) held.ledger list left goal_bytes held.row.judgement begin r list'
             → (x : Assumption) → RowIs goal_bytes held.row 0 0 x
             → Passes S.state (book held.ledger list) (check_inside π Γ view N x) e r list'
@@ -285,7 +286,7 @@ module _ (S : Sources) (rows : List ℕ) (scope : Scope) (ledger : Ledger) (list
             ((rw claimed at checks) π (map shut_out Γ) N e sound (around_said S rows scope left π Γ around (Some (view_on k held.row.judgement))) reads told A on.means)
         part_passes π Γ N e sound around begin reads told checks x (is_shut plain-Row lower) = absurd (omega arith)
 
-        pub check_put : GoesOn held.ledger → {begin : ℕ} → (at < length S.proof → begin ≡ at + 1) → {r : Checked} {list' : List ℕ}
+        pub check_put : GoesOn held.ledger → {begin : ℕ} → (at < length S.proof → begin ≡ at + 1) → {r : Checked} {list' : List Fact}
             → ChecksAt S rows (scope_inside scope held.row) held.ledger list left goal_bytes held.row.judgement begin r list'
             → (tag : CheckTag) → Puts tag shell → By tag r list'
         check_put going begins {r} {list'} checks tag is π Γ N e sound around reads told G means =
@@ -296,7 +297,7 @@ module _ (S : Sources) (rows : List ℕ) (scope : Scope) (ledger : Ledger) (list
             (λ sound x row. part_passes π Γ found.part e sound around _ (rw (begins (omega arith)) found.reads) found.told checks x row))
 
       -- 29 and 2B: the step that infers, what stands inside of what it infers, and then the second step with that assumed.
-      module _ {begin : ℕ} (begins : at < length S.proof → begin ≡ at + 1) {inferred : Inferred} {list₁ : List ℕ}
+      module _ {begin : ℕ} (begins : at < length S.proof → begin ≡ at + 1) {inferred : Inferred} {list₁ : List Fact}
           (infers : InfersAt S rows scope ledger list left begin inferred list₁)
           {held : Inside} (has : TakesInsideInferred S.buffer at shell inferred held) (stays : StaysStopped inferred held.ledger) where
         taken_comes : (π : Policy) (Γ : List Assumption) (N : Check) (e : ℕ) → Sound (book ledger list) → Around S rows scope (suc left) π Γ
@@ -321,7 +322,7 @@ module _ (S : Sources) (rows : List ℕ) (scope : Scope) (ledger : Ledger) (list
         -- The row is the assumption more.
         pub check_take : GoesOn held.ledger → {between more : List ℕ} → Keeps scope.count rows between
             → more ≡ rows_with between scope.count held.row → length more ≡ length between
-            → {r : Checked} {list₂ : List ℕ}
+            → {r : Checked} {list₂ : List Fact}
             → ChecksAt S more (scope_with scope) held.ledger list₁ left goal_bytes goal inferred.next r list₂
             → (tag : CheckTag) → TakesOut tag shell → By tag r list₂
         check_take going {between} {more} kept put all {r} {list₂} checks tag is π Γ N e sound around reads told G means =

@@ -36,27 +36,28 @@ use Rattle.judging.proofs.JudgingLaws.{takes_then}
 use Rattle.walk.proofs.Inferring.{first_part}
 use Rattle.walk.proofs.Assuming.{part_assuming}
 use Rattle.walk.proofs.Checking.{told_is}
+use Rattle.procap.specs.declared.fact.Fact.{Fact}
 
-module _ (S : Sources) (rows : List ℕ) (scope : Scope) (ledger : Ledger) (list goal_bytes : List ℕ) (goal : Judgement) (left at : ℕ) where
+module _ (S : Sources) (rows : List ℕ) (scope : Scope) (ledger : Ledger) (list : List Fact) (goal_bytes : List ℕ) (goal : Judgement) (left at : ℕ) where
   -- The view of the steps here.
   abbrev view : View
   view = view_in scope.view
 
   -- The step here, by its tag.
-  abbrev By : CheckTag → Checked → List ℕ → Type 0
+  abbrev By : CheckTag → Checked → List Fact → Type 0
   By tag r list' = ChecksBy S rows scope ledger list left tag goal_bytes goal at r list'
 
   -- By the cases that are left: of an "or", of falsity.
-  pub both_left : {cases : Cases} {r : Checked} {list' : List ℕ} → cases ≡ BothSides → By OrOutTag r list' → (tag : CheckTag) → Leaves tag cases → By tag r list'
+  pub both_left : {cases : Cases} {r : Checked} {list' : List Fact} → cases ≡ BothSides → By OrOutTag r list' → (tag : CheckTag) → Leaves tag cases → By tag r list'
   both_left e h tag leaves_both = h
   both_left e h tag leaves_none = let z : ◌≡◌ {A = ℕ} 0 1 = cc e in absurd (omega arith)
 
-  pub none_left : {cases : Cases} {r : Checked} {list' : List ℕ} → cases ≡ NoCase → By FalsityOutTag r list' → (tag : CheckTag) → Leaves tag cases → By tag r list'
+  pub none_left : {cases : Cases} {r : Checked} {list' : List Fact} → cases ≡ NoCase → By FalsityOutTag r list' → (tag : CheckTag) → Leaves tag cases → By tag r list'
   none_left e h tag leaves_none = h
   none_left e h tag leaves_both = let z : ◌≡◌ {A = ℕ} 0 1 = cc e in absurd (omega arith)
 
   -- Both have a part that infers after their tag.
-  module _ {begin : ℕ} (begins : at < length S.proof → begin ≡ at + 1) {inferred : Inferred} {list₁ : List ℕ}
+  module _ {begin : ℕ} (begins : at < length S.proof → begin ≡ at + 1) {inferred : Inferred} {list₁ : List Fact}
       (infers : InfersAt S rows scope ledger list left begin inferred list₁) where
     -- 31: that it is falsity.
     pub check_falsity : {r : Checked} → ChecksFalsity S.buffer at inferred r → By FalsityOutTag r list₁
@@ -98,7 +99,7 @@ module _ (S : Sources) (rows : List ℕ) (scope : Scope) (ledger : Ledger) (list
 
       -- The first branch, with the left side assumed.
       module _ (going : GoesOn parts.ledger) {between more : List ℕ} (kept : Keeps scope.count rows between)
-          (put : more ≡ rows_with between scope.count (side_row parts.first)) (all : length more ≡ length between) {one : Checked} {list₂ : List ℕ}
+          (put : more ≡ rows_with between scope.count (side_row parts.first)) (all : length more ≡ length between) {one : Checked} {list₂ : List Fact}
           (checks : ChecksAt S more (scope_with scope) parts.ledger list₁ left goal_bytes goal inferred.next one list₂) where
         one_comes : (π : Policy) (Γ : List Assumption) (N : Check) (e : ℕ) → Sound (book parts.ledger list₁) → Around S rows scope (suc left) π Γ
             → (found : OrOutRead S.proof (length π.statements) left scope.count at N e) → ToldChecking S.ends N → inferred.next ≡ found.middle
@@ -120,7 +121,7 @@ module _ (S : Sources) (rows : List ℕ) (scope : Scope) (ledger : Ledger) (list
 
         -- And then the second, with the right side assumed.
         pub check_cases : GoesOn one.ledger → {between₂ more₂ : List ℕ} → Keeps scope.count rows between₂
-            → more₂ ≡ rows_with between₂ scope.count (side_row parts.second) → length more₂ ≡ length between₂ → {other : Checked} {list₃ : List ℕ}
+            → more₂ ≡ rows_with between₂ scope.count (side_row parts.second) → length more₂ ≡ length between₂ → {other : Checked} {list₃ : List Fact}
             → ChecksAt S more₂ (scope_with scope) one.ledger list₂ left goal_bytes goal one.next other list₃
             → By OrOutTag other list₃
         unfolding ToldChecking

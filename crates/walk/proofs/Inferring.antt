@@ -29,6 +29,7 @@ use Rattle.judging.specs.Judging.{view_in, part_of, and_then, first_side, second
 use Rattle.judging.specs.StepPromises.{UsesLocal, UsesCertificate, Continues, PutsToUse, StaysStopped}
 use Rattle.walk.specs.Walking.{Sources, Around, InfersAt, InfersBy, ChecksAt}
 use Rattle.procap.proofs.ReadApart.{same_read, after_byte}
+use Rattle.procap.specs.declared.fact.Fact.{Fact}
 use Rattle.steps.proofs.StepPlaces.{end_told}
 use Rattle.steps.proofs.StepsRead.{infer_read, local_read, certificate_read, first_read, second_read, ApplyRead, apply_read, instance_read}
 use Rattle.judging.proofs.StepWalks.{local_walk, certificate_walk, first_walk, second_walk, instance_walk, apply_walk, use_implication}
@@ -55,23 +56,23 @@ term_inside proof q t e r = (after_byte proof q _ (t, e) r).0
 told_is : (ends : List ℕ) {M M' : Infer} → M ≡ M' → Told ends M → Told ends M'
 told_is ends e told = rw e at told
 
-module _ (S : Sources) (rows : List ℕ) (scope : Scope) (ledger : Ledger) (list : List ℕ) where
+module _ (S : Sources) (rows : List ℕ) (scope : Scope) (ledger : Ledger) (list : List Fact) where
   -- The view of the steps here.
   abbrev view : View
   view = view_in scope.view
 
   -- The first test: is a level left?
-  pub infer_none : (left at : ℕ) {r : Inferred} {list' : List ℕ} → left ≡ 0 → InfersAt S rows scope ledger list left at r list'
+  pub infer_none : (left at : ℕ) {r : Inferred} {list' : List Fact} → left ≡ 0 → InfersAt S rows scope ledger list left at r list'
   infer_none left at z π Γ M e sound around reads told = absurd (no_infer_step S.proof (length π.statements) left scope.count at M e z reads)
 
   -- Then the step is read by its tag, if there is one.
-  pub infer_no_tag : (left at : ℕ) {r : Inferred} {list' : List ℕ} → infer_tag (get_or S.proof at 0) ≡ None → InfersAt S rows scope ledger list left at r list'
+  pub infer_no_tag : (left at : ℕ) {r : Inferred} {list' : List Fact} → infer_tag (get_or S.proof at 0) ≡ None → InfersAt S rows scope ledger list left at r list'
   infer_no_tag zero at t π Γ M e sound around reads told = absurd (no_infer_step S.proof (length π.statements) zero scope.count at M e refl reads)
   infer_no_tag (suc n) at t π Γ M e sound around reads told =
       let found = infer_read S.proof (length π.statements) n scope.count at M e reads in
       absurd (none-some found.1.tag (sym t ∙ found.1.is))
 
-  pub infer_tagged : (left n at : ℕ) (tag : InferTag) {r : Inferred} {list' : List ℕ} → left ≡ suc n → infer_tag (get_or S.proof at 0) ≡ Some tag
+  pub infer_tagged : (left n at : ℕ) (tag : InferTag) {r : Inferred} {list' : List Fact} → left ≡ suc n → infer_tag (get_or S.proof at 0) ≡ Some tag
       → InfersBy S rows scope ledger list n tag at r list' → InfersAt S rows scope ledger list left at r list'
   infer_tagged left n at tag more t h π Γ M e sound around reads =
       let found = infer_read S.proof (length π.statements) n scope.count at M e (rw more at reads) in
@@ -80,7 +81,7 @@ module _ (S : Sources) (rows : List ℕ) (scope : Scope) (ledger : Ledger) (list
 
   module _ (left at : ℕ) where
     -- The step here, by its tag.
-    abbrev By : InferTag → Inferred → List ℕ → Type 0
+    abbrev By : InferTag → Inferred → List Fact → Type 0
     By tag r list' = InfersBy S rows scope ledger list left tag at r list'
 
     -- 20 and 21.
@@ -98,7 +99,7 @@ module _ (S : Sources) (rows : List ℕ) (scope : Scope) (ledger : Ledger) (list
         (h S.state S.buffer list π.pairs π.statements found.index e sound around.policy.strong around.policy.certified found.reads found.listed)
 
     -- 27, where no term stands after its tag.
-    pub infer_no_term : {begin : ℕ} → (at < length S.proof → begin ≡ at + 1) → None ≡ term S.proof begin → {r : Inferred} {list' : List ℕ} → By InstanceTag r list'
+    pub infer_no_term : {begin : ℕ} → (at < length S.proof → begin ≡ at + 1) → None ≡ term S.proof begin → {r : Inferred} {list' : List Fact} → By InstanceTag r list'
     infer_no_term begins none π Γ M e sound around reads told =
         let found = instance_read S.proof (length π.statements) left scope.count at M e reads in
         let inside = term_inside S.proof (at + 1) found.put found.middle found.put_reads in
@@ -108,7 +109,7 @@ module _ (S : Sources) (rows : List ℕ) (scope : Scope) (ledger : Ledger) (list
     module _ {begin : ℕ} (begins : at < length S.proof → begin ≡ at + 1) where
       -- 27, whose part stands after the term put in.
       pub infer_instance : {put : Term} {middle : ℕ} → Some (put, middle) ≡ term S.proof begin
-          → {inferred : Inferred} {list₁ : List ℕ} → InfersAt S rows scope ledger list left middle inferred list₁
+          → {inferred : Inferred} {list₁ : List Fact} → InfersAt S rows scope ledger list left middle inferred list₁
           → {r : Inferred} → Continues S.buffer inferred (put_in at put) r → By InstanceTag r list₁
       unfolding Told
       infer_instance terms {inferred} {list₁} infers h π Γ M e sound around reads told =
@@ -119,7 +120,7 @@ module _ (S : Sources) (rows : List ℕ) (scope : Scope) (ledger : Ledger) (list
           (h S.state (book ledger list) _ e list₁
           (infers π Γ found.part e sound (around_part S rows scope left π Γ around) (rw read.1 found.part_reads) (told_is S.ends found.is told)))
 
-      module _ {inferred : Inferred} {list₁ : List ℕ} (infers : InfersAt S rows scope ledger list left begin inferred list₁) where
+      module _ {inferred : Inferred} {list₁ : List Fact} (infers : InfersAt S rows scope ledger list left begin inferred list₁) where
         pub first_part : (π : Policy) (Γ : List Assumption) (M : Infer) (e : ℕ) → Sound (book ledger list) → Around S rows scope (suc left) π Γ
             → infer_step S.proof (length π.statements) left scope.count (at + 1) ≡ Some (M, e) → Told S.ends M
             → Yields S.state S.buffer (book ledger list) (infer π Γ view M) e inferred list₁
@@ -180,7 +181,7 @@ module _ (S : Sources) (rows : List ℕ) (scope : Scope) (ledger : Ledger) (list
 
           -- And with its second step checked.
           pub infer_apply : GoesOn application.ledger → {conclusion : Judgement} → conclusion ≡ part_of application.premise application.conclusion
-              → {checked : Checked} {list₂ : List ℕ}
+              → {checked : Checked} {list₂ : List Fact}
               → ChecksAt S rows scope application.ledger list₁ left S.buffer application.premise application.middle checked list₂
               → By ApplyTag (record { ledger = checked.ledger; judgement = conclusion; next = application.next }) list₂
           unfolding Told

@@ -10,6 +10,7 @@ use mathlib.Core.Bool.{Bool, true, false}
 use borrow.Author.Tests.{lt-ltb}
 use lib.Dec.{ltb}
 use Rattle.procap.specs.Tells.{pick}
+use Rattle.procap.specs.declared.fact.Fact.{Fact}
 use lib.ListN.{length}
 use Rattle.bl.specs.Policy.{Policy}
 use Rattle.bl.specs.Rules.{Assumption, shut_out}
@@ -157,8 +158,8 @@ around_kept S before after scope left π Γ keeps around =
     }
 
 -- So a call after another promises of the rows at the start what it promises of those that it finds.
-pub checks_kept : (S : Sources) (before after : List ℕ) (scope : Scope) (ledger : Ledger) (list : List ℕ) (left : ℕ) (goal_bytes : List ℕ) (goal : Judgement)
-    (at : ℕ) {r : Checked} {list' : List ℕ} → Keeps scope.count before after
+pub checks_kept : (S : Sources) (before after : List ℕ) (scope : Scope) (ledger : Ledger) (list : List Fact) (left : ℕ) (goal_bytes : List ℕ) (goal : Judgement)
+    (at : ℕ) {r : Checked} {list' : List Fact} → Keeps scope.count before after
     → ChecksAt S after scope ledger list left goal_bytes goal at r list'
     → ChecksAt S before scope ledger list left goal_bytes goal at r list'
 checks_kept S before after scope ledger list left goal_bytes goal at keeps checks π Γ N e sound around =

@@ -12,6 +12,7 @@ use Rattle.judging.specs.declared.judge.Inferred.{Inferred}
 use Rattle.judging.specs.declared.judge.Checked.{Checked}
 use Rattle.judging.specs.declared.judge.Shell.{Shell}
 use Rattle.judging.specs.declared.judge.Shell.TheVariants.{AtShell, SaysShell, LeftShell, RightShell}
+use Rattle.ledger.specs.Asking.{ListLent}
 use Rattle.walk.specs.declared.Here.{Here}
 use Rattle.walk.specs.declared.Cases.{Cases}
 use Rattle.walk.specs.declared.Cases.TheVariants.{BothSides, NoCase}
@@ -44,7 +45,7 @@ pub data Leaves : CheckTag → Cases → Type 0 where
   leaves_both : Leaves OrOutTag BothSides
   leaves_none : Leaves FalsityOutTag NoCase
 
-module _ (S : Sources) (facts assumptions : LentToWrite) where
+module _ (S : Sources) (facts : ListLent) (assumptions : LentToWrite) where
   -- A step that infers, of at most so many levels, by the tag that stands at its place.
   abbrev pub Infers : Option InferTag → Here → Inferred → Type 0
   Infers tag here r =

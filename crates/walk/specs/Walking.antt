@@ -18,6 +18,7 @@ use Rattle.ledger.specs.Books.{book, Sound}
 use Rattle.formula.specs.Meaning.{Means, from_of, to_of}
 use Rattle.judging.specs.RowsOf.{Assumed, Certified, row_in, all_numbers}
 use Rattle.judging.specs.Judging.{view_in, Yields, Passes}
+use Rattle.procap.specs.declared.fact.Fact.{Fact}
 
 -- What is lent all through a walk: formulas, proof and state in bytes, certificates in rows, strengths if there are any, and where
 -- second parts end.
@@ -48,21 +49,21 @@ pub record Keeps (count : ℕ) (before after : List ℕ) : Type 0 where
   pub rows : (i : ℕ) → i < count → row_in after i ≡ row_in before i
   pub all : length after ≡ length before
 
-module _ (S : Sources) (rows : List ℕ) (scope : Scope) (ledger : Ledger) (list : List ℕ) (left : ℕ) where
+module _ (S : Sources) (rows : List ℕ) (scope : Scope) (ledger : Ledger) (list : List Fact) (left : ℕ) where
   -- From a sound book, in what stands around.
   module _ (π : Policy) (Γ : List Assumption) where
     -- The step that the reader finds, inferred.
-    abbrev pub InfersStep : Infer → ℕ → Inferred → List ℕ → Type 0
+    abbrev pub InfersStep : Infer → ℕ → Inferred → List Fact → Type 0
     InfersStep M e r list' = Yields S.state S.buffer (book ledger list) (infer π Γ (view_in scope.view) M) e r list'
 
     -- The step that the reader finds, checked against a goal.
-    abbrev pub ChecksStep : List ℕ → Judgement → Check → ℕ → Checked → List ℕ → Type 0
+    abbrev pub ChecksStep : List ℕ → Judgement → Check → ℕ → Checked → List Fact → Type 0
     ChecksStep goal_bytes goal N e r list' =
         (G : Formula) → Means goal_bytes 0 goal.formula G
         → Passes S.state (book ledger list) (check π Γ (view_in scope.view) N G (from_of goal) (to_of goal)) e r list'
 
   -- A step that infers, at a place.
-  abbrev pub InfersAt : ℕ → Inferred → List ℕ → Type 0
+  abbrev pub InfersAt : ℕ → Inferred → List Fact → Type 0
   InfersAt at r list' =
       (π : Policy) (Γ : List Assumption) (M : Infer) (e : ℕ)
       → Sound (book ledger list) → Around S rows scope left π Γ
@@ -70,7 +71,7 @@ module _ (S : Sources) (rows : List ℕ) (scope : Scope) (ledger : Ledger) (list
       → InfersStep π Γ M e r list'
 
   -- A step that infers, by its tag at a place, over parts of at most `left` levels.
-  abbrev pub InfersBy : InferTag → ℕ → Inferred → List ℕ → Type 0
+  abbrev pub InfersBy : InferTag → ℕ → Inferred → List Fact → Type 0
   InfersBy tag at r list' =
       (π : Policy) (Γ : List Assumption) (M : Infer) (e : ℕ)
       → Sound (book ledger list) → Around S rows scope (suc left) π Γ
@@ -79,7 +80,7 @@ module _ (S : Sources) (rows : List ℕ) (scope : Scope) (ledger : Ledger) (list
       → InfersStep π Γ M e r list'
 
   -- A step that checks, at a place.
-  abbrev pub ChecksAt : List ℕ → Judgement → ℕ → Checked → List ℕ → Type 0
+  abbrev pub ChecksAt : List ℕ → Judgement → ℕ → Checked → List Fact → Type 0
   ChecksAt goal_bytes goal at r list' =
       (π : Policy) (Γ : List Assumption) (N : Check) (e : ℕ)
       → Sound (book ledger list) → Around S rows scope left π Γ
@@ -87,7 +88,7 @@ module _ (S : Sources) (rows : List ℕ) (scope : Scope) (ledger : Ledger) (list
       → ChecksStep π Γ goal_bytes goal N e r list'
 
   -- A step that checks, by its tag at a place, over parts of at most `left` levels.
-  abbrev pub ChecksBy : CheckTag → List ℕ → Judgement → ℕ → Checked → List ℕ → Type 0
+  abbrev pub ChecksBy : CheckTag → List ℕ → Judgement → ℕ → Checked → List Fact → Type 0
   ChecksBy tag goal_bytes goal at r list' =
       (π : Policy) (Γ : List Assumption) (N : Check) (e : ℕ)
       → Sound (book ledger list) → Around S rows scope (suc left) π Γ

@@ -14,6 +14,7 @@ use judging::judge::{
     sides_inferred, sides_of, state_fact, top,
 };
 use ledger::Ledger;
+use ledger::facts::FactList;
 use procap::bytes::past;
 use steps::ends::end_in;
 use steps::{check_tag_at, infer_tag_at, term_at};
@@ -55,7 +56,7 @@ impl Here {
 #[rattlefmt::skip]
 #[cycle(by_cases_check_infer_pair_put_in_take_out)]
 fn infer(
-    buffer: &[u8], proof: &[u8], state: &[u8], certificates: &[u64], strengths: Option<&Strengths>, ends: &[u16], facts: &mut [u64], assumptions: &mut [u64], tag: Option<InferTag>, here: Here,
+    buffer: &[u8], proof: &[u8], state: &[u8], certificates: &[u64], strengths: Option<&Strengths>, ends: &[u16], facts: &mut FactList, assumptions: &mut [u64], tag: Option<InferTag>, here: Here,
 ) -> Inferred
     ensures walks { Infers (sources buffer proof state certificates strengths ends) facts assumptions tag here result }
     ensures keeps { KeepsRows here assumptions }
@@ -101,7 +102,7 @@ fn infer(
 #[rattlefmt::skip]
 #[cycle(by_cases_check_infer_pair_put_in_take_out)]
 pub fn check(
-    buffer: &[u8], proof: &[u8], state: &[u8], certificates: &[u64], strengths: Option<&Strengths>, ends: &[u16], facts: &mut [u64], assumptions: &mut [u64],
+    buffer: &[u8], proof: &[u8], state: &[u8], certificates: &[u64], strengths: Option<&Strengths>, ends: &[u16], facts: &mut FactList, assumptions: &mut [u64],
     goal_bytes: &[u8], goal: Judgement, here: Here,
 ) -> Checked
     ensures walks { Checks (sources buffer proof state certificates strengths ends) facts assumptions goal_bytes goal here result }
@@ -139,7 +140,7 @@ pub fn check(
 #[rattlefmt::skip]
 #[cycle(by_cases_check_infer_pair_put_in_take_out)]
 fn pair(
-    buffer: &[u8], proof: &[u8], state: &[u8], certificates: &[u64], strengths: Option<&Strengths>, ends: &[u16], facts: &mut [u64], assumptions: &mut [u64],
+    buffer: &[u8], proof: &[u8], state: &[u8], certificates: &[u64], strengths: Option<&Strengths>, ends: &[u16], facts: &mut FactList, assumptions: &mut [u64],
     goal_bytes: &[u8], goal: Judgement, here: Here,
 ) -> Checked
     requires { 0 < here.left }
@@ -167,7 +168,7 @@ fn pair(
 #[rattlefmt::skip]
 #[cycle(by_cases_check_infer_pair_put_in_take_out)]
 fn put_in(
-    buffer: &[u8], proof: &[u8], state: &[u8], certificates: &[u64], strengths: Option<&Strengths>, ends: &[u16], facts: &mut [u64], assumptions: &mut [u64],
+    buffer: &[u8], proof: &[u8], state: &[u8], certificates: &[u64], strengths: Option<&Strengths>, ends: &[u16], facts: &mut FactList, assumptions: &mut [u64],
     shell: Shell, goal_bytes: &[u8], goal: Judgement, here: Here,
 ) -> Checked
     requires { 0 < here.left }
@@ -193,7 +194,7 @@ fn put_in(
 #[rattlefmt::skip]
 #[cycle(by_cases_check_infer_pair_put_in_take_out)]
 fn take_out(
-    buffer: &[u8], proof: &[u8], state: &[u8], certificates: &[u64], strengths: Option<&Strengths>, ends: &[u16], facts: &mut [u64], assumptions: &mut [u64],
+    buffer: &[u8], proof: &[u8], state: &[u8], certificates: &[u64], strengths: Option<&Strengths>, ends: &[u16], facts: &mut FactList, assumptions: &mut [u64],
     shell: Shell, goal_bytes: &[u8], goal: Judgement, here: Here,
 ) -> Checked
     requires { 0 < here.left }
@@ -221,7 +222,7 @@ fn take_out(
 #[rattlefmt::skip]
 #[cycle(by_cases_check_infer_pair_put_in_take_out)]
 fn by_cases(
-    buffer: &[u8], proof: &[u8], state: &[u8], certificates: &[u64], strengths: Option<&Strengths>, ends: &[u16], facts: &mut [u64], assumptions: &mut [u64],
+    buffer: &[u8], proof: &[u8], state: &[u8], certificates: &[u64], strengths: Option<&Strengths>, ends: &[u16], facts: &mut FactList, assumptions: &mut [u64],
     cases: Cases, goal_bytes: &[u8], goal: Judgement, here: Here,
 ) -> Checked
     requires { 0 < here.left }

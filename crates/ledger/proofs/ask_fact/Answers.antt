@@ -1,43 +1,44 @@
 -- A ledger that has stopped stays. At the office the fact is listed; at a press it stands in the state with the moment put in, or stops the walk.
-use mathlib.Core.Path.{sym, ◌∙◌}
+-- Each book that is left so leads where the question does.
+use mathlib.Core.Path.{sym, ap, ◌∙◌}
 use mathlib.Core.Logic.{if_pos, if_neg}
 use Rattle.procap.specs.Deciding.{holds_at?}
-use Rattle.procap.proofs.Telling.{holds, fails, holds_else, fails_where}
+use Rattle.ledger.specs.Books.{book}
 use Rattle.ledger.specs.Asking.{fact_asked}
-use Rattle.ledger.proofs.Stopping.{at_office, at_press}
-use Rattle.ledger.proofs.Giving.{not_going, stays}
-use Rattle.ledger.proofs.Asking.{holds_there, holds_not, fact_stands, fact_misses}
-use Rattle.ledger.proofs.Asked.{asked_stopped, asked_office, asked_press}
+use Rattle.ledger.proofs.Asking.{holds_there, holds_not}
+use Rattle.ledger.proofs.Asked.{asked_stopped, asked_office, asked_press, fact_leads}
 use Rattle.ledger.proofs.ask_fact.Goals as goal
 
-pub returns-then-not-goes_on : goal.returns-then-not-goes_on
+pub returns-then-not-goes_on-clause-leaves : goal.returns-then-not-goes_on-clause-leaves
 unfolding fact_asked
-returns-then-not-goes_on c =
-    let told = c.goes_on in
-    let halts = fails_where told.result c.if-not-goes_on.true-raw told.ensures in record { leads = λ s form few. stays _ _ _ _ _ (not_going _ halts).1 s; leaves = asked_stopped _ _ _ _ halts }
+returns-then-not-goes_on-clause-leaves c = asked_stopped _ _ _ _ c.if-not-goes_on.ensures
 
-pub returns-then-press-eq0 : goal.returns-then-press-eq0
-unfolding fact_asked
-returns-then-press-eq0 c =
-    let told = c.goes_on in
-    let going = holds_else told.result c.if-not-goes_on.false-raw told.ensures in record { leads = λ s form few. c.list_fact.ensures.leads _ _ s (at_office _ c.if-press-eq0.true) form; leaves = c.list_fact.ensures.leaves ∙ asked_office _ _ _ _ going c.if-press-eq0.true }
+pub returns-then-not-goes_on-clause-leads : goal.returns-then-not-goes_on-clause-leads
+returns-then-not-goes_on-clause-leads c = λ s form few. fact_leads _ _ _ _ _ s (returns-then-not-goes_on-clause-leaves c) form
 
-pub returns-then-stands_in : goal.returns-then-stands_in
+pub returns-then-press-eq0-clause-leaves : goal.returns-then-press-eq0-clause-leaves
 unfolding fact_asked
-returns-then-stands_in c =
-    let told = c.stands_in in
-    let on = c.goes_on in
-    let going = holds_else on.result c.if-not-goes_on.false-raw on.ensures in
-    let stands = holds told.result c.if-stands_in.true told.ensures in record { leads = λ s form few. fact_stands _ _ _ _ c.at_moment.ensures _ _ _ s (at_press _ c.if-press-eq0.false) stands; leaves = sym (if_pos (holds_at? _ _ _) (holds_there _ _ _ _ c.at_moment.ensures stands) _ _) ∙ asked_press _ _ _ _ going c.if-press-eq0.false }
+returns-then-press-eq0-clause-leaves c =
+    ap (book c.args.ledger) c.list_fact.ensures ∙ asked_office _ _ _ _ c.if-not-goes_on.ensures c.if-press-eq0.true
 
-pub returns : goal.returns
+pub returns-then-press-eq0-clause-leads : goal.returns-then-press-eq0-clause-leads
+returns-then-press-eq0-clause-leads c = λ s form few. fact_leads _ _ _ _ _ s (returns-then-press-eq0-clause-leaves c) form
+
+pub returns-then-stands_in-clause-leaves : goal.returns-then-stands_in-clause-leaves
 unfolding fact_asked
-returns c =
-    let told = c.stands_in in
-    let on = c.goes_on in
-    let going = holds_else on.result c.if-not-goes_on.false-raw on.ensures in
-    let misses = fails told.result c.if-stands_in.false told.ensures in record {
-      leads = λ s form few. rw c.stopped.ensures (fact_misses _ _ _ _ c.at_moment.ensures _ _ _ s (at_press _ c.if-press-eq0.false) misses);
-      leaves = rw c.stopped.ensures
-          (sym (if_neg (holds_at? _ _ _) (holds_not _ _ _ _ c.at_moment.ensures misses) _ _) ∙ asked_press _ _ _ _ going c.if-press-eq0.false);
-    }
+returns-then-stands_in-clause-leaves c =
+    sym (if_pos (holds_at? _ _ _) (holds_there _ _ _ _ c.at_moment.ensures c.if-stands_in.ensures) _ _)
+    ∙ asked_press _ _ _ _ c.if-not-goes_on.ensures c.if-press-eq0.false
+
+pub returns-then-stands_in-clause-leads : goal.returns-then-stands_in-clause-leads
+returns-then-stands_in-clause-leads c = λ s form few. fact_leads _ _ _ _ _ s (returns-then-stands_in-clause-leaves c) form
+
+pub returns-clause-leaves : goal.returns-clause-leaves
+unfolding fact_asked
+returns-clause-leaves c =
+    rw c.stopped.ensures
+    (sym (if_neg (holds_at? _ _ _) (holds_not _ _ _ _ c.at_moment.ensures c.if-stands_in.ensures) _ _)
+    ∙ asked_press _ _ _ _ c.if-not-goes_on.ensures c.if-press-eq0.false)
+
+pub returns-clause-leads : goal.returns-clause-leads
+returns-clause-leads c = λ s form few. fact_leads _ _ _ _ _ s (returns-clause-leaves c) form

@@ -12,8 +12,8 @@ returns-in-Fails c = rw (c.stopped.ensures, c.in-Fails.is)
 
 pub returns-in-RaisesFrom : goal.returns-in-RaisesFrom
 unfolding narrowed_by
-returns-in-RaisesFrom c = rw (c.keeping.ensures, c.in-RaisesFrom.is, c.larger.ensures)
+returns-in-RaisesFrom c = rw (c.in-RaisesFrom.is, c.max.ensures)
 
 pub returns-in-LowersTo : goal.returns-in-LowersTo
 unfolding narrowed_by
-returns-in-LowersTo c = rw (c.keeping-in-LowersTo.ensures, c.in-LowersTo.is, c.smaller.ensures)
+returns-in-LowersTo c = rw (c.in-LowersTo.is, c.min.ensures)

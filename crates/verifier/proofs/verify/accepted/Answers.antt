@@ -1,6 +1,5 @@
 -- A malformed case refuses, then a moment above the latest and a malformed state; else what the walk has come to is the answer.
 use mathlib.Core.Path.{refl}
-use lib.ListN.{replicate}
 use Rattle.std.proofs.lemmas.Result.{err_from_is_err_and}
 use Rattle.procap.proofs.Telling.{holds_else, fails_where}
 use Rattle.state.specs.Standing.{WellFormed}
@@ -30,4 +29,4 @@ returns c =
     let told = c.well_formed-2 in
     let state = c.args.state.now in
     let says : WellFormed state = holds_else told.result c.if-not-well_formed.false-raw told.ensures in
-    check_answers _ _ _ _ _ c.in_ok-read_case.ensures _ _ (replicate 160 0) _ _ refl c.walked-ledger.ensures _ refl c.if-moment-gt-LATEST_SECOND.false says _ c.stop.ensures
+    check_answers _ _ _ _ _ c.in_ok-read_case.ensures _ _ _ _ _ c.none-facts.ensures c.walked-ledger.ensures _ refl c.if-moment-gt-LATEST_SECOND.false says _ c.stop.ensures

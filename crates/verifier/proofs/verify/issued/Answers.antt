@@ -8,4 +8,4 @@ pub returns-then-ledger : goal.returns-then-ledger
 returns-then-ledger c = λ sound. none_left _ _ _ c.if-ledger.true
 
 pub returns : goal.returns
-returns c = λ sound. some_left _ _ _ c.if-ledger.false _ (c.procap_of.ensures ∙ held_kept _ _ _ sound)
+returns c = λ sound. some_left _ _ _ c.if-ledger.false _ (c.procap.ensures ∙ held_kept _ _ _ sound)
