@@ -173,7 +173,7 @@ module _ (S : Sources) (rows : List ℕ) (scope : Scope) (ledger : Ledger) (list
 
     -- An inferring step where one is checked, by the tag that was read there.
     pub check_inferred : (tag : InferTag) → check_tag (get_or S.proof at 0) ≡ Some (InferredTag tag)
-        → {inferred : Inferred} {list' : List ℕ} → InfersBy S rows scope ledger list left tag at inferred list'
+        → {inferred : Inferred} {list' : List Fact} → InfersBy S rows scope ledger list left tag at inferred list'
         → {r : Checked} → ChecksInferred S.buffer goal_bytes at inferred goal r → By (InferredTag tag) r list'
     unfolding ToldChecking
     check_inferred tag t {inferred} {list'} infers h π Γ N e sound around reads told G means =
