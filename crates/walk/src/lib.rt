@@ -3,6 +3,7 @@
 #![tactic(auto)]
 
 ghost use Rattle.std.specs.Prelude.{◌≡◌, ◌-◌, ◌<◌};
+ghost use Rattle.ledger.specs.Books.{misfitted};
 ghost use Rattle.walk.specs.WalkCalls.{sources, Infers, InfersTagged, Checks, ChecksTagged, ChecksPut, ChecksTaken, TagStands, KeepsRows};
 ghost use Rattle.bl.specs.declared.CheckTag.TheVariants.{PairTag, OrOutTag};
 ghost use Rattle.bl.specs.declared.InferTag.TheVariants.{ApplyTag};
@@ -61,6 +62,16 @@ impl Here {
             ledger,
             left: self.left - 1,
             ..self
+        }
+    }
+
+    // No step that checks stands here, or none of so few levels.
+    fn misfit(self) -> Checked
+        ensures { result ≡ record { ledger = misfitted self.ledger self.at; next = self.at } }
+    {
+        Checked {
+            ledger: self.ledger.misfit(self.at),
+            next: self.at,
         }
     }
 }
@@ -173,16 +184,11 @@ impl Sources<'_, '_, '_> {
         ensures walks { Checks (sources self.now) facts assumptions goal.now here result }
         ensures keeps { KeepsRows here assumptions }
     {
-        let Here { at, ledger, .. } = here;
-        let misfit = Checked {
-            ledger: ledger.misfit(at),
-            next: at,
-        };
         if here.left == 0 {
-            return misfit;
+            return here.misfit();
         }
-        let Some(tag) = check_tag_at(self.proof, at) else {
-            return misfit;
+        let Some(tag) = check_tag_at(self.proof, here.at) else {
+            return here.misfit();
         };
         self.check_by(facts, assumptions, tag, goal, here)
     }
@@ -203,12 +209,11 @@ impl Sources<'_, '_, '_> {
         ensures keeps { KeepsRows here assumptions }
     {
         let Here { at, ledger, .. } = here;
-        let Goal { bytes, judgement } = *goal;
         let next = past(self.proof, at);
         match tag {
             CheckTag::PairTag => self.pair(facts, assumptions, goal, here),
             CheckTag::TopStepTag => Checked {
-                ledger: top(bytes, at, judgement, ledger),
+                ledger: top(goal.bytes, at, goal.judgement, ledger),
                 next,
             },
             CheckTag::AtInTag => self.put_in(facts, assumptions, Shell::AtShell, goal, here),
@@ -216,11 +221,11 @@ impl Sources<'_, '_, '_> {
             CheckTag::SaysInTag => self.put_in(facts, assumptions, Shell::SaysShell, goal, here),
             CheckTag::SaysOutTag => self.take_out(facts, assumptions, Shell::SaysShell, goal, here),
             CheckTag::StateTag => Checked {
-                ledger: state_fact(bytes, self.state, facts, at, judgement, ledger),
+                ledger: state_fact(goal.bytes, self.state, facts, at, goal.judgement, ledger),
                 next,
             },
             CheckTag::OrderStepTag => Checked {
-                ledger: order(bytes, at, judgement, ledger),
+                ledger: order(goal.bytes, at, goal.judgement, ledger),
                 next,
             },
             CheckTag::OrLeftTag => self.put_in(facts, assumptions, Shell::LeftShell, goal, here),
@@ -232,7 +237,7 @@ impl Sources<'_, '_, '_> {
             }
             CheckTag::InferredTag(tag) => {
                 let inferred = self.infer_by(facts, assumptions, tag, here);
-                checked_by(self.buffer, bytes, at, inferred, judgement)
+                checked_by(self.buffer, goal.bytes, at, inferred, goal.judgement)
             }
         }
     }
