@@ -15,11 +15,7 @@ use text::reader::look_over;
 pub fn procap_door(text: &[u8], who: u64, what: u64, right: u64, moment: u64, state: &[u8]) -> u64
     ensures { result ≡ packed (answer_of (opening_text text.now (request_of who what right) moment state.now)) }
 {
-    let request = RequestNumbers {
-        who: who,
-        what: what,
-        right: right,
-    };
+    let request = RequestNumbers { who, what, right };
     as_number(answer_of(opening_text(text, request, moment, state)))
 }
 

@@ -49,7 +49,7 @@ impl Binders {
         sorts[count] = sort;
         Some(Binders {
             count: count + 1,
-            sorts: sorts,
+            sorts,
         })
     }
 

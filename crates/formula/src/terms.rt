@@ -50,7 +50,7 @@ impl Terms {
         numbers[count] = term.number();
         Terms {
             count: count + 1,
-            numbers: numbers,
+            numbers,
         }
     }
 

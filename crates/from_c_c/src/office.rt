@@ -6,7 +6,8 @@ ghost use Rattle.cases.specs.Calls.{answering};
 ghost use Rattle.from_c.specs.Packing.{packed, packed_text};
 ghost use Rattle.from_c.specs.Calls.{verifying_over, checking_over, rewriting, value_writing_over};
 
-// Verifies, and puts the text of the procap at the front of the buffer that is lent for it: 13 where it is shorter. The answer comes as one number.
+// Verifies, and puts the text of the procap at the front of the buffer that is lent for it: 13 where it is shorter. The answer comes as one
+// number.
 #[unsafe(no_mangle)]
 pub extern "C" fn office_verify(
     who: u16,

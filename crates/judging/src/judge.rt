@@ -142,7 +142,8 @@ impl Scope {
         }
     }
 
-    // The scope inside of a shell, by the row that stands there: the same in an "at"; in a "says" the view of who says it, on the row's interval, with the plain assumptions from outside shut out.
+    // The scope inside of a shell, by the row that stands there: the same in an "at"; in a "says" the view of who says it, on the row's
+    // interval, with the plain assumptions from outside shut out.
     pub fn inside(self, row: Row) -> Scope
         ensures { result ≡ scope_inside self row }
     {
@@ -352,7 +353,8 @@ fn part_inferred(inferred: Inferred, ledger: Ledger, at: usize) -> Inferred
     }
 }
 
-// 26, before its second step: the implication that was inferred is put to use, where the walk goes on, on the times that stand after that step, which ends at a place.
+// 26, before its second step: the implication that was inferred is put to use, where the walk goes on, on the times that stand after
+// that step, which ends at a place.
 pub fn put_to_use(
     buffer: &[u8],
     proof: &[u8],
@@ -375,7 +377,7 @@ fn unused(judgement: Judgement, ledger: Ledger) -> Application
     ensures { result ≡ record { ledger = ledger; premise = judgement; conclusion = 0; middle = 0; next = 0 } }
 {
     Application {
-        ledger: ledger,
+        ledger,
         premise: judgement,
         conclusion: 0,
         middle: 0,
@@ -559,7 +561,7 @@ fn span_at(bytes: &[u8], at: usize, terms: Terms, offset: usize, ledger: Ledger)
         return no_span(ledger, offset);
     };
     Span {
-        ledger: ledger,
+        ledger,
         from: from.numbers(),
         to: to.numbers(),
         next,
@@ -600,10 +602,7 @@ fn said(bytes: &[u8], offset: usize, judgement: Judgement, ledger: Ledger) -> In
         whose: Some(principal as u64),
         judgement: part_at(judgement, next),
     };
-    Inside {
-        ledger: ledger,
-        row: row,
-    }
+    Inside { ledger, row }
 }
 
 // The judgement is not of the kind that the step needs.

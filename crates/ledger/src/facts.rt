@@ -74,7 +74,7 @@ impl FactList {
     {
         Procap {
             version: VERSION,
-            request: request,
+            request,
             from: ledger.from,
             to: ledger.to,
             count: self.count,

@@ -59,7 +59,7 @@ impl Ledger {
         Ledger {
             number: 0,
             place: 0,
-            press: press,
+            press,
             from: 0,
             to: LATEST_SECOND,
         }
@@ -168,7 +168,7 @@ pub fn ask_fact(
 fn list_fact(facts: &mut FactList, fact: Fact)
     ensures { facts.new ≡ fact_listed facts.old fact }
 {
-    // The walk of a proof that reads has room for each fact that it asks for (`HasRoom`): the test only keeps the index below within the list.
+    // The walk of a proof that reads has room for each fact that it asks for (`HasRoom`): the test only keeps `put` within the list.
     if facts.has_room() && !facts.has(fact) {
         facts.put(fact);
     }

@@ -39,7 +39,7 @@ pub(crate) fn take_records(
     Ok(())
 }
 
-// Whether a record is well formed.
+// Whether a record is well formed. (As one chain of `&&` the last two goals stayed open.)
 fn well_formed(certificate: Certificate, buffer: &[u8]) -> bool
     ensures { Tells result (WellFormedRecord buffer.now certificate) }
 {
@@ -80,7 +80,7 @@ fn row_of(certificate: Certificate) -> Row
     ensures { result ≡ row_of certificate }
 {
     Row {
-        whose: Some(certificate.principal as u64),
+        whose: Some(u64::from(certificate.principal)),
         judgement: Judgement {
             formula: FormulaAt {
                 at: certificate.start,
