@@ -25,6 +25,7 @@ office  code     ledger      what a walk|keeps and asks
 office  code     strength    who is as strong|as whom
 office  paper    bl          the logic on paper,|no code
 below   code     rising      numbers in|rising order
+below   code     front       the front of an array:|so many of its items
 below   code     procap      the data that|both halves share
 below   paper    by_hand     laws for proofs by hand,|used by no crate
 END
@@ -82,7 +83,7 @@ END {
     cluster("office", "the office", "#f8f2e2")
     boxes("below")
     # What stands side by side.
-    print "{ rank=same; kept; demands; from_c }\n{ rank=same; door; formula; steps }\n{ rank=same; text; ledger }\n{ rank=same; state; bl }\n{ rank=same; procap; by_hand }"
+    print "{ rank=same; kept; demands; from_c }\n{ rank=same; door; formula; steps }\n{ rank=same; text; ledger }\n{ rank=same; state; bl }\n{ rank=same; procap; by_hand; front }"
     printf "%s", arrows
     print "}"
 }' <(places) "$1"
