@@ -2,7 +2,8 @@
  * The door: may this press go through?
  *
  * One call, for the firmware of the desk. Link it from the archive that `make door` puts at
- * target/staticlib/libdoor.a (x86-64 Linux; of your C library it needs memcpy and nothing else).
+ * target/staticlib/libdoor.a (x86-64 Linux; of your C library it needs memcpy at the most, and nothing else:
+ * where the compiler copies by itself, not even that).
  *
  *     uint64_t answer = procap_door(text, text_length, who, what, right, moment, state, state_length);
  *     if (answer == PROCAP_OPEN) { ... start ... }
@@ -36,9 +37,9 @@ extern "C" {
  * NULL; with any other length it must point at so many readable bytes. The call may run on several threads at once.
  *
  * It uses no heap and makes no system call. The stack that it needs stands in docs/TRUST.md; it is below 4 KiB. Where the
- * program is linked dynamically in the usual, lazy way, the first press that copies anything takes some 3 KiB more, depending
- * on the loader and the processor: the loader looks memcpy up then, on the stack of that press. Link with -Wl,-z,now, or
- * statically, and the first press takes no more than any other.
+ * archive needs memcpy (`nm -u` lists it) and the program is linked dynamically in the usual, lazy way, the first press that
+ * copies anything takes some 3 KiB more, depending on the loader and the processor: the loader looks memcpy up then, on the
+ * stack of that press. Link with -Wl,-z,now, or statically, and the first press takes no more than any other.
  *
  * Returns 256 times the answer's number plus its place. PROCAP_OPEN, which is 0, is the only answer on which the press
  * may go through.

@@ -3,7 +3,7 @@
 # usage: crates.sh CRATES.TXT | tred | dot -Tsvg; `tred` drops the arrows that follow from others
 set -euo pipefail
 
-# Where each crate stands, what it is (code, paper: no code, shipped), its name, and its words on two lines.
+# Where each crate stands, what it is (code, paper: no code but for tags, shipped), its name, and its words on two lines.
 places() {
     cat << 'END'
 above   code     kept        demands 2 and 3,|as calls
@@ -23,8 +23,9 @@ office  code     formula     formulas in bytes,|taken apart, compared
 office  code     steps       proof bytes,|read and taken apart
 office  code     ledger      what a walk|keeps and asks
 office  code     strength    who is as strong|as whom
-office  paper    bl          the logic on paper,|no code
+office  paper    bl          the logic on paper;|in code the tags
 below   code     rising      numbers in|rising order
+below   code     front       the front of an array:|so many of its items
 below   code     procap      the data that|both halves share
 below   paper    by_hand     laws for proofs by hand,|used by no crate
 END
@@ -76,13 +77,13 @@ END {
     print "edge [color=\"#404040\", arrowsize=0.7]"
     print "label=<<BR/>An arrow leads from a crate to what it uses; what follows from other arrows is left out.<BR ALIGN=\"LEFT\"/>" \
         "No arrow leads from the desk to the office: the door knows nothing of proofs.<BR ALIGN=\"LEFT\"/>" \
-        "Thick border: shipped. Grey: no code.<BR ALIGN=\"LEFT\"/>>; labeljust=l; fontsize=11"
+        "Thick border: shipped. Grey: on paper, with no code but the tags of bl.<BR ALIGN=\"LEFT\"/>>; labeljust=l; fontsize=11"
     boxes("above")
     cluster("desk", "the desk", "#e8f0f8")
     cluster("office", "the office", "#f8f2e2")
     boxes("below")
     # What stands side by side.
-    print "{ rank=same; kept; demands; from_c }\n{ rank=same; door; formula; steps }\n{ rank=same; text; ledger }\n{ rank=same; state; bl }\n{ rank=same; procap; by_hand }"
+    print "{ rank=same; kept; demands; from_c }\n{ rank=same; door; formula; steps }\n{ rank=same; text; ledger }\n{ rank=same; state; bl }\n{ rank=same; procap; by_hand; front }"
     printf "%s", arrows
     print "}"
 }' <(places) "$1"
