@@ -1,9 +1,10 @@
 -- 30 and 31, over bytes: what the code comes to in each branch is what the walk of the step that the reader finds there comes to.
 use Prim.Native.Nat.{ℕ, suc, ◌+◌, ◌<◌}
-use mathlib.Core.Path.{◌≡◌, refl, ap}
+use mathlib.Core.Path.{◌≡◌, refl, ap, ◌∙◌}
 use mathlib.Core.List.{List, ◌∷◌}
 use native.Mathlib.Omega.{arith}
 use lib.ListN.{length}
+use Rattle.procap.specs.declared.time.Time.{Time}
 use Rattle.bl.specs.declared.CheckTag.{CheckTag}
 use Rattle.bl.specs.declared.CheckTag.TheVariants.{OrOutTag, FalsityOutTag}
 use Rattle.bl.specs.declared.FormulaTag.TheVariants.{OrTag}
@@ -15,7 +16,7 @@ use Rattle.steps.specs.Ends.{ToldChecking}
 use Rattle.ledger.specs.declared.Ledger.{Ledger}
 use Rattle.ledger.specs.Books.{GoesOn, book, Sound}
 use Rattle.formula.specs.declared.parts.Judgement.{Judgement}
-use Rattle.formula.specs.Meaning.{from_of, to_of, Means}
+use Rattle.formula.specs.Meaning.{from_of, to_of, Means, On}
 use Rattle.judging.specs.declared.rows.Row.{Row}
 use Rattle.judging.specs.declared.judge.Scope.{Scope}
 use Rattle.judging.specs.declared.judge.Inferred.{Inferred}
@@ -37,6 +38,10 @@ use Rattle.walk.proofs.Inferring.{first_part}
 use Rattle.walk.proofs.Assuming.{part_assuming}
 use Rattle.walk.proofs.Checking.{told_is}
 use Rattle.procap.specs.declared.fact.Fact.{Fact}
+
+-- What is on an interval is on the same interval under other names.
+same_interval : {bytes : List ℕ} {j : Judgement} {A : Formula} {a b c d : Time} → a ≡ c → b ≡ d → On bytes j A a b → On bytes j A c d
+same_interval e f on = record { means = on.means; from = on.from ∙ e; to = on.to ∙ f }
 
 module _ (S : Sources) (rows : List ℕ) (scope : Scope) (ledger : Ledger) (list : List Fact) (goal_bytes : List ℕ) (goal : Judgement) (left at : ℕ) where
   -- The view of the steps here.
@@ -86,8 +91,8 @@ module _ (S : Sources) (rows : List ℕ) (scope : Scope) (ledger : Ledger) (list
           comes_or_stays S.state (book ledger list) (book inferred.ledger list₁) _ _ part (book parts.ledger list₁) (shut, shut)
           (λ going j so. comes_taken S.state list₁ (branches at j) at inferred.ledger parts.ledger _ (shut, shut) part.gives.sound
           (takes_then (branches at j) (λ x. (plain x.0 j.1 j.2, plain x.1 j.1 j.2)) refl
-          (λ x on. (is_plain refl (λ h. omega arith) on.0, is_plain refl (λ h. omega arith) on.1, so.1))
-          (rw (so.0.from, so.0.to) at (has going j.0 tt so.0.means))))
+          (λ x on. (is_plain refl (λ h. omega arith) (same_interval so.0.from so.0.to on.0), is_plain refl (λ h. omega arith) (same_interval so.0.from so.0.to on.1), so.1))
+          (has going j.0 tt so.0.means)))
           (λ n. ap (λ l. book l list₁) (stays n))
 
       -- Where it is no "or", or the walk has stopped before.
