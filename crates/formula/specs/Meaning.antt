@@ -41,13 +41,6 @@ pub record Means (bytes : List ℕ) (d : ℕ) (f : FormulaAt) (F : Formula) : Ty
   pub reads : formula bytes level sorts f.at ≡ Some (tree, end)
   pub filled : fill d (terms_of f.terms) tree ≡ F
 
--- The two ends of a judgement's interval.
-abbrev pub from_of : Judgement → Time
-from_of j = j.from
-
-abbrev pub to_of : Judgement → Time
-to_of j = j.to
-
 -- A judgement of the formula F on [a,b].
 pub record On (bytes : List ℕ) (j : Judgement) (F : Formula) (a b : Time) : Type 0 where
   pub means : Means bytes 0 j.formula F

@@ -558,9 +558,9 @@ fn span_at(bytes: &[u8], at: usize, terms: Terms, offset: usize, ledger: Ledger)
         return no_span(ledger, offset);
     };
     Span {
-        ledger: ledger,
-        from: from,
-        to: to,
+        ledger,
+        from,
+        to,
         next,
     }
 }

@@ -16,7 +16,7 @@ use Rattle.steps.specs.Ends.{ToldChecking}
 use Rattle.ledger.specs.declared.Ledger.{Ledger}
 use Rattle.ledger.specs.Books.{GoesOn, book, Sound}
 use Rattle.formula.specs.declared.parts.Judgement.{Judgement}
-use Rattle.formula.specs.Meaning.{from_of, to_of, Means, On}
+use Rattle.formula.specs.Meaning.{Means, On}
 use Rattle.judging.specs.declared.rows.Row.{Row}
 use Rattle.judging.specs.declared.judge.Scope.{Scope}
 use Rattle.judging.specs.declared.judge.Inferred.{Inferred}
@@ -69,7 +69,7 @@ module _ (S : Sources) (rows : List ℕ) (scope : Scope) (ledger : Ledger) (list
     unfolding ToldChecking
     check_falsity h π Γ N e sound around reads told G means =
         let found = falsity_out_read S.proof (length π.statements) left scope.count at N e reads in
-        rw (found.is, falsity_out_walk π Γ view at G (from_of goal) (to_of goal) found.part)
+        rw (found.is, falsity_out_walk π Γ view at G goal.from goal.to found.part)
         (h S.state (book ledger list) _ e list₁
         (first_part S rows scope ledger list left at begins infers π Γ found.part e sound around found.reads (told_is S.ends found.is told)))
 
@@ -99,7 +99,7 @@ module _ (S : Sources) (rows : List ℕ) (scope : Scope) (ledger : Ledger) (list
       pub check_cases_unfit : (GoesOn parts.ledger → ⊥) → {next : ℕ} → By OrOutTag (record { ledger = parts.ledger; next = next }) list₁
       check_cases_unfit n {next} π Γ N e sound around reads told G means =
           let found = or_out_read S.proof (length π.statements) left scope.count at N e reads in
-          rw (found.is, or_out_walk π Γ view at G (from_of goal) (to_of goal) found.part found.one found.other)
+          rw (found.is, or_out_walk π Γ view at G goal.from goal.to found.part found.one found.other)
           (passes_halted S.state (book ledger list) _ parts.ledger list₁ (branches_come π Γ N e sound around found told) _ e n next)
 
       -- The first branch, with the left side assumed.
@@ -109,7 +109,7 @@ module _ (S : Sources) (rows : List ℕ) (scope : Scope) (ledger : Ledger) (list
         one_comes : (π : Policy) (Γ : List Assumption) (N : Check) (e : ℕ) → Sound (book parts.ledger list₁) → Around S rows scope (suc left) π Γ
             → (found : OrOutRead S.proof (length π.statements) left scope.count at N e) → ToldChecking S.ends N → inferred.next ≡ found.middle
             → (x : Assumption) → RowIs S.buffer (side_row parts.first) 0 0 x → (G : Formula) → Means goal_bytes 0 goal.formula G
-            → Comes S.state (book parts.ledger list₁) (check π (x ∷ Γ) view found.one G (from_of goal) (to_of goal)) (book one.ledger list₂) (λ _. one.next ≡ found.later)
+            → Comes S.state (book parts.ledger list₁) (check π (x ∷ Γ) view found.one G goal.from goal.to) (book one.ledger list₂) (λ _. one.next ≡ found.later)
         unfolding ToldChecking
         one_comes π Γ N e sound around found told begins x is G means =
             comes_checked S.state (book parts.ledger list₁) _ found.later one list₂
@@ -119,7 +119,7 @@ module _ (S : Sources) (rows : List ℕ) (scope : Scope) (ledger : Ledger) (list
         pub check_cases_stopped : (GoesOn one.ledger → ⊥) → By OrOutTag one list₂
         check_cases_stopped n π Γ N e sound around reads told G means =
             let found = or_out_read S.proof (length π.statements) left scope.count at N e reads in
-            rw (found.is, or_out_walk π Γ view at G (from_of goal) (to_of goal) found.part found.one found.other)
+            rw (found.is, or_out_walk π Γ view at G goal.from goal.to found.part found.one found.other)
             (passes_then S.state (book ledger list) _ parts.ledger list₁ (branches_come π Γ N e sound around found told) _ e going one list₂
             (λ sound x so. passes_halted S.state (book parts.ledger list₁) _ one.ledger list₂
             (one_comes π Γ N e sound around found told so.2 x.0 so.0 G means) _ e n one.next))
@@ -132,7 +132,7 @@ module _ (S : Sources) (rows : List ℕ) (scope : Scope) (ledger : Ledger) (list
         unfolding ToldChecking
         check_cases goes kept₂ put₂ all₂ {other} {list₃} checks₂ π Γ N e sound around reads told G means =
             let found = or_out_read S.proof (length π.statements) left scope.count at N e reads in
-            rw (found.is, or_out_walk π Γ view at G (from_of goal) (to_of goal) found.part found.one found.other)
+            rw (found.is, or_out_walk π Γ view at G goal.from goal.to found.part found.one found.other)
             (passes_then S.state (book ledger list) _ parts.ledger list₁ (branches_come π Γ N e sound around found told) _ e going other list₃
             (λ sound x so. passes_then S.state (book parts.ledger list₁) _ one.ledger list₂
             (one_comes π Γ N e sound around found told so.2 x.0 so.0 G means) _ e goes other list₃
