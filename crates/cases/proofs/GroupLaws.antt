@@ -10,54 +10,55 @@ use Rattle.procap.specs.declared.answer.Answer.{Answer}
 use Rattle.procap.specs.declared.answer.Answer.TheVariants.{InputMalformed}
 use Rattle.procap.specs.declared.time.Time.{Time}
 use Rattle.text.specs.Words.{bytes_of}
+use Rattle.text.specs.LinesInARow.{one_line}
 use Rattle.cases.specs.CaseLines.{hex_line}
 use Rattle.cases.specs.Case.{Group, heading, group, groups}
-use Rattle.cases.specs.Found.{HexFound, GroupFound}
-use Rattle.cases.proofs.InARow.{line_reads, line_breaks, lines_read, lines_break}
+use Rattle.cases.specs.Found.{ReadSoFar, WentOn, HeadingTold, GroupPut}
+use Rattle.cases.specs.declared.groups.Heading.{Heading}
+use Rattle.cases.proofs.InARow.{lines_read, lines_break}
 
 -- ── One group ──
 
-module _ (input : List ℕ) (line at : ℕ) where
+module _ (old : ReadSoFar) where
   -- A line of the heading that breaks the form does so of the group.
-  pub heading_breaks : (answer : Answer) → heading input line at ≡ Err answer → group input line at ≡ Err answer
+  pub heading_breaks : (answer : Answer) → heading old.input old.line old.at ≡ Err answer → group old.input old.line old.at ≡ Err answer
   unfolding group
-  heading_breaks answer e = lines_break _ line at (heading input) answer e
+  heading_breaks answer e = lines_break _ old.line old.at (heading old.input) answer e
 
-  module _ (by : ℕ) (from to : Time) (next : ℕ) (h : heading input line at ≡ Ok ((by, from, to), line + 3, next)) where
-    -- After its heading a group breaks the form in its fourth line, or is read.
-    pub formula_breaks : hex_line input (bytes_of "says=") next ≡ None → group input line at ≡ Err (InputMalformed (line + 3))
+  module _ {s : ReadSoFar} {h : Heading} (w : WentOn (heading old.input old.line old.at) old s (HeadingTold old s) h) where
+    -- So does the line of the formula.
+    pub says_breaks : (answer : Answer) → one_line (hex_line s.input (bytes_of "says=")) s.line s.at ≡ Err answer
+        → group old.input old.line old.at ≡ Err answer
     unfolding group
-    formula_breaks e =
-        lines_read _ line at (heading input) (by, from, to) (line + 3) next h
-        ∙ line_breaks _ (line + 3) next (hex_line input (bytes_of "says=")) e
+    says_breaks answer e =
+        lines_read _ old.line old.at (heading old.input) w.found s.line s.at w.reads
+        ∙ lines_break _ s.line s.at (one_line (hex_line old.input (bytes_of "says="))) answer (rw w.same at e)
 
-    group_reads : (says : List ℕ) (end : ℕ) → hex_line input (bytes_of "says=") next ≡ Some (says, end)
-        → group input line at ≡ Ok (record { by = by; from = from; to = to; says = says }, line + 4, end)
+    -- With both the group is read. Its record says where its formula stands.
+    pub group_read : {new : ReadSoFar}
+        → WentOn (one_line (hex_line s.input (bytes_of "says=")) s.line s.at) s new (λ bytes (_ : Unit {0}). new.bytes ≡ s.bytes ++ bytes) tt
+        → (start n : ℕ) → start ≡ length s.bytes → n ≡ length new.bytes
+        → WentOn (group old.input old.line old.at) old new (GroupPut old new)
+        (record { principal = h.by; from = h.from; to = h.to; start = start; length = n - start })
     unfolding group
-    group_reads says end e =
-        lines_read _ line at (heading input) (by, from, to) (line + 3) next h
-        ∙ line_reads _ (line + 3) next (hex_line input (bytes_of "says=")) says end e
-        ∙ ap (λ l. Ok (record { by = by; from = from; to = to; says = says }, l, end)) four
+    group_read {new} v start n b e = record {
+      found = record { by = w.found.0; from = w.found.1; to = w.found.2; says = v.found };
+      reads =
+          lines_read _ old.line old.at (heading old.input) w.found s.line s.at w.reads
+          ∙ lines_read _ s.line s.at (one_line (hex_line old.input (bytes_of "says="))) v.found new.line new.at (rw w.same at v.reads);
+      same = v.same ∙ w.same;
+      is_of = (
+        ap₂ (λ (k l : ℕ). record { principal = h.by; from = h.from; to = h.to; start = k; length = l }) begins ends
+            ∙ ap (λ (f : ℕ × Time × Time). record { principal = f.0; from = f.1; to = f.2; start = length old.bytes; length = length v.found }) w.is_of.0,
+        v.is_of ∙ ap (λ bs. bs ++ v.found) w.is_of.1,
+      );
+    }
       where
-        four : suc (line + 3) ≡ line + 4
-        four = omega arith
+        begins : start ≡ length old.bytes
+        begins = b ∙ ap length w.is_of.1
 
-    -- The group with its record, and its formula behind the others. All bytes end behind half of what is passed of the input.
-    pub group_found : (before : List ℕ) (end : ℕ) (after : List ℕ) (start n : ℕ) → 2 * length before ≤ next → start ≡ length before
-        → n ≡ length after → HexFound (hex_line input (bytes_of "says=") next) next before end after
-        → GroupFound (group input line at) line before
-        (record { principal = by; from = from; to = to; start = start; length = n - start }, end)
-        after
-    group_found before end after start n behind s e h =
-        let longer : length after ≡ length before + length h.bytes = ap length h.put ∙ length-append before h.bytes in
-        record {
-          found = record { by = by; from = from; to = to; says = h.bytes };
-          reads = group_reads h.bytes end h.reads;
-          its_record =
-              ap₂ (λ (k l : ℕ). record { principal = by; from = from; to = to; start = k; length = l }) s (omega arith);
-          behind = omega (arith, h.two_places);
-          put = h.put;
-        }
+        ends : n - start ≡ length v.found
+        ends = omega (arith, ap length v.is_of, length-append s.bytes v.found)
 
 -- ── Groups before others ──
 

@@ -1,62 +1,53 @@
--- Laws of the lines of a group before its formula: which of them breaks the form, what they say together, and that their place does not
--- go back.
-use Prim.Native.Nat.{ℕ, suc, ◌+◌, ◌≤◌}
-use mathlib.Core.Path.{◌≡◌}
-use mathlib.Core.List.{List}
-use Rattle.std.specs.Prelude.{Err, None, Ok, Some}
-use native.Mathlib.Omega.{arith}
-use Rattle.procap.specs.Outcome.{go_on}
+-- Laws of the lines of a group before its formula: the first of them that breaks the form does so of all, and else they say what each says.
+use Prim.Native.Nat.{ℕ}
+use mathlib.Core.Path.{◌≡◌, refl, ◌∙◌}
+use Rattle.std.specs.Prelude.{Err}
 use Rattle.procap.specs.Writable.{largest_name}
-use Rattle.procap.specs.declared.answer.Answer.TheVariants.{InputMalformed}
+use Rattle.procap.specs.declared.answer.Answer.{Answer}
 use Rattle.procap.specs.declared.time.Time.{Time}
-use Rattle.procap.proofs.Readers.{so_read}
 use Rattle.text.specs.Words.{bytes_of}
 use Rattle.text.specs.Line.{line_to}
-use Rattle.text.proofs.Spellings.{line_read}
-use Rattle.text.specs.LinesInARow.{at_line}
+use Rattle.text.specs.LinesInARow.{one_line}
 use Rattle.cases.specs.CaseLines.{time_line}
 use Rattle.cases.specs.Case.{heading}
-use Rattle.cases.proofs.Times.{time_line_ends}
+use Rattle.cases.specs.Found.{ReadSoFar, WentOn, Told, HeadingTold}
+use Rattle.cases.specs.declared.groups.Heading.{Heading}
+use Rattle.cases.proofs.InARow.{lines_read, lines_break}
 
--- The numbers of the lines after one.
-one_on : (line : ℕ) → line + 1 ≡ suc line
-one_on line = omega arith
+module _ (old : ReadSoFar) where
+  pub by_breaks : (answer : Answer) → one_line (line_to old.input (bytes_of "by=") largest_name) old.line old.at ≡ Err answer
+      → heading old.input old.line old.at ≡ Err answer
+  unfolding heading
+  by_breaks answer e = lines_break _ old.line old.at (one_line (line_to old.input (bytes_of "by=") largest_name)) answer e
 
-two_on : (line : ℕ) → line + 2 ≡ suc (suc line)
-two_on line = omega arith
+  module _ {s : ReadSoFar} {by : ℕ}
+      (w : WentOn (one_line (line_to old.input (bytes_of "by=") largest_name) old.line old.at) old s (Told old s) by) where
+    pub from_breaks : (answer : Answer) → one_line (time_line s.input (bytes_of "from=")) s.line s.at ≡ Err answer
+        → heading old.input old.line old.at ≡ Err answer
+    unfolding heading
+    from_breaks answer e =
+        lines_read _ old.line old.at (one_line (line_to old.input (bytes_of "by=") largest_name)) w.found s.line s.at w.reads
+        ∙ lines_break _ s.line s.at (one_line (time_line old.input (bytes_of "from="))) answer (rw w.same at e)
 
-three_on : (line : ℕ) → line + 3 ≡ suc (suc (suc line))
-three_on line = omega arith
+    module _ {t : ReadSoFar} {from : Time}
+        (v : WentOn (one_line (time_line s.input (bytes_of "from=")) s.line s.at) s t (Told s t) from) where
+      pub to_breaks : (answer : Answer) → one_line (time_line t.input (bytes_of "to=")) t.line t.at ≡ Err answer
+          → heading old.input old.line old.at ≡ Err answer
+      unfolding heading
+      to_breaks answer e =
+          lines_read _ old.line old.at (one_line (line_to old.input (bytes_of "by=") largest_name)) w.found s.line s.at w.reads
+          ∙ lines_read _ s.line s.at (one_line (time_line old.input (bytes_of "from="))) v.found t.line t.at (rw w.same at v.reads)
+          ∙ lines_break _ t.line t.at (one_line (time_line old.input (bytes_of "to="))) answer (rw (v.same ∙ w.same) at e)
 
-module _ (bytes : List ℕ) (line at : ℕ) where
-  -- The first line that does not read breaks the form.
-  pub no_by : line_to bytes (bytes_of "by=") largest_name at ≡ None → heading bytes line at ≡ Err (InputMalformed line)
-  unfolding heading at_line go_on
-  no_by e = rw e
-
-  module _ (by after_by : ℕ) (e : line_to bytes (bytes_of "by=") largest_name at ≡ Some (by, after_by)) where
-    pub no_from : time_line bytes (bytes_of "from=") after_by ≡ None → heading bytes line at ≡ Err (InputMalformed (line + 1))
-    unfolding heading at_line go_on
-    no_from f = rw (e, f, one_on line)
-
-    module _ (from : Time) (after_from : ℕ) (f : time_line bytes (bytes_of "from=") after_by ≡ Some (from, after_from)) where
-      pub no_to : time_line bytes (bytes_of "to=") after_from ≡ None → heading bytes line at ≡ Err (InputMalformed (line + 2))
-      unfolding heading at_line go_on
-      no_to g = rw (e, f, g, two_on line)
-
-      -- With all three they say who, from when and to when.
-      pub heading_here : (to : Time) (next : ℕ) → time_line bytes (bytes_of "to=") after_from ≡ Some (to, next)
-          → heading bytes line at ≡ Ok ((by, from, to), line + 3, next)
-      unfolding heading at_line go_on
-      heading_here to next g = rw (e, f, g, three_on line)
-
--- The place after the three lines is not before the first.
-module _ (bytes : List ℕ) (at by after_by : ℕ) (from : Time) (after_from : ℕ) (to : Time) (next : ℕ) where
-  pub heading_ends : line_to bytes (bytes_of "by=") largest_name at ≡ Some (by, after_by)
-      → time_line bytes (bytes_of "from=") after_by ≡ Some (from, after_from) → time_line bytes (bytes_of "to=") after_from ≡ Some (to, next)
-      → at ≤ next
-  heading_ends e f g =
-      let first = so_read _ e (line_read (bytes_of "by=") largest_name at (omega arith)) in
-      let second = so_read _ f (time_line_ends bytes (bytes_of "from=") after_by) in
-      let third = so_read _ g (time_line_ends bytes (bytes_of "to=") after_from) in
-      omega (arith, first.0.place, second, third)
+      pub heading_read : {new : ReadSoFar} {to : Time} → WentOn (one_line (time_line t.input (bytes_of "to=")) t.line t.at) t new (Told t new) to
+          → WentOn (heading old.input old.line old.at) old new (HeadingTold old new) (record { by = by; from = from; to = to })
+      unfolding heading
+      heading_read {new} {to} u = record {
+        found = (w.found, v.found, u.found);
+        reads =
+            lines_read _ old.line old.at (one_line (line_to old.input (bytes_of "by=") largest_name)) w.found s.line s.at w.reads
+            ∙ lines_read _ s.line s.at (one_line (time_line old.input (bytes_of "from="))) v.found t.line t.at (rw w.same at v.reads)
+            ∙ lines_read _ t.line t.at (one_line (time_line old.input (bytes_of "to="))) u.found new.line new.at (rw (v.same ∙ w.same) at u.reads);
+        same = u.same ∙ v.same ∙ w.same;
+        is_of = (rw (w.is_of.0, v.is_of.0, u.is_of.0) refl, u.is_of.1 ∙ v.is_of.1 ∙ w.is_of.1);
+      }

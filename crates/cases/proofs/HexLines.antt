@@ -4,7 +4,7 @@ use Prim.Native.Nat.{ℕ, ◌+◌, ◌*◌, ◌%◌, ◌≤◌}
 use mathlib.Core.Bool.{true, false}
 use mathlib.Core.Path.{◌≡◌, refl, ap, ◌∙◌}
 use mathlib.Core.List.{List, [], ◌∷◌, ◌++◌, append-nil}
-use Rattle.std.specs.Prelude.{None, Option, Some, option_map}
+use Rattle.std.specs.Prelude.{None, Option, Some}
 use native.Mathlib.Omega.{arith}
 use lib.ListN.{length, drop, length-append}
 use borrow.Author.Tests.{eq-eqb, ne_eqb}
@@ -13,11 +13,12 @@ use Rattle.procap.proofs.Readers.{so_read}
 use Rattle.text.specs.Numbers.{is_digit}
 use Rattle.text.specs.Words.{bytes_of}
 use Rattle.text.specs.Line.{literal}
+use Rattle.text.specs.LinesInARow.{at_line}
 use Rattle.text.proofs.Readers.{Takes, literal_read}
-use Rattle.text.proofs.Words.{no_word, word_to}
 use Rattle.cases.specs.Hex.{is_letter, is_hex, leading_hex, in_pairs, paired}
 use Rattle.cases.specs.CaseLines.{hex_digits, hex_line}
-use Rattle.cases.specs.Found.{PairsPut, HexReads}
+use Rattle.cases.specs.Found.{ReadSoFar, PairsPut, WentOn, gone_to}
+use Rattle.cases.proofs.WentOn.{found_there}
 use Rattle.cases.proofs.HexDigits.{leading_none}
 
 -- Twice as many digits as bytes are in pairs, and one more are not.
@@ -46,10 +47,6 @@ module _ (input word : List ℕ) (at : ℕ) where
   hex_no_word e = rw e
 
   module _ (first : ℕ) (e : literal input word at ≡ Some (tt, first)) where
-    -- The word moves no place back.
-    pub word_forward : at ≤ first
-    word_forward = omega (arith, (word_takes input word at first e).place)
-
     -- After the word stand just these digits: the line is of their bytes if they are in pairs and its end follows; else there is none.
     module _ (ds : List ℕ) (d : leading_hex (drop first input) ≡ ds) where
       hex_odd : in_pairs ds ≡ false → hex_line input word at ≡ None
@@ -71,19 +68,14 @@ module _ (input word : List ℕ) (at : ℕ) where
       just_pairs z = p.all_digits ∙ ap (λ xs. p.digits ++ xs) z ∙ append-nil p.digits
 
       -- A line feed after the pairs ends the line, which passed two places for each byte.
-      hex_ends : (next : ℕ) → literal input (bytes_of "\n") pairs_end ≡ Some (tt, next)
+      pub hex_ends : (next : ℕ) → literal input (bytes_of "\n") pairs_end ≡ Some (tt, next)
           → hex_line input word at ≡ Some (paired p.digits, next)
       hex_ends next n =
           let all = just_pairs (no_hex_at_end input pairs_end next n) in
           hex_here p.digits all next (even_in_pairs p.digits p.two_by_two) (rw p.place at n)
 
-      two_places : (next : ℕ) → literal input (bytes_of "\n") pairs_end ≡ Some (tt, next)
-          → at + 2 * length (paired p.digits) ≤ next
-      two_places next n =
-          omega (arith, word_forward, p.place, p.two_by_two, (word_takes input (bytes_of "\n") pairs_end next n).place)
-
       -- With none there the line does not read.
-      hex_ends_not : literal input (bytes_of "\n") pairs_end ≡ None → hex_line input word at ≡ None
+      pub hex_ends_not : literal input (bytes_of "\n") pairs_end ≡ None → hex_line input word at ≡ None
       hex_ends_not n = by (leading_hex (drop pairs_end input)) refl p.one_left
         where
           by : (rest : List ℕ) → leading_hex (drop pairs_end input) ≡ rest → length rest ≤ 1 → hex_line input word at ≡ None
@@ -93,10 +85,16 @@ module _ (input word : List ℕ) (at : ℕ) where
               hex_odd (p.digits ++ (d ∷ [])) all (odd_in_no_pairs p.digits d p.two_by_two)
           by (d ∷ f ∷ rest) z l = absurd (omega arith)
 
-      -- So the line is what comes of looking for its end there.
-      pub hex_by_end : (r : Option ℕ) → r ≡ option_map (λ (x : Unit {0} × ℕ). x.1) (literal input (bytes_of "\n") pairs_end)
-          → HexReads (hex_line input word at) at before r after
-      hex_by_end None e = hex_ends_not (no_word _ e)
-      hex_by_end (Some next) e =
-          let n = word_to _ next e in
-          record { bytes = paired p.digits; reads = hex_ends next n; two_places = two_places next n; put = p.put }
+-- From the pairs on one goes to the next line, and their bytes are put behind those before.
+pub hex_went : (old pairs new : ReadSoFar) (word : List ℕ) (first next : ℕ) → literal old.input word old.at ≡ Some (tt, first)
+    → PairsPut old.input first old.bytes pairs.at pairs.bytes → pairs.input ≡ old.input → pairs.line ≡ old.line
+    → literal pairs.input (bytes_of "\n") pairs.at ≡ Some (tt, next) → new ≡ gone_to pairs next
+    → WentOn (at_line old.line (hex_line old.input word old.at)) old new (λ bytes (_ : Unit {0}). new.bytes ≡ old.bytes ++ bytes) tt
+hex_went old pairs new word first next e p input line n gone =
+    let says = hex_ends old.input word old.at first e old.bytes pairs.at pairs.bytes p next (rw input at n) in
+    rw (gone, line) (record {
+      found = paired p.digits;
+      reads = found_there _ old.line (paired p.digits) next says;
+      same = input;
+      is_of = p.put;
+    })

@@ -5,6 +5,7 @@ pub mod Pairs
 pub mod HexLines
 pub mod HexBytes
 pub mod Times
+pub mod WentOn
 pub mod Headings
 pub mod GroupLaws
 pub mod Records

@@ -1,12 +1,11 @@
 -- Laws of pairs of hex digits: what two more digits add, and the bytes of the pairs read so far, which were put behind others.
-use Prim.Native.Nat.{ℕ, ◌+◌, ◌*◌, ◌≤◌, ◌<◌}
+use Prim.Native.Nat.{ℕ, ◌+◌, ◌*◌}
 use mathlib.Core.Path.{◌≡◌, refl, sym, ap, ◌∙◌}
 use mathlib.Core.List.{List, [], ◌∷◌, ◌++◌, append_assoc, append-nil}
 use Rattle.std.specs.Prelude.{None, Some}
 use native.Mathlib.Omega.{arith}
 use lib.ListN.{length, drop, length-append}
 use Rattle.cases.specs.Hex.{hex_value, leading_hex, paired}
-use Rattle.cases.specs.Case.{most_input}
 use Rattle.cases.specs.Found.{DigitReads, PairFound, PairReads, PairsPut}
 
 -- ── One pair ──
@@ -56,11 +55,8 @@ module _ (input : List ℕ) (at : ℕ) (before : List ℕ) where
   no_pairs = record { digits = []; all_digits = refl; two_by_two = refl; place = omega arith; put = sym (append-nil before) }
 
   module _ (next : ℕ) (after : List ℕ) (p : PairsSoFar input at before next after) where
-    -- A pair more, for whose byte there is room, since two places of the input were passed for each before it.
+    -- A pair more.
     module _ (byte : ℕ) (f : PairFound input next byte) where
-      pub pair_room : length input ≤ most_input → 2 * length before ≤ at → length after < 32_768
-      pair_room short behind = omega (arith, p.place, p.two_by_two, f.inside, ap length p.put, length-append before (paired p.digits))
-
       pub pair_more : PairsSoFar input at before (next + 2) (after ++ (byte ∷ []))
       pair_more =
           let two : List ℕ = f.high ∷ f.low ∷ [] in

@@ -1,10 +1,11 @@
 -- Laws of a line with a time: what the time is by the first of its three readers that finds one, what makes the line, and that its place
 -- does not go back.
-use Prim.Native.Nat.{ℕ, ◌≤◌}
-use mathlib.Core.Path.{◌≡◌}
+use Prim.Native.Nat.{ℕ, ◌≤◌, ◌<◌}
+use mathlib.Core.Path.{◌≡◌, ap}
 use mathlib.Core.List.{List}
 use Rattle.std.specs.Prelude.{None, Option, Some}
 use native.Mathlib.Omega.{arith}
+use lib.ListN.{length, length-drop}
 use Rattle.procap.specs.Times.{latest}
 use Rattle.procap.specs.Bytes.{then}
 use Rattle.procap.specs.declared.time.Time.{Time}
@@ -81,11 +82,11 @@ module _ (bytes : List ℕ) where
   unfolding case_time
   time_ends at = first_read (sign_ends _ _ at) (first_read (sign_ends _ _ at) (moment_ends at))
 
-  -- So does a line with a time.
-  pub time_line_ends : (word : List ℕ) (at : ℕ) → Ends (λ next. at ≤ next) (time_line bytes word at)
+  -- A line with a time ends later than it begins, and within the bytes.
+  pub time_line_ends : (word : List ℕ) (at : ℕ) → Ends (λ next. (at < next) × (next ≤ length bytes)) (time_line bytes word at)
   unfolding time_line
   time_line_ends word at =
       then_read (literal_read word at) λ _ start h.
       then_read (time_ends start) λ t end k.
       then_read (literal_read (bytes_of "\n") end) λ _ next l.
-      read (omega (arith, h.0.place, k, l.0.place))
+      read (omega (arith, h.0.place, k, l.0.place), omega (arith, l.0.place, ap length l.0.says, length-drop end bytes, length-drop next bytes))

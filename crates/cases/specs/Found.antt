@@ -3,12 +3,14 @@ use Rattle.std.specs.Prelude.{ℕ, ◌+◌, ◌*◌, ◌≤◌, ◌<◌, true, f
 use Rattle.procap.specs.Outcome.{Outcome}
 use Rattle.procap.specs.declared.time.Time.{Time}
 use Rattle.procap.specs.declared.procap.Procap.{Procap}
+use Rattle.text.specs.LinesInARow.{Lines, one_line}
 use Rattle.text.specs.Places.{Reads}
 use Rattle.text.specs.declared.line.BrokenLine.{BrokenLine}
 use Rattle.bl.specs.Calls.{verified}
 use Rattle.bl.specs.declared.Certificate.{Certificate}
 use Rattle.cases.specs.Hex.{is_hex, hex_value, leading_hex, paired}
-use Rattle.cases.specs.Case.{Group, Case, first_group_line, buffer_of, record_at, records_from}
+use Rattle.cases.specs.CaseLines.{nothing_more}
+use Rattle.cases.specs.Case.{Group, Case, buffer_of, record_at, records_from}
 use Rattle.cases.specs.declared.groups.Heading.{Heading}
 use Rattle.cases.specs.declared.case.CaseRead.{CaseRead}
 
@@ -47,48 +49,53 @@ pub record PairsPut (input : List ℕ) (at : ℕ) (before : List ℕ) (next : �
   pub place : next ≡ at + length digits
   pub put : after ≡ before ++ paired digits
 
--- The bytes that a reader of hex finds were put behind those before, and two places were passed for each.
-pub record HexFound (o : Option (List ℕ × ℕ)) (at : ℕ) (before : List ℕ) (next : ℕ) (after : List ℕ) : Type 0 where
-  pub bytes : List ℕ
-  pub reads : o ≡ Some (bytes, next)
-  pub two_places : at + 2 * length bytes ≤ next
-  pub put : after ≡ before ++ bytes
-
--- They were, or it finds none.
-abbrev pub HexReads : Option (List ℕ × ℕ) → ℕ → List ℕ → Option ℕ → List ℕ → Type 0
-HexReads o at before (Some next) after = HexFound o at before next after
-HexReads o at before None after = o ≡ None
-
 -- ── Lines ──
 
--- The lines of a group before its formula, and the place after them, which is not before the first.
-abbrev pub HeadingFound : Outcome ((ℕ × Time × Time) × ℕ × ℕ) → ℕ → ℕ → Heading × ℕ → Type 0
-HeadingFound o line at r = (o ≡ Ok ((r.0.by, r.0.from, r.0.to), line + 3, r.1)) × (at ≤ r.1)
+-- How far a case is read: up to a line with a number, which begins at a place; and the bytes that the lines of hex before it say.
+pub record ReadSoFar : Type 0 where
+  pub input : List ℕ
+  pub line : ℕ
+  pub at : ℕ
+  pub bytes : List ℕ
 
-abbrev pub HeadingReads : Outcome ((ℕ × Time × Time) × ℕ × ℕ) → ℕ → ℕ → Result (Heading × ℕ) BrokenLine → Type 0
-HeadingReads o line at r = Reads o (HeadingFound o line at) r
+-- At first.
+abbrev pub begun : List ℕ → ReadSoFar
+begun input = record { input = input; line = 1; at = 0; bytes = [] }
 
--- The group, its record, and its formula behind the bytes before.
-pub record GroupFound (o : Outcome (Group × ℕ × ℕ)) (line : ℕ) (before : List ℕ) (r : Certificate × ℕ) (after : List ℕ) : Type 0 where
-  pub found : Group
-  pub reads : o ≡ Ok (found, line + 4, r.1)
-  pub its_record : r.0 ≡ record_at (length before) found
-  pub behind : 2 * length after ≤ r.1
-  pub put : after ≡ before ++ found.says
+-- From there on to the next line.
+abbrev pub gone_to : ReadSoFar → ℕ → ReadSoFar
+gone_to s next = record { input = s.input; line = s.line + 1; at = next; bytes = s.bytes }
 
-abbrev pub GroupReads : Outcome (Group × ℕ × ℕ) → ℕ → List ℕ → Result (Certificate × ℕ) BrokenLine → List ℕ → Type 0
-GroupReads o line before r after = Reads o (λ g. GroupFound o line before g after) r
+-- Some lines were found from where a case was read so far; it is read up to the line after them, and what is handed back is so of them.
+pub record WentOn {A B : Type 0} (o : Outcome (A × ℕ × ℕ)) (old new : ReadSoFar) (IsOf : A → B → Type 0) (b : B) : Type 0 where
+  pub found : A
+  pub reads : o ≡ Ok (found, new.line, new.at)
+  pub same : new.input ≡ old.input
+  pub is_of : IsOf found b
 
--- The groups, their records, and their formulas.
-pub record GroupsFound (o : Outcome (List Group × ℕ × ℕ)) (count : ℕ) (r : List Certificate × ℕ) (bytes : List ℕ) : Type 0 where
-  pub found : List Group
-  pub reads : o ≡ Ok (found, first_group_line + 4 * count, r.1)
-  pub their_records : r.0 ≡ records_from 0 found
-  pub behind : 2 * length bytes ≤ r.1
-  pub put : bytes ≡ buffer_of found
+-- They were, or a line breaks their form.
+abbrev pub GoesOn : {A B : Type 0} → (List ℕ → Lines A) → ReadSoFar → ReadSoFar → (A → B → Type 0) → Result B BrokenLine → Type 0
+GoesOn lines old new IsOf r = Reads (lines old.input old.line old.at) (WentOn (lines old.input old.line old.at) old new IsOf) r
 
-abbrev pub GroupsReads : Outcome (List Group × ℕ × ℕ) → ℕ → Result (List Certificate × ℕ) BrokenLine → List ℕ → Type 0
-GroupsReads o count r bytes = Reads o (λ g. GroupsFound o count g bytes) r
+-- Nothing more stands there, or the line that does breaks the form.
+abbrev pub Ends : ReadSoFar → Result (Unit {0}) BrokenLine → Type 0
+Ends s r = Reads (one_line (nothing_more s.input) s.line s.at) (λ _. s.at ≡ length s.input) r
+
+-- The value itself is handed back, and no bytes are put.
+abbrev pub Told : {A : Type 0} → ReadSoFar → ReadSoFar → A → A → Type 0
+Told old new a b = (b ≡ a) × (new.bytes ≡ old.bytes)
+
+-- So it is with what the lines of a group before its formula say.
+abbrev pub HeadingTold : ReadSoFar → ReadSoFar → ℕ × Time × Time → Heading → Type 0
+HeadingTold old new h r = ((r.by, r.from, r.to) ≡ h) × (new.bytes ≡ old.bytes)
+
+-- The record of a group is handed back, and its formula is put behind the bytes before.
+abbrev pub GroupPut : ReadSoFar → ReadSoFar → Group → Certificate → Type 0
+GroupPut old new g c = (c ≡ record_at (length old.bytes) g) × (new.bytes ≡ old.bytes ++ g.says)
+
+-- The records of groups are handed back, and their formulas are put.
+abbrev pub GroupsPut : ReadSoFar → List Group → List Certificate → Type 0
+GroupsPut new gs cs = (cs ≡ records_from 0 gs) × (new.bytes ≡ buffer_of gs)
 
 -- The case, its records, and the bytes of its formulas, up to `split`, and of its proof.
 pub record CaseFound (o : Outcome (Case × ℕ × ℕ)) (r : CaseRead) (bytes : List ℕ) : Type 0 where

@@ -4,9 +4,8 @@ ghost use Rattle.text.specs.Calls.{Wrote};
 ghost use Rattle.cases.specs.Calls.{checked, answering};
 ghost use Rattle.cases.specs.Found.{verified_in};
 
-use crate::case::{CaseRead, case_at};
-use crate::hex::MOST_BYTES;
-use front::Front;
+use crate::case::CaseRead;
+use crate::reader::CaseReader;
 use procap::answer::Answer;
 use procap::procap::Procap;
 use text::line::BrokenLine;
@@ -33,9 +32,9 @@ fn checked(input: &[u8]) -> Result<Procap, Answer>
     if MOST_INPUT < input.len() {
         return Err(Answer::InputMalformed(0));
     }
-    let mut bytes = Front::<u8, MOST_BYTES>::new(0);
-    match case_at(input, &mut bytes) {
-        Ok(case) => verified(&case, bytes.lent()),
+    let mut reader = CaseReader::new(input);
+    match reader.case() {
+        Ok(case) => verified(&case, reader.bytes()),
         Err(BrokenLine(line)) => Err(Answer::InputMalformed(line)),
     }
 }

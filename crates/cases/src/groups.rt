@@ -1,23 +1,17 @@
 // The groups of a case: who says what, and when.
-ghost use Rattle.std.specs.Prelude.{◌≡◌, ◌*◌, ◌≤◌, [], length};
+ghost use Rattle.std.specs.Prelude.{◌≡◌, ◌≤◌, [], length};
 ghost use Rattle.bl.specs.Certificates.{most_certificates};
 ghost use Rattle.verifier.specs.Verifying.{no_record};
-ghost use Rattle.cases.specs.Case.{most_input, first_group_line, heading, group, groups};
-ghost use Rattle.cases.specs.Found.{HeadingReads, GroupReads, GroupsReads};
+ghost use Rattle.cases.specs.Case.{heading, group, groups};
+ghost use Rattle.cases.specs.Found.{GoesOn, HeadingTold, GroupPut, GroupsPut};
 
-use crate::hex::{MOST_BYTES, hex_line};
-use crate::lines::time_line;
+use crate::reader::CaseReader;
 use bl::Certificate;
 use front::Front;
 use procap::time::Time;
 use procap::writable::LARGEST_NAME;
 use text::line::BrokenLine;
 use verifier::certificates::MOST_CERTIFICATES;
-
-// The number of the first group's first line.
-pub const FIRST_GROUP_LINE: u16 = 5;
-// How many lines a group has.
-pub const GROUP_LINES: u16 = 4;
 
 // What the lines of a group before its formula say: who says it, from when and to when.
 #[derive(Clone, Copy)]
@@ -27,70 +21,52 @@ pub struct Heading {
     pub to: Time,
 }
 
-// The records of so many groups from a place on, and the place after them; the bytes of their formulas are put one after another.
-pub(crate) fn groups_at(
-    input: &[u8],
-    at: usize,
-    count: usize,
-    bytes: &mut Front<u8, MOST_BYTES>,
-) -> Result<(Front<Certificate, MOST_CERTIFICATES>, usize), BrokenLine>
-    requires short { length input.now ≤ most_input }
-    requires few { count ≤ most_certificates }
-    requires empty { bytes.old ≡ [] }
-    ensures { GroupsReads (groups input.now count first_group_line at) count result bytes.new }
-{
-    let mut records = [no_record(); MOST_CERTIFICATES];
-    let mut next = at;
-    for i in 0..count {
-        let line = FIRST_GROUP_LINE + GROUP_LINES * i as u16;
-        let (record, after_group) = group_at(input, next, line, bytes)?;
-        records[i] = record;
-        next = after_group;
+impl<'a> CaseReader<'a> {
+    // The records of so many groups, with which the lines of hex begin; the bytes of their formulas are put one after another.
+    pub(crate) fn groups(
+        &mut self,
+        count: usize,
+    ) -> Result<Front<Certificate, MOST_CERTIFICATES>, BrokenLine>
+        requires few { count ≤ most_certificates }
+        requires none { self.old.bytes ≡ [] }
+        ensures { GoesOn (λ input. groups input count) self.old self.new (GroupsPut self.new) result }
+    {
+        let mut records = [no_record(); MOST_CERTIFICATES];
+        for i in 0..count {
+            records[i] = self.group()?;
+        }
+        Ok(Front::of(records, count))
     }
-    Ok((Front::of(records, count), next))
-}
 
-// The record of the group whose first line has this number, and the place after it; the bytes of its formula are put behind the others.
-fn group_at(
-    input: &[u8],
-    at: usize,
-    line: u16,
-    bytes: &mut Front<u8, MOST_BYTES>,
-) -> Result<(Certificate, usize), BrokenLine>
-    requires short { length input.now ≤ most_input }
-    requires behind { 2 * length bytes.old ≤ at }
-    ensures { GroupReads (group input.now line at) line bytes.old result bytes.new }
-{
-    let (heading, after_heading) = heading_at(input, at, line)?;
-    let start = bytes.len();
-    let formula_line = BrokenLine(line as usize + 3);
-    let next = hex_line(input, after_heading, b"says=", bytes).ok_or(formula_line)?;
-    let record = Certificate {
-        principal: heading.by,
-        from: heading.from,
-        to: heading.to,
-        start,
-        length: bytes.len() - start,
-    };
-    Ok((record, next))
-}
+    // The record of a group; the bytes of its formula are put behind those before.
+    fn group(&mut self) -> Result<Certificate, BrokenLine>
+        ensures { GoesOn group self.old self.new (GroupPut self.old self.new) result }
+    {
+        let heading = self.heading()?;
+        let start = self.bytes().len();
+        self.hex(b"says=")?;
+        Ok(Certificate {
+            principal: heading.by,
+            from: heading.from,
+            to: heading.to,
+            start,
+            length: self.bytes().len() - start,
+        })
+    }
 
-// The lines of a group before its formula, the first of which has this number, and the place after them.
-fn heading_at(input: &[u8], at: usize, line: u16) -> Result<(Heading, usize), BrokenLine>
-    ensures { HeadingReads (heading input.now line at) line at result }
-{
-    let first = line as usize;
-    let (by, after_by) = text::line::line(input, at, b"by=", LARGEST_NAME).ok_or(BrokenLine(
-        first,
-    ))?;
-    let (from, after_from) = time_line(input, after_by, b"from=").ok_or(BrokenLine(first + 1))?;
-    let (to, next) = time_line(input, after_from, b"to=").ok_or(BrokenLine(first + 2))?;
-    let heading = Heading {
-        by: by as u16,
-        from,
-        to,
-    };
-    Ok((heading, next))
+    // The lines of a group before its formula.
+    fn heading(&mut self) -> Result<Heading, BrokenLine>
+        ensures { GoesOn heading self.old self.new (HeadingTold self.old self.new) result }
+    {
+        let by = self.number(b"by=", LARGEST_NAME)?;
+        let from = self.time(b"from=")?;
+        let to = self.time(b"to=")?;
+        Ok(Heading {
+            by: by as u16,
+            from,
+            to,
+        })
+    }
 }
 
 // A record of zeros.

@@ -4,5 +4,6 @@
 pub mod answering; // the whole way, from a case to what is printed
 mod case; // all lines of a case
 mod groups; // the groups of a case: its certificates
-mod hex; // bytes in hex
+mod hex; // pairs of hex digits
 mod lines; // lines that hold a time
+mod reader; // a case that is read line by line

@@ -4,7 +4,8 @@ ghost use Rattle.std.proofs.Common.{rules};
 ghost use Rattle.from_c.specs.Pairs.{pair_bytes, pairs_at_most, pair_at, pair_numbers};
 
 use crate::numbers::number_or_zero;
-use crate::row::{Front, InARow, front_of};
+use crate::row::{InARow, front_of};
+use front::Front;
 
 // How many pairs are lent on at the most: one more than are taken, so that too many stay too many.
 pub const PAIRS_AT_MOST: usize = 129;

@@ -4,8 +4,9 @@ ghost use Rattle.std.proofs.Common.{rules};
 ghost use Rattle.from_c.specs.Records.{record_bytes, lent_at_most, records_in, record_at, whole_record, no_record, time_of};
 
 use crate::numbers::{number_or_zero, term_at};
-use crate::row::{Front, InARow, front_of};
+use crate::row::{InARow, front_of};
 use bl::Certificate;
+use front::Front;
 use procap::fact::Term;
 use procap::time::Time;
 

@@ -2,7 +2,7 @@
 ghost use Rattle.std.specs.Prelude.{◌≡◌, ℕ, ◌+◌, ◌*◌, ◌≤◌, List, length, take};
 ghost use Rattle.from_c.specs.InARow.{in_a_row, how_many};
 
-use std::marker::Model;
+use front::Front;
 
 // What stands in a row of bytes: so many bytes each, one after another.
 pub trait InARow: Copy {
@@ -41,39 +41,11 @@ pub(crate) fn in_a_row<T: InARow, const N: usize>(
     items
 }
 
-// The front of an array: what is lent on of it.
-#[derive(Drop)]
-pub struct Front<T, const N: usize> {
-    items: [T; N],
-    count: usize,
-}
-
-// Clauses see what is lent on.
-impl<T, const N: usize> Model for Front<T, N> {
-    ghost Value = { List T };
-
-    ghost view = { λ front. take front.count front.items };
-
-    ghost invariant = { λ front. front.count ≤ N };
-}
-
-impl<T, const N: usize> Front<T, N> {
-    // What is lent on.
-    pub(crate) fn lent(&self) -> &[T]
-        ensures { result.now ≡ self.now }
-    {
-        &self.items[..self.count]
-    }
-}
-
 // The first of the things that the bytes say, no more of them than are lent on; an incomplete one at the end is one too.
 pub(crate) fn front_of<T: InARow, const N: usize>(bytes: &[u8], none: T) -> Front<T, N>
     requires { T.BYTES * N ≤ usize.MAX }
     ensures { result ≡ take N (in_a_row (T.value_at bytes.now) T.BYTES (how_many T.BYTES (length bytes.now)) 0) }
 {
     let count = bytes.len().div_ceil(T::BYTES).min(N);
-    Front {
-        items: in_a_row(bytes, 0, count, none),
-        count,
-    }
+    Front::of(in_a_row(bytes, 0, count, none), count)
 }

@@ -22,7 +22,6 @@ use Rattle.procap.specs.declared.fact.Fact.{Fact}
 use Rattle.state.specs.Standing.{WellFormed}
 use Rattle.bl.specs.declared.Certificate.{Certificate}
 use Rattle.bl.specs.Trees.{Check}
-use Rattle.bl.specs.Certificates.{Statement, statements}
 use Rattle.bl.specs.Strength.{most_pairs, pairs_of}
 use Rattle.bl.specs.Policy.{Policy, policy_in}
 use Rattle.bl.specs.Questions.{Walk, done}
@@ -36,7 +35,7 @@ use Rattle.ledger.specs.declared.Reading.TheVariants.{Office, Press}
 use Rattle.ledger.specs.declared.Ledger.{Ledger}
 use Rattle.ledger.specs.Books.{begun, stop_of, GoesOn, Book, book, Sound, kept_of, facts_said, resume}
 use Rattle.ledger.proofs.Giving.{stop_refused, stop_going}
-use Rattle.verifier.specs.Verifying.{Taken, Walked, PolicyRead, CaseReads, CaseRead}
+use Rattle.verifier.specs.Verifying.{Taken, Walked, PolicyRead, CaseRead}
 use Rattle.steps.specs.Ends.{ToldChecking}
 use Rattle.verifier.proofs.CertificateLaws.{statements_count}
 use Rattle.verifier.proofs.WalkBegins.{office_begins, press_begins}

@@ -1,32 +1,30 @@
 -- What the parts of verify and of the direct check promise.
-use Rattle.std.specs.Prelude.{ℕ, ◌+◌, ◌≤◌, ◌<◌, ◌≡◌, List, [], length, get_or, Err, Ok, Some}
+use Rattle.std.specs.Prelude.{ℕ, ◌≡◌, List, [], length, Err, Ok, Some}
 use Rattle.procap.specs.Lent.{Lent, LentToWrite}
-use Rattle.procap.specs.Outcome.{Outcome, go_on, answer_of, procap_handed}
+use Rattle.procap.specs.Outcome.{Outcome, answer_of, procap_handed}
 use Rattle.procap.specs.declared.time.Time.TheVariants.{Moment}
 use Rattle.procap.specs.declared.fact.Fact.{Fact}
 use Rattle.procap.specs.declared.procap.Request.{Request}
 use Rattle.procap.specs.declared.procap.Procap.{Procap}
 use Rattle.bl.specs.declared.Certificate.{Certificate}
 use Rattle.bl.specs.Trees.{Check}
-use Rattle.bl.specs.Certificates.{Statement, statements, statement_of, most_certificates}
+use Rattle.bl.specs.Certificates.{Statement, statements, statement_of}
 use Rattle.bl.specs.Strength.{pairs_in}
-use Rattle.strength.specs.Strengths.{StrengthsLent}
-use denote.Triple.Both.{Both}
 use Rattle.bl.specs.Policy.{Policy}
 use Rattle.bl.specs.Questions.{done}
 use Rattle.bl.specs.Steps.{proof_in}
-use Rattle.bl.specs.Readings.{start, office, press, run}
 use Rattle.bl.specs.Walk.{walk}
 use Rattle.bl.specs.Calls.{Case, read_case, verified, directly}
 use Rattle.verifier.specs.declared.verify.Verified.{Verified}
 use Rattle.verifier.specs.declared.verify.Asked.{Asked}
-use Rattle.steps.specs.Ends.{ToldChecking, EndsTold}
+use Rattle.steps.specs.Ends.{ToldChecking}
 use Rattle.ledger.specs.declared.Ledger.{Ledger}
 use Rattle.ledger.specs.Books.{begun, book, Sound, resume}
 use Rattle.ledger.specs.Asking.{ListLent}
 use Rattle.judging.specs.declared.rows.Row.{Row}
 use Rattle.formula.specs.PutIn.{no_terms}
-use Rattle.judging.specs.RowsOf.{row_in, all_numbers, Certified}
+use Rattle.judging.specs.RowsOf.{Certified}
+use Rattle.walk.specs.declared.Sources.{Sources}
 use Rattle.walk.specs.Walking.{PolicyLent}
 
 -- A record of zeros, which stands past the end of a list of records.
@@ -62,13 +60,13 @@ Walked asked IsPolicy proof state ends list l list' =
     → Sound (book l list') × (resume state (book l list') (done (tt {0})) ≡ resume state (book (begun asked.reading) list) (walk asked.request π N))
 
 -- The same of what is lent, where r is the ledger at the end: over pairs, and over the strengths that were found.
-abbrev pub WalkedOver : Asked → Lent → Lent → Lent → Lent → Lent → Lent → ListLent → Ledger → Type 0
-WalkedOver asked buffer pairs proof state rows ends facts r =
-    Walked asked (PolicyRead buffer.entry.now rows.entry.now pairs.entry.now) proof.entry.now state.entry.now ends.entry.now facts.entry.now r facts.exit.now
+abbrev pub WalkedOver : Asked → Lent → Sources → ListLent → Ledger → Type 0
+WalkedOver asked pairs lent facts r =
+    Walked asked (PolicyRead lent.buffer.now lent.certificates.now pairs.entry.now) lent.proof.now lent.state.now lent.ends.now facts.entry.now r facts.exit.now
 
-abbrev pub WalkedBy : Asked → Lent → Lent → Lent → Lent → Both StrengthsLent StrengthsLent → Lent → ListLent → Ledger → Type 0
-WalkedBy asked buffer proof state rows strengths ends facts r =
-    Walked asked (PolicyLent buffer.entry.now rows.entry.now strengths.entry) proof.entry.now state.entry.now ends.entry.now facts.entry.now r facts.exit.now
+abbrev pub WalkedBy : Asked → Sources → ListLent → Ledger → Type 0
+WalkedBy asked lent facts r =
+    Walked asked (PolicyLent lent.buffer.now lent.certificates.now lent.strengths) lent.proof.now lent.state.now lent.ends.now facts.entry.now r facts.exit.now
 
 -- What is tested of an outcome: it goes on with a value, or is refused with its answer.
 abbrev pub Stops : {A : Type 0} → Outcome A → Outcome (Unit {0}) → Type 0

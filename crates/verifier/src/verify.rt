@@ -24,7 +24,7 @@ use steps::ends::MOST_ENDS;
 use steps::{MOST_PROOF_LEVELS, well_formed};
 use strength::MOST_PAIRS;
 use strength::table::Strengths;
-use walk::{Here, check};
+use walk::{Goal, Here, Sources};
 
 // How many bytes the goal of a request takes.
 pub const GOAL_BYTES: usize = 17;
@@ -69,12 +69,12 @@ pub fn verify(
 }
 
 // The procap for what the proof shows, or the answer that refuses it.
-fn procap_for(
+fn procap_for<'a>(
     request: Request,
     certificates: &[Certificate],
-    buffer: &[u8],
+    buffer: &'a [u8],
     pairs: &[u32],
-    proof: &[u8],
+    proof: &'a [u8],
 ) -> Result<Procap, Answer>
     ensures { result ≡ verified_over request certificates.now buffer pairs proof }
 {
@@ -86,7 +86,15 @@ fn procap_for(
         request,
         reading: Reading::Office,
     };
-    let ledger = walked(asked, buffer, pairs, proof, b"", &rows, &ends, &mut facts);
+    let at_office = Sources {
+        buffer,
+        proof,
+        state: b"",
+        certificates: &rows,
+        strengths: None,
+        ends: &ends,
+    };
+    let ledger = walked(asked, pairs, at_office, &mut facts);
     ledger.stop()?;
     issued(request, ledger, &facts)
 }
@@ -121,14 +129,14 @@ pub fn direct(
 }
 
 // Whether the proof is accepted there, or the answer that refuses it.
-fn accepted(
+fn accepted<'a>(
     request: Request,
     certificates: &[Certificate],
-    buffer: &[u8],
+    buffer: &'a [u8],
     pairs: &[u32],
-    proof: &[u8],
+    proof: &'a [u8],
     moment: u64,
-    state: &[u8],
+    state: &'a [u8],
 ) -> Result<(), Answer>
     ensures { result ≡ directly_over request certificates.now buffer pairs proof moment state }
 {
@@ -146,7 +154,15 @@ fn accepted(
         request,
         reading: Reading::Press(moment),
     };
-    let ledger = walked(asked, buffer, pairs, proof, state, &rows, &ends, &mut facts);
+    let at_press = Sources {
+        buffer,
+        proof,
+        state,
+        certificates: &rows,
+        strengths: None,
+        ends: &ends,
+    };
+    let ledger = walked(asked, pairs, at_press, &mut facts);
     ledger.stop()
 }
 
@@ -174,55 +190,44 @@ fn read_case(
     Ok(())
 }
 
-// The ledger at the end of the walk for what is asked. The strengths that the pairs give are found once; with no pair there is
-// nothing to find.
-#[rattlefmt::skip]
-fn walked(
-    asked: Asked,
-    buffer: &[u8],
-    pairs: &[u32],
-    proof: &[u8],
-    state: &[u8],
-    certificates: &[u64],
-    ends: &[u16],
-    facts: &mut FactList,
-) -> Ledger
-    ensures { WalkedOver asked buffer pairs proof state certificates ends facts result }
+// The ledger at the end of the walk for what is asked, by the strengths that the pairs give, in place of those lent. They are found
+// once; with no pair there is nothing to find.
+fn walked(asked: Asked, pairs: &[u32], sources: Sources<'_, '_, '_>, facts: &mut FactList) -> Ledger
+    ensures { WalkedOver asked pairs sources.entry facts result }
 {
-    if pairs.len() == 0 {
-        return walked_by(asked, buffer, proof, state, certificates, None, ends, facts);
+    if pairs.is_empty() {
+        let without = Sources {
+            strengths: None,
+            ..sources
+        };
+        return walked_by(asked, &without, facts);
     }
     let mut strengths = Strengths::none();
     strengths.find(pairs);
-    walked_by(asked, buffer, proof, state, certificates, Some(&strengths), ends, facts)
+    let with = Sources {
+        strengths: Some(&strengths),
+        ..sources
+    };
+    walked_by(asked, &with, facts)
 }
 
-// The same, once the strengths are found.
-#[rattlefmt::skip]
-fn walked_by(
-    asked: Asked,
-    buffer: &[u8],
-    proof: &[u8],
-    state: &[u8],
-    certificates: &[u64],
-    strengths: Option<&Strengths>,
-    ends: &[u16],
-    facts: &mut FactList,
-) -> Ledger
-    ensures { WalkedBy asked buffer proof state certificates strengths ends facts result }
+// The same, by the strengths that are lent.
+fn walked_by(asked: Asked, sources: &Sources<'_, '_, '_>, facts: &mut FactList) -> Ledger
+    ensures { WalkedBy asked sources.now facts result }
 {
-    let request = asked.request;
-    let reading = asked.reading;
-    let bytes = goal_of(request);
-    let goal = Judgement::front_on_ctime();
+    let bytes = goal_of(asked.request);
+    let goal = Goal {
+        bytes: &bytes,
+        judgement: Judgement::front_on_ctime(),
+    };
     let here = Here {
         scope: Scope::outermost(),
         at: 0,
-        ledger: Ledger::begin(reading),
+        ledger: Ledger::begin(asked.reading),
         left: MOST_PROOF_LEVELS,
     };
     let mut assumptions = [0u64; ALL_NUMBERS];
-    let checked = check(buffer, proof, state, certificates, strengths, ends, facts, &mut assumptions, &bytes, goal, here);
+    let checked = sources.check(facts, &mut assumptions, &goal, here);
     checked.ledger
 }
 

@@ -6,14 +6,13 @@ use Rattle.std.proofs.lemmas.Option.{none-some, same_Some}
 use Rattle.std.specs.Prelude.{None, Some}
 use native.Mathlib.Omega.{arith}
 use lib.ListN.{length, get_or}
-use Rattle.procap.specs.Bytes.{Reader}
 use Rattle.procap.specs.declared.fact.Fact.{Fact}
 use Rattle.bl.specs.declared.InferTag.{InferTag}
 use Rattle.bl.specs.declared.CheckTag.{CheckTag}
-use Rattle.bl.specs.declared.CheckTag.TheVariants.{PairTag, TopStepTag, AtInTag, AtOutTag, SaysInTag, SaysOutTag, StateTag, OrderStepTag, OrLeftTag, OrRightTag, OrOutTag, FalsityOutTag, InferredTag}
+use Rattle.bl.specs.declared.CheckTag.TheVariants.{PairTag, TopStepTag, StateTag, OrderStepTag, InferredTag}
 use Rattle.bl.specs.declared.FormulaTag.TheVariants.{AndTag}
 use Rattle.bl.specs.Trees.{Formula, Infer, Check}
-use Rattle.bl.specs.Tags.{infer_tag, check_tag}
+use Rattle.bl.specs.Tags.{check_tag}
 use Rattle.bl.specs.Policy.{Policy}
 use Rattle.bl.specs.Rules.{Assumption, shut, shut_out, View, view_of}
 use Rattle.bl.specs.Questions.{Test}
@@ -36,14 +35,15 @@ use Rattle.judging.specs.RowsOf.{RowIs, is_plain, is_claim, is_shut}
 use Rattle.judging.specs.RowNumbers.{rows_with}
 use Rattle.judging.specs.Judging.{view_in, view_on, scope_inside, scope_with, part_of, and_then, sides, TwoSided, and_sides, inside, top_goal, fact_goal, order_goal, Passes}
 use Rattle.judging.specs.StepPromises.{TakesSides, TakesInside, TakesInsideInferred, StaysStopped, ChecksInferred}
-use Rattle.walk.specs.Walking.{Sources, Around, Keeps, InfersAt, ChecksAt, ChecksBy}
+use Rattle.walk.specs.Walking.{Sources, Around, Keeps, InfersAt, InfersBy, ChecksAt, ChecksBy}
 use Rattle.walk.specs.WalkCalls.{Puts, puts_at, puts_says, puts_left, puts_right, TakesOut, takes_at, takes_says}
 use Rattle.steps.proofs.StepsRead.{PartRead, check_read, pair_read, trivial_read, state_read, compare_read, at_in_read, says_in_read, at_out_read, says_out_read, or_left_read, or_right_read, inferred_tag, inferred_read, begins_there}
 use Rattle.judging.proofs.StepWalks.{check_inside, pair_walk, trivial_walk, state_walk, compare_walk, at_in_walk, says_in_walk, at_out_walk, says_out_walk, or_left_walk, or_right_walk, inferred_walk}
 use Rattle.judging.proofs.Coming.{Comes, comes_taken, comes_inferred, comes_checked, comes_or_stays, passes_on, passes_halted, passes_then}
 use Rattle.judging.proofs.JudgingLaws.{takes_so}
+use Rattle.walk.proofs.Falling.{tag_inside}
 use Rattle.walk.proofs.Surroundings.{around_part, around_said}
-use Rattle.walk.proofs.Inferring.{first_part}
+use Rattle.walk.proofs.Inferring.{infer_tagged, first_part}
 use Rattle.walk.proofs.Assuming.{part_assuming}
 
 -- With no level left nothing is read.
@@ -160,52 +160,51 @@ module _ (S : Sources) (rows : List ℕ) (scope : Scope) (ledger : Ledger) (list
       absurd (none-some found.1.tag (sym t ∙ found.1.is))
 
   pub check_tagged : (left n at : ℕ) (tag : CheckTag) {r : Checked} {list' : List Fact} → left ≡ suc n → check_tag (get_or S.proof at 0) ≡ Some tag
-      → (at < length S.proof → ChecksBy S rows scope ledger list n tag goal_bytes goal at r list')
-      → ChecksAt S rows scope ledger list left goal_bytes goal at r list'
+      → ChecksBy S rows scope ledger list n tag goal_bytes goal at r list' → ChecksAt S rows scope ledger list left goal_bytes goal at r list'
   check_tagged left n at tag more t h π Γ N e sound around reads =
       let found = check_read S.proof (length π.statements) n scope.count at N e (rw more at reads) in
       let same = same_Some found.1.tag tag (sym found.1.is ∙ t) in
-      h found.0 π Γ N e sound (rw more at around) (rw same at found.1.reads)
-
-  -- An inferring step where one is checked.
-  pub check_inferred : (left n at : ℕ) (tag : InferTag) → left ≡ suc n → check_tag (get_or S.proof at 0) ≡ Some (InferredTag tag)
-      → {inferred : Inferred} {list' : List Fact} → InfersAt S rows scope ledger list left at inferred list'
-      → {r : Checked} → ChecksInferred S.buffer goal_bytes at inferred goal r
-      → ChecksAt S rows scope ledger list left goal_bytes goal at r list'
-  unfolding ToldChecking
-  check_inferred left n at tag more t {inferred} {list'} infers h π Γ N e sound around reads told G means =
-      let seen = check_read S.proof (length π.statements) n scope.count at N e (rw more at reads) in
-      let same = same_Some seen.1.tag (InferredTag tag) (sym seen.1.is ∙ t) in
-      let found = inferred_read S.proof (length π.statements) n scope.count at tag N e seen.0 (inferred_tag (get_or S.proof at 0) tag t) (rw same at seen.1.reads) in
-      let there = begins_there S.proof (length π.statements) (suc n) scope.count at found.part e found.reads in
-      rw (found.is, inferred_walk π Γ view at G goal.from goal.to found.part there)
-      (h S.state (book ledger list) _ e list' G (infers π Γ found.part e sound around (rw more found.reads) (told_is S.ends found.is told)) means)
+      h π Γ N e sound (rw more at around) (rw same at found.1.reads)
 
   module _ (left at : ℕ) where
     -- The step here, by its tag.
     abbrev By : CheckTag → Checked → List Fact → Type 0
     By tag r list' = ChecksBy S rows scope ledger list left tag goal_bytes goal at r list'
 
+    -- An inferring step where one is checked, by the tag that was read there.
+    pub check_inferred : (tag : InferTag) → check_tag (get_or S.proof at 0) ≡ Some (InferredTag tag)
+        → {inferred : Inferred} {list' : List Fact} → InfersBy S rows scope ledger list left tag at inferred list'
+        → {r : Checked} → ChecksInferred S.buffer goal_bytes at inferred goal r → By (InferredTag tag) r list'
+    unfolding ToldChecking
+    check_inferred tag t {inferred} {list'} infers h π Γ N e sound around reads told G means =
+        let is = inferred_tag (get_or S.proof at 0) tag t in
+        let inside = tag_inside S.proof at (InferredTag tag) t in
+        let found = inferred_read S.proof (length π.statements) left scope.count at tag N e inside is reads in
+        let there = begins_there S.proof (length π.statements) (suc left) scope.count at found.part e found.reads in
+        let part = infer_tagged S rows scope ledger list (suc left) left at tag refl is infers in
+        rw (found.is, inferred_walk π Γ view at G goal.from goal.to found.part there)
+        (h S.state (book ledger list) _ e list' G (part π Γ found.part e sound around found.reads (told_is S.ends found.is told)) means)
+
     -- What a step without parts makes of its goal.
     abbrev Goes : Ledger → List Fact → (ℕ → Formula → Test) → Type 0
     Goes l list' part = (G : Formula) → Sound (book ledger list) → Means goal_bytes 0 goal.formula G → Gives S.state (book ledger list) (part at G) (book l list') tt
 
     -- 25, 2C and 2D, which end after their tag.
-    module _ (inside : at < length S.proof) {next : ℕ} (ends : at < length S.proof → next ≡ at + 1) {l : Ledger} {list' : List Fact} where
+    module _ {tag : CheckTag} (t : check_tag (get_or S.proof at 0) ≡ Some tag) {next : ℕ} (ends : at < length S.proof → next ≡ at + 1) {l : Ledger} {list' : List Fact} where
       pub check_trivial : Goes l list' top_goal → By TopStepTag (record { ledger = l; next = next }) list'
       check_trivial h π Γ N e sound around reads told G means =
           let found = trivial_read S.proof (length π.statements) left scope.count at N e reads in
-          rw (found.0, trivial_walk π Γ view at G goal.from goal.to) (record { gives = h G sound means; ends = λ _. ends inside ∙ found.1 })
+          rw (found.0, trivial_walk π Γ view at G goal.from goal.to) (record { gives = h G sound means; ends = λ _. ends (tag_inside S.proof at tag t) ∙ found.1 })
 
       pub check_state : Goes l list' fact_goal → By StateTag (record { ledger = l; next = next }) list'
       check_state h π Γ N e sound around reads told G means =
           let found = state_read S.proof (length π.statements) left scope.count at N e reads in
-          rw (found.0, state_walk π Γ view at G goal.from goal.to) (record { gives = h G sound means; ends = λ _. ends inside ∙ found.1 })
+          rw (found.0, state_walk π Γ view at G goal.from goal.to) (record { gives = h G sound means; ends = λ _. ends (tag_inside S.proof at tag t) ∙ found.1 })
 
       pub check_order : Goes l list' order_goal → By OrderStepTag (record { ledger = l; next = next }) list'
       check_order h π Γ N e sound around reads told G means =
           let found = compare_read S.proof (length π.statements) left scope.count at N e reads in
-          rw (found.0, compare_walk π Γ view at G goal.from goal.to) (record { gives = h G sound means; ends = λ _. ends inside ∙ found.1 })
+          rw (found.0, compare_walk π Γ view at G goal.from goal.to) (record { gives = h G sound means; ends = λ _. ends (tag_inside S.proof at tag t) ∙ found.1 })
 
     -- 22: the sides of the goal, and then one after the other.
     module _ {parts : Sides} (splits : TakesSides goal_bytes at AndTag goal ledger parts) where

@@ -26,10 +26,7 @@ use Rattle.judging.specs.RowsOf.{RowIs, is_plain}
 use Rattle.judging.specs.RowNumbers.{rows_with}
 use Rattle.judging.specs.Judging.{view_in, scope_with, plain_side, and_then, sides, TwoSided, branches}
 use Rattle.judging.specs.StepPromises.{TakesSidesInferred, StaysStopped, ChecksFalsity}
-use Rattle.walk.specs.declared.Cases.{Cases}
-use Rattle.walk.specs.declared.Cases.TheVariants.{BothSides, NoCase}
 use Rattle.walk.specs.Walking.{Sources, Around, Keeps, InfersAt, ChecksAt, ChecksBy}
-use Rattle.walk.specs.WalkCalls.{Leaves, leaves_both, leaves_none}
 use Rattle.steps.proofs.StepsRead.{OrOutRead, or_out_read, falsity_out_read}
 use Rattle.judging.proofs.StepWalks.{or_out_walk, falsity_out_walk}
 use Rattle.judging.proofs.Coming.{Comes, comes_taken, comes_inferred, comes_checked, comes_or_stays, passes_halted, passes_then}
@@ -51,15 +48,6 @@ module _ (S : Sources) (rows : List ℕ) (scope : Scope) (ledger : Ledger) (list
   -- The step here, by its tag.
   abbrev By : CheckTag → Checked → List Fact → Type 0
   By tag r list' = ChecksBy S rows scope ledger list left tag goal_bytes goal at r list'
-
-  -- By the cases that are left: of an "or", of falsity.
-  pub both_left : {cases : Cases} {r : Checked} {list' : List Fact} → cases ≡ BothSides → By OrOutTag r list' → (tag : CheckTag) → Leaves tag cases → By tag r list'
-  both_left e h tag leaves_both = h
-  both_left e h tag leaves_none = let z : ◌≡◌ {A = ℕ} 0 1 = cc e in absurd (omega arith)
-
-  pub none_left : {cases : Cases} {r : Checked} {list' : List Fact} → cases ≡ NoCase → By FalsityOutTag r list' → (tag : CheckTag) → Leaves tag cases → By tag r list'
-  none_left e h tag leaves_none = h
-  none_left e h tag leaves_both = let z : ◌≡◌ {A = ℕ} 0 1 = cc e in absurd (omega arith)
 
   -- Both have a part that infers after their tag.
   module _ {begin : ℕ} (begins : at < length S.proof → begin ≡ at + 1) {inferred : Inferred} {list₁ : List Fact}

@@ -1,6 +1,6 @@
 -- What stands around the parts of a step: the same with a level less, the plain ones shut out, or one assumption more.
 -- A call writes no row below its count, so what stood around before it stands around after it.
-use Rattle.std.specs.Prelude.{None, Option, Some}
+use Rattle.std.specs.Prelude.{Option}
 use Prim.Native.Nat.{ℕ, zero, suc, ◌≤◌, ◌<◌}
 use mathlib.Core.Path.{◌≡◌, refl, ◌∙◌}
 use mathlib.Core.List.{List, [], ◌∷◌, map}
@@ -21,7 +21,7 @@ use Rattle.judging.specs.declared.judge.View.{View}
 use Rattle.judging.specs.declared.judge.Scope.{Scope}
 use Rattle.judging.specs.declared.judge.Checked.{Checked}
 use Rattle.formula.specs.PutIn.{terms_numbers}
-use Rattle.judging.specs.Judging.{scope_by, one_more, scope_with}
+use Rattle.judging.specs.Judging.{one_more, scope_with}
 use Rattle.judging.specs.RowsOf.{most_rows, row_in, RowIs, is_plain, is_claim, is_shut, Assumed}
 use Rattle.judging.specs.RowNumbers.{rows_with}
 use Rattle.judging.proofs.RowLaws.{row_there, earlier_stay}
@@ -62,10 +62,6 @@ row_whole buffer row index below x h (is_shut plain-Row lower) = absurd (omega a
 
 -- ── Rows that are kept ──
 
--- Where nothing is written all rows are kept.
-pub keeps_same : (count : ℕ) (rows : List ℕ) → Keeps count rows rows
-keeps_same count rows = record { rows = λ i below. refl; all = refl }
-
 -- What one call and the next keep, both keep.
 pub keeps_then : {count : ℕ} {before between after : List ℕ} → Keeps count before between → Keeps count between after → Keeps count before after
 keeps_then first second = record { rows = λ i below. second.rows i below ∙ first.rows i below; all = second.all ∙ first.all }
@@ -73,11 +69,6 @@ keeps_then first second = record { rows = λ i below. second.rows i below ∙ fi
 -- A row that is put at the count leaves those below it.
 pub keeps_others : (count : ℕ) (before : List ℕ) (row : Row) {after : List ℕ} → after ≡ rows_with before count row → length after ≡ length before → Keeps count before after
 keeps_others count before row put all = record { rows = earlier_stay before count row put; all = all }
-
--- The scope inside of a shell has as many rows.
-pub keeps_inside : (scope : Scope) (whose : Option ℕ) (j : Judgement) {before after : List ℕ} → Keeps (scope_by scope whose j).count before after → Keeps scope.count before after
-keeps_inside scope None j keeps = keeps
-keeps_inside scope (Some k) j keeps = keeps
 
 -- With one assumption more there are no fewer; and where a row has room, one more.
 scope_grows : (scope : Scope) → scope.count ≤ (scope_with scope).count

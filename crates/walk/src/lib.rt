@@ -1,9 +1,12 @@
-// The walk over a proof: steps that infer and steps that check, in one cycle of calls. At each call levels fall, or, where a tag was read and is handed on, bytes.
-// Each call hands on all that is lent, so the calls stand on one line each, out of the formatter's reach.
+// The walk over a proof: steps that infer and steps that check, in one cycle of calls. At each call levels fall, or, where a tag was
+// read and is handed on, bytes.
 #![tactic(auto)]
 
 ghost use Rattle.std.specs.Prelude.{◌≡◌, ◌-◌, ◌<◌};
-ghost use Rattle.walk.specs.WalkCalls.{sources, Infers, Checks, ChecksPair, ChecksPut, ChecksTaken, ChecksCases, KeepsRows};
+ghost use Rattle.ledger.specs.Books.{misfitted};
+ghost use Rattle.walk.specs.WalkCalls.{sources, Infers, InfersTagged, Checks, ChecksTagged, ChecksPut, ChecksTaken, TagStands, KeepsRows};
+ghost use Rattle.bl.specs.declared.CheckTag.TheVariants.{PairTag, OrOutTag};
+ghost use Rattle.bl.specs.declared.InferTag.TheVariants.{ApplyTag};
 
 use bl::{CheckTag, FormulaTag, InferTag};
 use formula::parts::Judgement;
@@ -20,6 +23,25 @@ use steps::ends::end_in;
 use steps::{check_tag_at, infer_tag_at, term_at};
 use strength::table::Strengths;
 
+// What is lent all through a walk: formulas, proof and state in bytes, certificates in rows, strengths if there are any, and where
+// second parts end. The bytes are lent by the caller of verify, tables and strengths by its parts: each has a lifetime of its own.
+#[derive(Clone, Copy)]
+pub struct Sources<'bytes, 'tables, 'pairs> {
+    pub buffer: &'bytes [u8],
+    pub proof: &'bytes [u8],
+    pub state: &'bytes [u8],
+    pub certificates: &'tables [u64],
+    pub strengths: Option<&'pairs Strengths>,
+    pub ends: &'tables [u16],
+}
+
+// A judgement to check, and the bytes that its formula stands in.
+#[derive(Clone, Copy)]
+pub struct Goal<'a> {
+    pub bytes: &'a [u8],
+    pub judgement: Judgement,
+}
+
 // Where the walk stands: in which scope, at which step, with what ledger, and how many levels are left there.
 #[derive(Clone, Copy)]
 pub struct Here {
@@ -29,232 +51,351 @@ pub struct Here {
     pub left: u64,
 }
 
-// The cases that what was inferred leaves: the two sides of an "or"; or none, where it is falsity.
-#[derive(Clone, Copy)]
-pub enum Cases {
-    BothSides,
-    NoCase,
-}
-
 impl Here {
     // A part of the step here, at another place and with another ledger: one level less is left.
     fn part(self, at: usize, ledger: Ledger) -> Here
         requires { 0 < self.left }
         ensures { result ≡ record { scope = self.scope; at = at; ledger = ledger; left = self.left - 1 } }
     {
-        let scope = self.scope;
         Here {
-            scope: scope,
-            at: at,
-            ledger: ledger,
+            at,
+            ledger,
             left: self.left - 1,
+            ..self
+        }
+    }
+
+    // No step that checks stands here, or none of so few levels.
+    fn misfit(self) -> Checked
+        ensures { result ≡ record { ledger = misfitted self.ledger self.at; next = self.at } }
+    {
+        Checked {
+            ledger: self.ledger.misfit(self.at),
+            next: self.at,
         }
     }
 }
 
-// What the step at a place infers, of at most so many levels, by its tag, which was read there, if one stands there.
-#[rattlefmt::skip]
-#[cycle(by_cases_check_infer_pair_put_in_take_out)]
-fn infer(
-    buffer: &[u8], proof: &[u8], state: &[u8], certificates: &[u64], strengths: Option<&Strengths>, ends: &[u16], facts: &mut FactList, assumptions: &mut [u64], tag: Option<InferTag>, here: Here,
-) -> Inferred
-    ensures walks { Infers (sources buffer proof state certificates strengths ends) facts assumptions tag here result }
-    ensures keeps { KeepsRows here assumptions }
-{
-    let scope = here.scope;
-    let at = here.at;
-    let ledger = here.ledger;
-    if here.left == 0 {
-        return nothing(ledger.misfit(at));
+impl Sources<'_, '_, '_> {
+    // What the step at a place infers, of at most so many levels.
+    #[cycle(walk)]
+    fn infer(&self, facts: &mut FactList, assumptions: &mut [u64], here: Here) -> Inferred
+        ensures walks { Infers (sources self.now) facts assumptions here result }
+        ensures keeps { KeepsRows here assumptions }
+    {
+        let Here { at, ledger, .. } = here;
+        if here.left == 0 {
+            return nothing(ledger.misfit(at));
+        }
+        let Some(tag) = infer_tag_at(self.proof, at) else {
+            return nothing(ledger.misfit(at));
+        };
+        self.infer_by(facts, assumptions, tag, here)
     }
-    let Some(tag) = tag else {
-        return nothing(ledger.misfit(at));
-    };
-    let begin = past(proof, at);
-    match tag {
-        InferTag::LocalTag => local(proof, assumptions, strengths, scope, at, ledger),
-        InferTag::CertificateTag => certificate(proof, certificates, strengths, scope, at, ledger),
-        InferTag::FirstTag => conjunct(buffer, at, Side::First, infer(buffer, proof, state, certificates, strengths, ends, facts, assumptions, infer_tag_at(proof, begin), here.part(begin, ledger))),
-        InferTag::SecondTag => conjunct(buffer, at, Side::Second, infer(buffer, proof, state, certificates, strengths, ends, facts, assumptions, infer_tag_at(proof, begin), here.part(begin, ledger))),
-        InferTag::ApplyTag => {
-            let part = infer(buffer, proof, state, certificates, strengths, ends, facts, assumptions, infer_tag_at(proof, begin), here.part(begin, ledger));
-            let used = put_to_use(buffer, proof, at, part, end_in(ends, part.next));
-            let after_used = used.ledger;
-            let premise = used.premise;
-            if !after_used.goes_on() {
-                return nothing(after_used);
+
+    // The same by its tag, which was read there.
+    #[cycle(walk)]
+    fn infer_by(
+        &self,
+        facts: &mut FactList,
+        assumptions: &mut [u64],
+        tag: InferTag,
+        here: Here,
+    ) -> Inferred
+        requires { 0 < here.left }
+        ensures walks { InfersTagged (sources self.now) facts assumptions tag here result }
+        ensures keeps { KeepsRows here assumptions }
+    {
+        let Here {
+            scope,
+            at,
+            ledger,
+            ..
+        } = here;
+        let begin = past(self.proof, at);
+        match tag {
+            InferTag::LocalTag => local(self.proof, assumptions, self.strengths, scope, at, ledger),
+            InferTag::CertificateTag => {
+                certificate(
+                    self.proof,
+                    self.certificates,
+                    self.strengths,
+                    scope,
+                    at,
+                    ledger,
+                )
             }
-            let checked = check(buffer, proof, state, certificates, strengths, ends, facts, assumptions, buffer, premise, here.part(used.middle, after_used));
-            let after_checked = checked.ledger;
-            Inferred { ledger: after_checked, judgement: part_at(premise, used.conclusion), next: used.next }
+            InferTag::FirstTag => {
+                let part = self.infer(facts, assumptions, here.part(begin, ledger));
+                conjunct(self.buffer, at, Side::First, part)
+            }
+            InferTag::SecondTag => {
+                let part = self.infer(facts, assumptions, here.part(begin, ledger));
+                conjunct(self.buffer, at, Side::Second, part)
+            }
+            InferTag::ApplyTag => self.apply(facts, assumptions, here),
+            InferTag::InstanceTag => {
+                let Some((term, next)) = term_at(self.proof, begin) else {
+                    return nothing(ledger.misfit(at));
+                };
+                let part = self.infer(facts, assumptions, here.part(next, ledger));
+                instance(self.buffer, at, part, term)
+            }
         }
-        InferTag::InstanceTag => {
-            let Some((term, next)) = term_at(proof, begin) else {
-                return nothing(ledger.misfit(at));
+    }
+
+    // 26: what the first part infers is put to use, and its premise is checked by the second.
+    #[cycle(walk)]
+    fn apply(&self, facts: &mut FactList, assumptions: &mut [u64], here: Here) -> Inferred
+        requires { 0 < here.left }
+        ensures walks { InfersTagged (sources self.now) facts assumptions ApplyTag here result }
+        ensures keeps { KeepsRows here assumptions }
+    {
+        let Here { at, ledger, .. } = here;
+        let begin = past(self.proof, at);
+        let part = self.infer(facts, assumptions, here.part(begin, ledger));
+        let second_end = end_in(self.ends, part.next);
+        let used = put_to_use(self.buffer, self.proof, at, part, second_end);
+        if !used.ledger.goes_on() {
+            return nothing(used.ledger);
+        }
+        let premise = Goal {
+            bytes: self.buffer,
+            judgement: used.premise,
+        };
+        let second = here.part(used.middle, used.ledger);
+        let checked = self.check(facts, assumptions, &premise, second);
+        Inferred {
+            ledger: checked.ledger,
+            judgement: part_at(used.premise, used.conclusion),
+            next: used.next,
+        }
+    }
+
+    // Whether the step at a place, of at most so many levels, checks the goal.
+    #[cycle(walk)]
+    pub fn check(
+        &self,
+        facts: &mut FactList,
+        assumptions: &mut [u64],
+        goal: &Goal<'_>,
+        here: Here,
+    ) -> Checked
+        ensures walks { Checks (sources self.now) facts assumptions goal.now here result }
+        ensures keeps { KeepsRows here assumptions }
+    {
+        if here.left == 0 {
+            return here.misfit();
+        }
+        let Some(tag) = check_tag_at(self.proof, here.at) else {
+            return here.misfit();
+        };
+        self.check_by(facts, assumptions, tag, goal, here)
+    }
+
+    // The same by its tag, which was read there.
+    #[cycle(walk)]
+    fn check_by(
+        &self,
+        facts: &mut FactList,
+        assumptions: &mut [u64],
+        tag: CheckTag,
+        goal: &Goal<'_>,
+        here: Here,
+    ) -> Checked
+        requires more { 0 < here.left }
+        requires read { TagStands self.now.proof.now here tag }
+        ensures walks { ChecksTagged (sources self.now) facts assumptions goal.now here result tag }
+        ensures keeps { KeepsRows here assumptions }
+    {
+        let Here { at, ledger, .. } = here;
+        let next = past(self.proof, at);
+        match tag {
+            CheckTag::PairTag => self.pair(facts, assumptions, goal, here),
+            CheckTag::TopStepTag => Checked {
+                ledger: top(goal.bytes, at, goal.judgement, ledger),
+                next,
+            },
+            CheckTag::AtInTag => self.put_in(facts, assumptions, Shell::AtShell, goal, here),
+            CheckTag::AtOutTag => self.take_out(facts, assumptions, Shell::AtShell, goal, here),
+            CheckTag::SaysInTag => self.put_in(facts, assumptions, Shell::SaysShell, goal, here),
+            CheckTag::SaysOutTag => self.take_out(facts, assumptions, Shell::SaysShell, goal, here),
+            CheckTag::StateTag => Checked {
+                ledger: state_fact(goal.bytes, self.state, facts, at, goal.judgement, ledger),
+                next,
+            },
+            CheckTag::OrderStepTag => Checked {
+                ledger: order(goal.bytes, at, goal.judgement, ledger),
+                next,
+            },
+            CheckTag::OrLeftTag => self.put_in(facts, assumptions, Shell::LeftShell, goal, here),
+            CheckTag::OrRightTag => self.put_in(facts, assumptions, Shell::RightShell, goal, here),
+            CheckTag::OrOutTag => self.by_cases(facts, assumptions, goal, here),
+            CheckTag::FalsityOutTag => {
+                let part = self.infer(facts, assumptions, here.part(next, ledger));
+                from_falsity(self.buffer, at, part)
+            }
+            CheckTag::InferredTag(tag) => {
+                let inferred = self.infer_by(facts, assumptions, tag, here);
+                checked_by(self.buffer, goal.bytes, at, inferred, goal.judgement)
+            }
+        }
+    }
+
+    // 22: both sides of a conjunction.
+    #[cycle(walk)]
+    fn pair(
+        &self,
+        facts: &mut FactList,
+        assumptions: &mut [u64],
+        goal: &Goal<'_>,
+        here: Here,
+    ) -> Checked
+        requires { 0 < here.left }
+        ensures walks { ChecksTagged (sources self.now) facts assumptions goal.now here result PairTag }
+        ensures keeps { KeepsRows here assumptions }
+    {
+        let Here { at, ledger, .. } = here;
+        let Goal { bytes, judgement } = *goal;
+        let parts = sides_of(bytes, at, FormulaTag::AndTag, judgement, ledger);
+        if !parts.ledger.goes_on() {
+            return Checked {
+                ledger: parts.ledger,
+                next: at,
             };
-            let part = infer(buffer, proof, state, certificates, strengths, ends, facts, assumptions, infer_tag_at(proof, next), here.part(next, ledger));
-            instance(buffer, at, part, term)
         }
-    }
-}
-
-// Whether the step at a place, of at most so many levels, checks the goal.
-#[rattlefmt::skip]
-#[cycle(by_cases_check_infer_pair_put_in_take_out)]
-pub fn check(
-    buffer: &[u8], proof: &[u8], state: &[u8], certificates: &[u64], strengths: Option<&Strengths>, ends: &[u16], facts: &mut FactList, assumptions: &mut [u64],
-    goal_bytes: &[u8], goal: Judgement, here: Here,
-) -> Checked
-    ensures walks { Checks (sources buffer proof state certificates strengths ends) facts assumptions goal_bytes goal here result }
-    ensures keeps { KeepsRows here assumptions }
-{
-    let at = here.at;
-    let ledger = here.ledger;
-    if here.left == 0 {
-        return Checked { ledger: ledger.misfit(at), next: at };
-    }
-    let Some(tag) = check_tag_at(proof, at) else {
-        return Checked { ledger: ledger.misfit(at), next: at };
-    };
-    match tag {
-        CheckTag::PairTag => pair(buffer, proof, state, certificates, strengths, ends, facts, assumptions, goal_bytes, goal, here),
-        CheckTag::TopStepTag => Checked { ledger: top(goal_bytes, at, goal, ledger), next: past(proof, at) },
-        CheckTag::AtInTag => put_in(buffer, proof, state, certificates, strengths, ends, facts, assumptions, Shell::AtShell, goal_bytes, goal, here),
-        CheckTag::AtOutTag => take_out(buffer, proof, state, certificates, strengths, ends, facts, assumptions, Shell::AtShell, goal_bytes, goal, here),
-        CheckTag::SaysInTag => put_in(buffer, proof, state, certificates, strengths, ends, facts, assumptions, Shell::SaysShell, goal_bytes, goal, here),
-        CheckTag::SaysOutTag => take_out(buffer, proof, state, certificates, strengths, ends, facts, assumptions, Shell::SaysShell, goal_bytes, goal, here),
-        CheckTag::StateTag => Checked { ledger: state_fact(goal_bytes, state, facts, at, goal, ledger), next: past(proof, at) },
-        CheckTag::OrderStepTag => Checked { ledger: order(goal_bytes, at, goal, ledger), next: past(proof, at) },
-        CheckTag::OrLeftTag => put_in(buffer, proof, state, certificates, strengths, ends, facts, assumptions, Shell::LeftShell, goal_bytes, goal, here),
-        CheckTag::OrRightTag => put_in(buffer, proof, state, certificates, strengths, ends, facts, assumptions, Shell::RightShell, goal_bytes, goal, here),
-        CheckTag::OrOutTag => by_cases(buffer, proof, state, certificates, strengths, ends, facts, assumptions, Cases::BothSides, goal_bytes, goal, here),
-        CheckTag::FalsityOutTag => by_cases(buffer, proof, state, certificates, strengths, ends, facts, assumptions, Cases::NoCase, goal_bytes, goal, here),
-        CheckTag::InferredTag(tag) => {
-            let inferred = infer(buffer, proof, state, certificates, strengths, ends, facts, assumptions, Some(tag), here);
-            checked_by(buffer, goal_bytes, at, inferred, goal)
+        let first = Goal {
+            bytes,
+            judgement: part_at(judgement, parts.first),
+        };
+        let begin = past(self.proof, at);
+        let one = self.check(facts, assumptions, &first, here.part(begin, parts.ledger));
+        if !one.ledger.goes_on() {
+            return one;
         }
+        let second = Goal {
+            bytes,
+            judgement: part_at(judgement, parts.second),
+        };
+        self.check(facts, assumptions, &second, here.part(one.next, one.ledger))
     }
-}
 
-// 22: both sides of a conjunction.
-#[rattlefmt::skip]
-#[cycle(by_cases_check_infer_pair_put_in_take_out)]
-fn pair(
-    buffer: &[u8], proof: &[u8], state: &[u8], certificates: &[u64], strengths: Option<&Strengths>, ends: &[u16], facts: &mut FactList, assumptions: &mut [u64],
-    goal_bytes: &[u8], goal: Judgement, here: Here,
-) -> Checked
-    requires { 0 < here.left }
-    ensures walks { ChecksPair (sources buffer proof state certificates strengths ends) facts assumptions goal_bytes goal here result }
-    ensures keeps { KeepsRows here assumptions }
-{
-    let at = here.at;
-    let ledger = here.ledger;
-    let parts = sides_of(goal_bytes, at, FormulaTag::AndTag, goal, ledger);
-    let after_parts = parts.ledger;
-    if !after_parts.goes_on() {
-        return Checked { ledger: after_parts, next: at };
+    // 28, 2A, 2E and 2F: what stands inside of the goal's shell is checked, in the scope inside of it.
+    #[cycle(walk)]
+    fn put_in(
+        &self,
+        facts: &mut FactList,
+        assumptions: &mut [u64],
+        shell: Shell,
+        goal: &Goal<'_>,
+        here: Here,
+    ) -> Checked
+        requires { 0 < here.left }
+        ensures walks { ChecksPut (sources self.now) facts assumptions goal.now here result shell }
+        ensures keeps { KeepsRows here assumptions }
+    {
+        let Here {
+            scope,
+            at,
+            ledger,
+            ..
+        } = here;
+        let inside = inside_of(goal.bytes, at, shell, goal.judgement, ledger);
+        if !inside.ledger.goes_on() {
+            return Checked {
+                ledger: inside.ledger,
+                next: at,
+            };
+        }
+        let held = Goal {
+            bytes: goal.bytes,
+            judgement: inside.row.judgement,
+        };
+        let inner = Here {
+            scope: scope.inside(inside.row),
+            ..here.part(past(self.proof, at), inside.ledger)
+        };
+        self.check(facts, assumptions, &held, inner)
     }
-    let one = part_at(goal, parts.first);
-    let checked = check(buffer, proof, state, certificates, strengths, ends, facts, assumptions, goal_bytes, one, here.part(past(proof, at), after_parts));
-    let after_one = checked.ledger;
-    if !after_one.goes_on() {
-        return checked;
-    }
-    let other = part_at(goal, parts.second);
-    check(buffer, proof, state, certificates, strengths, ends, facts, assumptions, goal_bytes, other, here.part(checked.next, after_one))
-}
 
-// 28, 2A, 2E and 2F: what stands inside of the goal's shell is checked, in the scope inside of it.
-#[rattlefmt::skip]
-#[cycle(by_cases_check_infer_pair_put_in_take_out)]
-fn put_in(
-    buffer: &[u8], proof: &[u8], state: &[u8], certificates: &[u64], strengths: Option<&Strengths>, ends: &[u16], facts: &mut FactList, assumptions: &mut [u64],
-    shell: Shell, goal_bytes: &[u8], goal: Judgement, here: Here,
-) -> Checked
-    requires { 0 < here.left }
-    ensures walks { ChecksPut (sources buffer proof state certificates strengths ends) facts assumptions goal_bytes goal here result shell }
-    ensures keeps { KeepsRows here assumptions }
-{
-    let scope = here.scope;
-    let at = here.at;
-    let ledger = here.ledger;
-    let inside = inside_of(goal_bytes, at, shell, goal, ledger);
-    let after_inside = inside.ledger;
-    let row = inside.row;
-    let judgement = row.judgement;
-    if !after_inside.goes_on() {
-        return Checked { ledger: after_inside, next: at };
+    // 29 and 2B: what stands inside of the shell that was inferred becomes an assumption: a plain one, or a claim of who says it.
+    #[cycle(walk)]
+    fn take_out(
+        &self,
+        facts: &mut FactList,
+        assumptions: &mut [u64],
+        shell: Shell,
+        goal: &Goal<'_>,
+        here: Here,
+    ) -> Checked
+        requires { 0 < here.left }
+        ensures walks { ChecksTaken (sources self.now) facts assumptions goal.now here result shell }
+        ensures keeps { KeepsRows here assumptions }
+    {
+        let Here {
+            scope,
+            at,
+            ledger,
+            ..
+        } = here;
+        let begin = past(self.proof, at);
+        let inferred = self.infer(facts, assumptions, here.part(begin, ledger));
+        let inside = inside_inferred(self.buffer, at, shell, inferred);
+        if !inside.ledger.goes_on() {
+            return Checked {
+                ledger: inside.ledger,
+                next: at,
+            };
+        }
+        let inner = Here {
+            scope: assume(assumptions, scope, inside.row),
+            ..here.part(inferred.next, inside.ledger)
+        };
+        self.check(facts, assumptions, goal, inner)
     }
-    let left = here.left - 1;
-    let inner = Here { scope: scope.inside(row), at: past(proof, at), ledger: after_inside, left: left };
-    check(buffer, proof, state, certificates, strengths, ends, facts, assumptions, goal_bytes, judgement, inner)
-}
 
-// 29 and 2B: what stands inside of the shell that was inferred becomes an assumption: a plain one, or a claim of who says it.
-#[rattlefmt::skip]
-#[cycle(by_cases_check_infer_pair_put_in_take_out)]
-fn take_out(
-    buffer: &[u8], proof: &[u8], state: &[u8], certificates: &[u64], strengths: Option<&Strengths>, ends: &[u16], facts: &mut FactList, assumptions: &mut [u64],
-    shell: Shell, goal_bytes: &[u8], goal: Judgement, here: Here,
-) -> Checked
-    requires { 0 < here.left }
-    ensures walks { ChecksTaken (sources buffer proof state certificates strengths ends) facts assumptions goal_bytes goal here result shell }
-    ensures keeps { KeepsRows here assumptions }
-{
-    let scope = here.scope;
-    let at = here.at;
-    let ledger = here.ledger;
-    let begin = past(proof, at);
-    let inferred = infer(buffer, proof, state, certificates, strengths, ends, facts, assumptions, infer_tag_at(proof, begin), here.part(begin, ledger));
-    let inside = inside_inferred(buffer, at, shell, inferred);
-    let after_inside = inside.ledger;
-    let row = inside.row;
-    if !after_inside.goes_on() {
-        return Checked { ledger: after_inside, next: at };
+    // 30: the goal is shown with each side of the "or" that was inferred as a plain assumption on its interval.
+    #[cycle(walk)]
+    fn by_cases(
+        &self,
+        facts: &mut FactList,
+        assumptions: &mut [u64],
+        goal: &Goal<'_>,
+        here: Here,
+    ) -> Checked
+        requires { 0 < here.left }
+        ensures walks { ChecksTagged (sources self.now) facts assumptions goal.now here result OrOutTag }
+        ensures keeps { KeepsRows here assumptions }
+    {
+        let Here {
+            scope,
+            at,
+            ledger,
+            ..
+        } = here;
+        let begin = past(self.proof, at);
+        let inferred = self.infer(facts, assumptions, here.part(begin, ledger));
+        let sides = sides_inferred(self.buffer, at, FormulaTag::OrTag, inferred);
+        if !sides.ledger.goes_on() {
+            return Checked {
+                ledger: sides.ledger,
+                next: at,
+            };
+        }
+        let either = inferred.judgement;
+        let Judgement { from, to, .. } = either;
+        let on_left = Here {
+            scope: assume(assumptions, scope, side_on(either, sides.first, from, to)),
+            ..here.part(inferred.next, sides.ledger)
+        };
+        let one = self.check(facts, assumptions, goal, on_left);
+        if !one.ledger.goes_on() {
+            return one;
+        }
+        let on_right = Here {
+            scope: assume(assumptions, scope, side_on(either, sides.second, from, to)),
+            ..here.part(one.next, one.ledger)
+        };
+        self.check(facts, assumptions, goal, on_right)
     }
-    let more = assume(assumptions, scope, row);
-    let left = here.left - 1;
-    let inner = Here { scope: more, at: inferred.next, ledger: after_inside, left: left };
-    check(buffer, proof, state, certificates, strengths, ends, facts, assumptions, goal_bytes, goal, inner)
-}
-
-// 30 and 31: the goal is shown in each case that what was inferred leaves: with a side of an "or" as a plain assumption on its interval.
-#[rattlefmt::skip]
-#[cycle(by_cases_check_infer_pair_put_in_take_out)]
-fn by_cases(
-    buffer: &[u8], proof: &[u8], state: &[u8], certificates: &[u64], strengths: Option<&Strengths>, ends: &[u16], facts: &mut FactList, assumptions: &mut [u64],
-    cases: Cases, goal_bytes: &[u8], goal: Judgement, here: Here,
-) -> Checked
-    requires { 0 < here.left }
-    ensures walks { ChecksCases (sources buffer proof state certificates strengths ends) facts assumptions goal_bytes goal here result cases }
-    ensures keeps { KeepsRows here assumptions }
-{
-    let scope = here.scope;
-    let at = here.at;
-    let ledger = here.ledger;
-    let begin = past(proof, at);
-    let inferred = infer(buffer, proof, state, certificates, strengths, ends, facts, assumptions, infer_tag_at(proof, begin), here.part(begin, ledger));
-    match cases {
-        Cases::NoCase => return from_falsity(buffer, at, inferred),
-        Cases::BothSides => {}
-    }
-    let sides = sides_inferred(buffer, at, FormulaTag::OrTag, inferred);
-    let after_sides = sides.ledger;
-    if !after_sides.goes_on() {
-        return Checked { ledger: after_sides, next: at };
-    }
-    let judgement = inferred.judgement;
-    let from = judgement.from;
-    let to = judgement.to;
-    let left = here.left - 1;
-    let with_left = assume(assumptions, scope, side_on(judgement, sides.first, from, to));
-    let on_left = Here { scope: with_left, at: inferred.next, ledger: after_sides, left: left };
-    let one = check(buffer, proof, state, certificates, strengths, ends, facts, assumptions, goal_bytes, goal, on_left);
-    let after_one = one.ledger;
-    if !after_one.goes_on() {
-        return one;
-    }
-    let with_right = assume(assumptions, scope, side_on(judgement, sides.second, from, to));
-    let on_right = Here { scope: with_right, at: one.next, ledger: after_one, left: left };
-    check(buffer, proof, state, certificates, strengths, ends, facts, assumptions, goal_bytes, goal, on_right)
 }

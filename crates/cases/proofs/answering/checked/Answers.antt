@@ -11,13 +11,15 @@ returns-then-input-gt-MOST_INPUT c =
     sym (no_case_checked _ (InputMalformed 0) (too_long_is_no_case _ c.if-input-gt-MOST_INPUT.true))
 
 pub verified-requires : goal.verified-requires
-verified-requires c = rw c.lent.ensures (split_inside _ _ _ c.in-Ok.ensures)
+verified-requires c = rw c.bytes.ensures (split_inside _ _ _ c.in-Ok.ensures)
 
 pub returns-in-Ok : goal.returns-in-Ok
 returns-in-Ok c =
-    let f = c.in-Ok.ensures in
+    let f = rw c.new-reader.ensures at c.in-Ok.ensures in
     let reads = lines_say_case _ c.if-input-gt-MOST_INPUT.false f.found f.line f.next f.reads in
-    rw c.lent.ensures at c.verified.ensures ∙ verified_case _ _ _ f ∙ sym (case_checked _ f.found reads)
+    rw c.bytes.ensures at c.verified.ensures ∙ verified_case _ _ _ f ∙ sym (case_checked _ f.found reads)
 
 pub returns-in-Err : goal.returns-in-Err
-returns-in-Err c = sym (no_case_checked _ _ (broken_is_no_case _ c.if-input-gt-MOST_INPUT.false _ c.in-Err.ensures))
+returns-in-Err c =
+    let breaks = rw c.new-reader.ensures at c.in-Err.ensures in
+    sym (no_case_checked _ _ (broken_is_no_case _ c.if-input-gt-MOST_INPUT.false _ breaks))

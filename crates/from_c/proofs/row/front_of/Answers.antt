@@ -9,4 +9,4 @@ use Rattle.from_c.proofs.row.front_of.Goals as goal
 pub returns : goal.returns
 returns g c =
     let count : c.min-count.result ≡ min (div_ceil (length c.args.bytes.now) g.T.InARow.BYTES) g.row.N = cc in
-    rw c.in_a_row.ensures (first_lent _ _ _ _ _ count)
+    rw (c.of.ensures, c.in_a_row.ensures) (first_lent _ _ _ _ _ count)

@@ -1,5 +1,5 @@
 -- A malformed case refuses, and so does the answer that stopped the walk; else what its ledger keeps is issued.
-use mathlib.Core.Path.{refl, sym, ◌∙◌}
+use mathlib.Core.Path.{refl, sym}
 use Rattle.std.proofs.lemmas.Result.{err_from_is_err_and}
 use Rattle.verifier.proofs.Answers.{verify_refused, verify_stopped, verify_issued}
 use Rattle.verifier.proofs.verify.procap_for.Goals as goal

@@ -8,6 +8,6 @@ pub returns : goal.returns
 returns c =
     let check = c.check-checked in
     let scope = c.outermost in
-    let goal = c.front_on_ctime-goal in
+    let goal = c.front_on_ctime in
     walk_of_request _ _ _ _ _ _ check.result check.new.facts c.begin.result goal.result c.begin.ensures goal.ensures
     refl c.goal_of-bytes.ensures (rw scope.ensures at check.ensures.walks)

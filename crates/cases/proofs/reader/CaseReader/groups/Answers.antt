@@ -5,18 +5,18 @@ use Rattle.procap.specs.Lists.{pad}
 use Rattle.bl.specs.Certificates.{most_certificates}
 use Rattle.text.proofs.Forms.{broken_on}
 use Rattle.cases.proofs.GroupsSoFar.{no_groups_yet, next_breaks, one_group_more, all_groups_read}
-use Rattle.cases.proofs.groups.groups_at.Goals as goal
+use Rattle.cases.proofs.reader.CaseReader.groups.Goals as goal
 
 pub loop-i-init : goal.loop-i-init
 unfolding pad
-loop-i-init c = no_groups_yet _ _ c.requires.empty (ap (replicate most_certificates) c.no_record-records.ensures)
+loop-i-init c = no_groups_yet _ c.requires.none (ap (replicate most_certificates) c.no_record-records.ensures)
 
-pub returns-in_err-record : goal.returns-in_err-record
-returns-in_err-record c =
-    broken_on _ _ _ _ c.from_residual.ensures.1 (next_breaks c.loop-i.invariant c.loop-i-test.true _ c.in_err-record.ensures)
+pub returns-in_err-records : goal.returns-in_err-records
+returns-in_err-records c =
+    broken_on _ _ _ _ c.from_residual.ensures.1 (next_breaks c.loop-i.invariant c.loop-i-test.true _ c.in_err-records.ensures)
 
 pub loop-i-preserved : goal.loop-i-preserved
-loop-i-preserved c = one_group_more c.loop-i.invariant c.loop-i-test.true _ _ _ c.requires.few c.in_ok-record.ensures
+loop-i-preserved c = one_group_more c.loop-i.invariant c.loop-i-test.true c.requires.few c.in_ok-records.ensures
 
 pub returns : goal.returns
 returns c = rw c.of.ensures (all_groups_read c.loop-i.invariant c.loop-i-test.false)

@@ -1,6 +1,6 @@
 -- The records of the groups read so far stand in the array and their formulas one after another, and the rest is still to be read.
 use Rattle.cases.proofs.GroupsSoFar.{GroupsSoFar}
-use Rattle.cases.proofs.groups.groups_at.Given as goal
+use Rattle.cases.proofs.reader.CaseReader.groups.Given as goal
 
 abbrev pub invariant-loop-i : goal.invariant-loop-i
-invariant-loop-i l = GroupsSoFar l.input l.at l.count l.bytes l.records l.next l.i
+invariant-loop-i l = GroupsSoFar l.initial.self l.count l.self l.records l.i
