@@ -1,7 +1,6 @@
 -- What a formula in bytes means: the tree that the bytes read as, with the terms put in.
 use Rattle.std.specs.Prelude.{ℕ, ◌+◌, ◌≤◌, ◌≡◌, List, length, get_or, None, Option, Some}
 use Rattle.procap.specs.Facts.{spelled, fact_of}
-use Rattle.procap.specs.Numbered.{time_of}
 use Rattle.procap.specs.declared.time.Time.{Time}
 use Rattle.procap.specs.declared.fact.Term.{Term}
 use Rattle.procap.specs.declared.fact.Fact.{Fact}
@@ -42,18 +41,11 @@ pub record Means (bytes : List ℕ) (d : ℕ) (f : FormulaAt) (F : Formula) : Ty
   pub reads : formula bytes level sorts f.at ≡ Some (tree, end)
   pub filled : fill d (terms_of f.terms) tree ≡ F
 
--- The two ends of a judgement's interval.
-abbrev pub from_of : Judgement → Time
-from_of j = time_of j.from
-
-abbrev pub to_of : Judgement → Time
-to_of j = time_of j.to
-
 -- A judgement of the formula F on [a,b].
 pub record On (bytes : List ℕ) (j : Judgement) (F : Formula) (a b : Time) : Type 0 where
   pub means : Means bytes 0 j.formula F
-  pub from : from_of j ≡ a
-  pub to : to_of j ≡ b
+  pub from : j.from ≡ a
+  pub to : j.to ≡ b
 
 -- A value that ends at e was found: with the terms put in, under binders of its own, it is the place x.
 abbrev pub PlaceFound : Terms → ℕ → Place → ℕ → Option (code.Place × ℕ) → Type 0

@@ -1,7 +1,6 @@
 -- What the readers of parts and the comparison promise, over the bytes that are lent to them.
 use Rattle.std.specs.Prelude.{ℕ, ◌+◌, ◌<◌, ◌≡◌, List, map, length, Option, Some}
 use Rattle.procap.specs.Lent.{Lent}
-use Rattle.procap.specs.Numbered.{time_numbers}
 use Rattle.procap.specs.Bytes.{byte, many, term_by, predicate_and}
 use Rattle.procap.specs.declared.time.Time.TheVariants.{Ctime}
 use Rattle.procap.specs.declared.fact.Term.{Term}
@@ -27,7 +26,7 @@ use Rattle.formula.specs.Meaning.{Means, PlaceFound, SpellsPlaces, Compares}
 
 -- The formula at the front of its bytes with no terms put in, on [ctime,ctime].
 abbrev pub front_on_ctime : Judgement
-front_on_ctime = record { formula = record { at = 0; terms = no_terms }; from = time_numbers Ctime; to = time_numbers Ctime }
+front_on_ctime = record { formula = record { at = 0; terms = no_terms }; from = Ctime; to = Ctime }
 
 -- The term that a tag announces, and the place after it, are what the reader finds.
 abbrev pub FixedReads : Lent → TermTag → ℕ → Option (code.Place × ℕ) → Type 0

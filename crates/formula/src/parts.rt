@@ -10,7 +10,7 @@ use bl::FormulaTag;
 use procap::bytes::{number_at, past, term_by};
 use procap::fact::{Argument, Fact, MOST_TERMS, Term};
 use procap::tag::TermTag;
-use procap::time::{Time, TimeNumbers};
+use procap::time::Time;
 
 // A formula as it stands in bytes: where it begins, and the terms put in for the binders passed.
 #[derive(Clone, Copy)]
@@ -19,12 +19,12 @@ pub struct FormulaAt {
     pub terms: Terms,
 }
 
-// A formula on an interval, the two times of which are held in numbers.
+// A formula on an interval.
 #[derive(Clone, Copy)]
 pub struct Judgement {
     pub formula: FormulaAt,
-    pub from: TimeNumbers,
-    pub to: TimeNumbers,
+    pub from: Time,
+    pub to: Time,
 }
 
 impl Judgement {
@@ -37,8 +37,8 @@ impl Judgement {
                 at: 0,
                 terms: Terms::none(),
             },
-            from: Time::ctime().numbers(),
-            to: Time::ctime().numbers(),
+            from: Time::ctime(),
+            to: Time::ctime(),
         }
     }
 }

@@ -20,7 +20,7 @@ use Rattle.judging.specs.declared.judge.Inferred.{Inferred}
 use Rattle.judging.specs.declared.judge.Application.{Application}
 use Rattle.judging.specs.declared.judge.Checked.{Checked}
 use Rattle.ledger.specs.Books.{stop_of, Book, book, Sound, Gives, misfitted, kept_of, resume, unless_stopped, GoesOn}
-use Rattle.formula.specs.Meaning.{from_of, to_of, On}
+use Rattle.formula.specs.Meaning.{On}
 use Rattle.judging.specs.Judging.{and_then, part_of, Takes, takes, unfit, Yields, Passes, Used, used, unused}
 use Rattle.ledger.proofs.Giving.{then, idle, misfits, misfits_any, halted, not_going, misfitted_stopped, stop_going}
 use Rattle.judging.proofs.StepWalks.{use_implication}
@@ -115,7 +115,7 @@ passes_taken {state} {list} {w} {q} {l} {e} {r} s t =
 
 -- A test on the interval of a judgement is one on the interval that it is of.
 pub passes_on : (state bytes : List ℕ) (j : Judgement) (A : Formula) (a b : Time) → On bytes j A a b → (w : Time → Time → Test) (k : Book) (e : ℕ) (r : Checked) (list : List Fact)
-    → Passes state k (w (from_of j) (to_of j)) e r list → Passes state k (w a b) e r list
+    → Passes state k (w j.from j.to) e r list → Passes state k (w a b) e r list
 passes_on state bytes j A a b on w k e r list p = rw (← on.from, ← on.to) p
 
 -- A part, and then a test that is passed; where the part has stopped, the end says nothing.

@@ -4,8 +4,6 @@ use Prim.Native.Nat.{ℕ}
 use mathlib.Core.Path.{◌≡◌, refl, sym, ◌∙◌, ap}
 use mathlib.Core.List.{List}
 use mathlib.Core.Logic.{◌⊎◌, inl, inr}
-use Rattle.procap.specs.Numbered.{time_numbers}
-use Rattle.procap.proofs.Numbered.{time_back}
 use Rattle.procap.specs.declared.answer.Answer.{Answer}
 use Rattle.procap.specs.declared.time.Time.{Time}
 use Rattle.procap.specs.declared.time.Time.TheVariants.{Ctime}
@@ -19,7 +17,7 @@ use Rattle.formula.specs.declared.parts.Judgement.{Judgement}
 use Rattle.judging.specs.declared.judge.Inferred.{Inferred}
 use Rattle.judging.specs.declared.judge.Application.{Application}
 use Rattle.ledger.specs.Books.{stop_of, Book, book, Sound, Gives, misfitted, GoesOn}
-use Rattle.formula.specs.Meaning.{begin, from_of, to_of, Means, On}
+use Rattle.formula.specs.Meaning.{begin, Means, On}
 use Rattle.judging.specs.Judging.{and_then, part_of, and_sides, implies_sides, fits_goal, Takes, takes, unfit, Yields, Used, used, unused}
 use Rattle.ledger.proofs.Giving.{then, goes_or_stopped}
 use Rattle.judging.proofs.Coming.{stops, comes_on, comes_halted, comes_taken, comes_inferred, comes_yields}
@@ -91,7 +89,7 @@ module _ {state buffer : List ℕ} {b : Book} {w : Walk walk.Judgement} {e : ℕ
 pub one_side : {state buffer : List ℕ} {b : Book} {w : Walk walk.Judgement} {e : ℕ} {inferred : Inferred} {list : List Fact} (q : ℕ)
     (side : Formula × Formula → Formula) (r : Inferred) → Yields state buffer b w e inferred list
     → ((F : Formula) → GoesOn inferred.ledger → Means buffer 0 inferred.judgement.formula F
-    → Takes (and_sides q F) q inferred.ledger r.ledger (λ x. On buffer r.judgement (side x) (from_of inferred.judgement) (to_of inferred.judgement)))
+    → Takes (and_sides q F) q inferred.ledger r.ledger (λ x. On buffer r.judgement (side x) inferred.judgement.from inferred.judgement.to))
     → ((GoesOn inferred.ledger → ⊥) → r.ledger ≡ inferred.ledger)
     → r.next ≡ inferred.next
     → Yields state buffer b (and_then w (λ j. and_sides q j.0 >>= λ x. done (side x, j.1, j.2))) e r list
@@ -118,7 +116,7 @@ pub put_to_use : {state buffer : List ℕ} {list : List Fact} {l m : Ledger} {F 
     (j : Judgement) (first second : ℕ) (r : Application) → from ≡ a → to ≡ b → start ≡ t1 → end ≡ t2 → Sound (book l list)
     → Takes (implies_sides q F) q l m (λ x. On buffer (part_of j first) x.0 from to × On buffer (part_of j second) x.1 from to)
     → (Sound (book m list) → Gives state (book m list) (walk.need_cover q from to start end) (book r.ledger list) tt)
-    → r.premise ≡ record { formula = begin j.formula first; from = time_numbers start; to = time_numbers end }
+    → r.premise ≡ record { formula = begin j.formula first; from = start; to = end }
     → r.conclusion ≡ second → r.middle ≡ middle → r.next ≡ next
     → Used state buffer q list l F a b t1 t2 middle next r
 unfolding ◌>>=◌
@@ -129,8 +127,8 @@ put_to_use {state} {buffer} {list} {l} {m} {F} {from} {to} {start} {end} {q = q}
         → Used state buffer q list l F from to start end middle next r
     by (takes x d e o) =
         used x.0 x.1 d (rw e at (orders (rw e s)))
-        (rw p (record { means = o.0.means; from = time_back start; to = time_back end }))
-        (rw (p, c) (record { means = o.1.means; from = time_back start; to = time_back end })) i n
+        (rw p (record { means = o.0.means; from = refl; to = refl }))
+        (rw (p, c) (record { means = o.1.means; from = refl; to = refl })) i n
     by (unfit d e) =
         let stopped : Gives state (book l list) (misfit q) (book m list) (tt {0}) = stops s refl e in
         let rest : Unit {0} → Test = λ _. walk.need_cover q from to start end in

@@ -14,7 +14,7 @@ use Rattle.ledger.specs.declared.Ledger.{Ledger}
 use Rattle.formula.specs.declared.parts.FormulaAt.{FormulaAt}
 use Rattle.formula.specs.declared.parts.Judgement.{Judgement}
 use Rattle.ledger.specs.Books.{misfitted}
-use Rattle.formula.specs.Meaning.{from_of, to_of, tag_of, begin, Means, On, FormulaEnds}
+use Rattle.formula.specs.Meaning.{tag_of, begin, Means, On, FormulaEnds}
 use Rattle.judging.specs.Judging.{part_of, sides, TwoSided, Takes, takes, unfit}
 use Rattle.formula.proofs.Shapes.{inside, TwoParts, and_shape, implies_shape, or_shape, not_and, not_implies, not_or}
 use Rattle.judging.proofs.WalkParts.{and_parts, no_and, implies_parts, no_implies, or_parts, no_or}
@@ -30,7 +30,7 @@ EndsAt bytes place end = FormulaEnds bytes most_formula_levels place end
 -- A part that begins at a place, on the same interval.
 pub part_on : {bytes : List ℕ} (j : Judgement) {A : Formula} {part : Judgement} {at place : ℕ}
     → part ≡ part_of j at → at ≡ place
-    → Means bytes 0 (begin j.formula place) A → On bytes part A (from_of j) (to_of j)
+    → Means bytes 0 (begin j.formula place) A → On bytes part A j.from j.to
 part_on j e f m = rw (e, f) (record { means = m; from = refl; to = refl })
 
 module _ {bytes : List ℕ} {f : FormulaAt} {F : Formula} (m : Means bytes 0 f F) (q : ℕ) where
@@ -85,7 +85,7 @@ first_ends {bytes} j m q wanted {at} two tag next ends =
 pub sides_there : {bytes : List ℕ} (j : Judgement) {F : Formula} (m : Means bytes 0 j.formula F) (q : ℕ) (wanted : FormulaTag)
     {l : Ledger} {at end : ℕ} → TwoSided wanted → tag_of bytes j.formula.at ≡ Some wanted
     → After bytes j.formula.at at → EndsAt bytes at (Some end)
-    → Takes (sides wanted q F) q l l (λ x. On bytes (part_of j at) x.0 (from_of j) (to_of j) × On bytes (part_of j end) x.1 (from_of j) (to_of j))
+    → Takes (sides wanted q F) q l l (λ x. On bytes (part_of j at) x.0 j.from j.to × On bytes (part_of j end) x.1 j.from j.to)
 sides_there {bytes} j m q wanted {l} {at} {end} two tag next ends =
     let (A, B, d, parts) = (sided m q wanted two).there tag in
     let first = parts.first.means in

@@ -1,11 +1,9 @@
 -- What a step takes of a formula where places stand: an "at" and an order have two times, "says" has a name, a state fact has terms.
 use Prim.Native.Nat.{ℕ, ◌+◌}
-use mathlib.Core.Path.{◌≡◌, sym, ◌∙◌, ap}
+use mathlib.Core.Path.{◌≡◌, refl, sym, ◌∙◌, ap}
 use mathlib.Core.List.{List}
 use Rattle.std.proofs.lemmas.Option.{none-some, same_Some}
 use Rattle.std.specs.Prelude.{None, Option, Some}
-use Rattle.procap.specs.Numbered.{time_numbers, time_of}
-use Rattle.procap.proofs.Numbered.{time_back}
 use Rattle.procap.specs.Facts.{spelled, fact_of}
 use Rattle.procap.specs.declared.time.Time.{Time}
 use Rattle.procap.specs.declared.fact.Fact.{Fact}
@@ -121,7 +119,7 @@ SpanTold bytes terms at q l r =
     (sorts : List Sort) (x y : tree.Place) (middle end : ℕ) → FewTerms terms
     → argument bytes sorts at ≡ Some (x, middle) → argument bytes sorts middle ≡ Some (y, end)
     → Takes (two_times q (fill_place 0 (terms_of terms) x) (fill_place 0 (terms_of terms) y)) q l r.ledger
-    (λ t. (r.from ≡ time_numbers t.0) × (r.to ≡ time_numbers t.1) × (r.next ≡ end))
+    (λ t. (r.from ≡ t.0) × (r.to ≡ t.1) × (r.next ≡ end))
 
 -- ── Formulas ──
 
@@ -137,7 +135,7 @@ module _ {bytes : List ℕ} {f : FormulaAt} {F : Formula} (m : Means bytes 0 f F
   -- The two times of an "at" or of an order.
   span_there : (q : ℕ) {l : Ledger} {span : Span} {x y : tree.Place} {middle end : ℕ} → Stands bytes 0 f m.sorts (f.at + 1) x middle
       → Stands bytes 0 f m.sorts middle y end → SpanTold bytes f.terms at q l span
-      → Takes (two_times q x y) q l span.ledger (λ t. (span.from ≡ time_numbers t.0) × (span.to ≡ time_numbers t.1) × (span.next ≡ end))
+      → Takes (two_times q x y) q l span.ledger (λ t. (span.from ≡ t.0) × (span.to ≡ t.1) × (span.next ≡ end))
   span_there q {middle = middle} {end} one other told =
       let reads : argument bytes m.sorts at ≡ Some (one.written, middle) = rw (next (inside bytes 0 f m)) one.reads in
       rw (one.filled, other.filled) at (told m.sorts one.written other.written middle end m.few reads other.reads)
@@ -149,25 +147,25 @@ module _ {bytes : List ℕ} {f : FormulaAt} {F : Formula} (m : Means bytes 0 f F
   at_taken q tag told e =
       let s = at_shape bytes 0 f m tag in
       takes_then (at_parts q F) (λ t. (s.body, t.0, t.1)) (at_there q s.is)
-      (λ t so. rw (e, so.0, so.1, so.2) (record { means = s.part.means; from = time_back t.0; to = time_back t.1 }))
+      (λ t so. rw (e, so.0, so.1, so.2) (record { means = s.part.means; from = refl; to = refl }))
       (span_there q s.first s.second told)
 
   -- An order, asked.
   pub order_taken : (q : ℕ) {state : List ℕ} {list : List Fact} {l r : Ledger} {span : Span} → tag_of bytes f.at ≡ Some OrderTag
       → SpanTold bytes f.terms at q l span → Sound (book l list)
-      → (Sound (book span.ledger list) → Gives state (book span.ledger list) (ask_order q (time_of span.from) (time_of span.to)) (book r list) tt)
+      → (Sound (book span.ledger list) → Gives state (book span.ledger list) (ask_order q span.from span.to) (book r list) tt)
       → Gives state (book l list) (order_goal q F) (book r list) tt
   order_taken q {state} {list} {l} {r} {span} tag told sound ask =
       let s = order_shape bytes 0 f m tag in
       let first = span_given (span_there q s.first s.second told) in
       rw (order_there q s.is)
-      (then state (book l list) (book span.ledger list) (book r list) (two_times q s.left s.right) (time_of span.from, time_of span.to)
+      (then state (book l list) (book span.ledger list) (book r list) (two_times q s.left s.right) (span.from, span.to)
       (λ t. ask_order q t.0 t.1) tt first (ask first.sound))
     where
       span_given : {w : Walk (Time × Time)} {end : ℕ}
-          → Takes w q l span.ledger (λ t. (span.from ≡ time_numbers t.0) × (span.to ≡ time_numbers t.1) × (span.next ≡ end))
-          → Gives state (book l list) w (book span.ledger list) (time_of span.from, time_of span.to)
-      span_given (takes t d e so) = rw (e, so.0, so.1, time_back t.0, time_back t.1) (passes sound d)
+          → Takes w q l span.ledger (λ t. (span.from ≡ t.0) × (span.to ≡ t.1) × (span.next ≡ end))
+          → Gives state (book l list) w (book span.ledger list) (span.from, span.to)
+      span_given (takes t d e so) = rw (e, so.0, so.1) (passes sound d)
       span_given (unfit d e) = stops sound d e
 
   -- Who says, and what.

@@ -14,6 +14,8 @@ use lib.ListN.{length, get_or, take, set, length-set}
 use lib.Seq.{sets, length-sets, get_or-set_same, get_or-set_other, get_or-append-add, length-take-le, take-suc, ext_get_or}
 use lib.Dec.{ltb, eqb}
 use Rattle.procap.specs.Tells.{pick}
+use Rattle.procap.specs.Numbered.{time_kind, time_second, time_of}
+use Rattle.procap.proofs.Numbered.{time_back}
 use Rattle.judging.proofs.Stored.{sets_after}
 use Rattle.judging.specs.declared.rows.Row.{Row}
 use Rattle.formula.specs.PutIn.{terms_numbers}
@@ -104,7 +106,7 @@ module _ (xs ys : List ℕ) (s t : ℕ) where
       ap₂ (λ (a b : ℕ). pick (eqb a 0) None (Some b)) (first_alike same) (same 1 (omega arith))
 
   time_alike : Alike 2 xs s ys t → time_in xs s ≡ time_in ys t
-  time_alike same = λ d. record { kind = first_alike same d; second = same 1 (omega arith) d }
+  time_alike same = ap₂ time_of (first_alike same) (same 1 (omega arith))
 
   numbers_alike : (n : ℕ) → Alike n xs s ys t → numbers_in xs s n ≡ numbers_in ys t n
   numbers_alike n same =
@@ -165,8 +167,8 @@ same_row xs ys i n same = rw (n, same)
 -- Its parts put one after another are all of them.
 pub row_put : (before : List ℕ) (start : ℕ) {first second third fourth after : List ℕ} {k₁ v₁ : ℕ} (row : Row)
     → k₁ ≡ whose_kind row.whose → v₁ ≡ whose_value row.whose → first ≡ sets before start (k₁ ∷ v₁ ∷ [])
-    → second ≡ sets first (start + 2) (row.judgement.from.kind ∷ row.judgement.from.second ∷ [])
-    → third ≡ sets second (start + 4) (row.judgement.to.kind ∷ row.judgement.to.second ∷ [])
+    → second ≡ sets first (start + 2) (time_kind row.judgement.from ∷ time_second row.judgement.from ∷ [])
+    → third ≡ sets second (start + 4) (time_kind row.judgement.to ∷ time_second row.judgement.to ∷ [])
     → fourth ≡ sets third (start + 6) (row.judgement.formula.at ∷ row.judgement.formula.terms.count ∷ [])
     → after ≡ sets fourth (start + 8) row.judgement.formula.terms.numbers
     → after ≡ sets before start (numbers_of row)
@@ -186,8 +188,8 @@ row_back row e = λ d. record {
       at = row.judgement.formula.at;
       terms = record { count = row.judgement.formula.terms.count; numbers = sym numbers_back d };
     };
-    from = row.judgement.from;
-    to = row.judgement.to;
+    from = time_back row.judgement.from d;
+    to = time_back row.judgement.to d;
   };
 }
   where

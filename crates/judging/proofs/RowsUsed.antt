@@ -19,7 +19,6 @@ use Rattle.ledger.specs.declared.Ledger.{Ledger}
 use Rattle.judging.specs.declared.rows.Row.{Row}
 use Rattle.judging.specs.declared.judge.Inferred.{Inferred}
 use Rattle.ledger.specs.Books.{Book, book, Sound, Gives, misfitted}
-use Rattle.formula.specs.Meaning.{from_of, to_of}
 use Rattle.judging.specs.RowsOf.{row_in, RowIs, is_plain, is_claim, is_shut, Assumed, Certified, most_rows}
 use Rattle.judging.specs.Judging.{use_local, use_certificate, Yields}
 use Rattle.judging.proofs.Coming.{Comes, comes_with, comes_yields}
@@ -92,7 +91,7 @@ module _ {state buffer : List ℕ} {list : List Fact} {l : Ledger} {row : Row} {
   plain_row (is_shut e i) p h f j m = absurd (omega arith)
 
   pub claim_row : {x : Assumption} {k : ℕ} → RowIs buffer row index below x → row.whose ≡ Some k
-      → Gives state (book l list) (need_view ps q v k (from_of row.judgement) (to_of row.judgement)) (book r.ledger list) tt → r.judgement ≡ row.judgement → r.next ≡ next
+      → Gives state (book l list) (need_view ps q v k row.judgement.from row.judgement.to) (book r.ledger list) tt → r.judgement ≡ row.judgement → r.next ≡ next
       → Yields state buffer (book l list) (assumed ps q v x) next r list
   unfolding assumed
   claim_row (is_plain e n o) p g j m = let z : ◌≡◌ {A = ℕ} 0 1 = cc in absurd (omega arith)

@@ -1,9 +1,7 @@
 -- What one step makes of a goal or of what was inferred: the parts of the walk that look at no other step.
 use Rattle.std.specs.Prelude.{ℕ, ◌+◌, ◌≡◌, List, ltb, None, Option, Some}
 use Rattle.procap.specs.Tells.{pick}
-use Rattle.procap.specs.Numbered.{time_of}
 use Rattle.procap.specs.declared.time.Time.{Time}
-use Rattle.procap.specs.declared.time.TimeNumbers.{TimeNumbers}
 use Rattle.procap.specs.declared.fact.Term.{Term}
 use Rattle.bl.specs.declared.FormulaTag.{FormulaTag}
 use Rattle.bl.specs.declared.FormulaTag.TheVariants.{TopTag, AndTag, ImpliesTag, AllNamesTag, AllTimesTag, SaysTag, AtTag, AtomTag, FactTag, OrderTag, OrTag, FalsityTag}
@@ -42,7 +40,7 @@ and_then w g = w >>= g
 -- In whose view a step stands, and on which interval: nobody's, or that of a principal.
 unfoldable pub view_in : Option View → rules.View
 view_in None = no_view
-view_in (Some v) = view_of v.principal (time_of v.from) (time_of v.to)
+view_in (Some v) = view_of v.principal v.from v.to
 
 -- [Rules, judgements] The scope at the start of a walk: nothing is assumed, and the view is nobody's.
 abbrev pub outermost : Scope
@@ -85,7 +83,7 @@ abbrev pub part_of : Judgement → ℕ → Judgement
 part_of j at = record { formula = begin j.formula at; from = j.from; to = j.to }
 
 -- The side of a formula that begins at a place, as a plain assumption on an interval.
-abbrev pub plain_side : Judgement → ℕ → TimeNumbers → TimeNumbers → Row
+abbrev pub plain_side : Judgement → ℕ → Time → Time → Row
 plain_side j at from to = record { whose = None; judgement = record { formula = begin j.formula at; from = from; to = to } }
 
 -- Nothing is inferred: beside the ledger stand the front of the bytes on [ctime,ctime] and the place 0, which say nothing.

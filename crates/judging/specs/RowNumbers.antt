@@ -2,6 +2,7 @@
 use Rattle.std.specs.Prelude.{ℕ, ◌*◌, List, ◌∷◌, length, ltb, eqb, None, Option, Some}
 use Rattle.std.proofs.lemmas.List.Edits.{sets}
 use Rattle.procap.specs.Tells.{pick}
+use Rattle.procap.specs.Numbered.{time_kind, time_second}
 use Rattle.judging.specs.declared.rows.Row.{Row}
 use Rattle.judging.specs.RowsOf.{most_rows, row_numbers, all_numbers}
 
@@ -20,10 +21,10 @@ abbrev pub numbers_of : Row → List ℕ
 numbers_of row =
     whose_kind row.whose
     ∷ whose_value row.whose
-    ∷ row.judgement.from.kind
-    ∷ row.judgement.from.second
-    ∷ row.judgement.to.kind
-    ∷ row.judgement.to.second
+    ∷ time_kind row.judgement.from
+    ∷ time_second row.judgement.from
+    ∷ time_kind row.judgement.to
+    ∷ time_second row.judgement.to
     ∷ row.judgement.formula.at
     ∷ row.judgement.formula.terms.count
     ∷ row.judgement.formula.terms.numbers

@@ -3,7 +3,7 @@ use Rattle.std.specs.Prelude.{ℕ, zero, suc, ◌+◌, ◌*◌, ◌≤◌, ◌<�
 use Rattle.procap.specs.Lists.{nth}
 use Rattle.procap.specs.Tells.{pick}
 use Rattle.procap.specs.declared.time.Time.{Time}
-use Rattle.procap.specs.declared.time.TimeNumbers.{TimeNumbers}
+use Rattle.procap.specs.Numbered.{time_of}
 use Rattle.bl.specs.Trees.{Formula}
 use Rattle.bl.specs.Rules.{Assumption, plain, claim, shut}
 use Rattle.bl.specs.Certificates.{Statement, most_certificates}
@@ -29,9 +29,9 @@ unfoldable pub numbers_in : List ℕ → ℕ → ℕ → List ℕ
 numbers_in rows at zero = []
 numbers_in rows at (suc n) = get_or rows at 0 ∷ numbers_in rows (at + 1) n
 
--- Two numbers of the rows, as those of a time.
-abbrev pub time_in : List ℕ → ℕ → TimeNumbers
-time_in rows at = record { kind = get_or rows at 0; second = get_or rows (at + 1) 0 }
+-- The time that two numbers of the rows stand for.
+abbrev pub time_in : List ℕ → ℕ → Time
+time_in rows at = time_of (get_or rows at 0) (get_or rows (at + 1) 0)
 
 -- Whose a row is.
 unfoldable pub whose_in : List ℕ → ℕ → Option ℕ

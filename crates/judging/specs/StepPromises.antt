@@ -1,7 +1,6 @@
 -- What the function of each single step promises, where the formulas that it is handed mean something.
 use Rattle.std.specs.Prelude.{ℕ, ◌+◌, ◌≤◌, ◌<◌, ◌≡◌, List, length, Option, Some, None}
 use Rattle.procap.specs.Bytes.{byte}
-use Rattle.procap.specs.Numbered.{time_numbers}
 use Rattle.procap.specs.declared.time.Time.{Time}
 use Rattle.procap.specs.declared.fact.Fact.{Fact}
 use Rattle.bl.specs.declared.FormulaTag.{FormulaTag}
@@ -20,7 +19,7 @@ use Rattle.ledger.specs.Books.{GoesOn, Book, book, Sound, Gives, Leads}
 use Rattle.formula.specs.declared.parts.Judgement.{Judgement}
 use Rattle.formula.specs.declared.terms.Terms.{Terms}
 use Rattle.formula.specs.PutIn.{terms_of, FewTerms, fill_place}
-use Rattle.formula.specs.Meaning.{Means, On, from_of, to_of}
+use Rattle.formula.specs.Meaning.{Means, On}
 use Rattle.judging.specs.declared.judge.View.{View}
 use Rattle.judging.specs.declared.judge.Scope.{Scope}
 use Rattle.judging.specs.declared.judge.Inferred.{Inferred}
@@ -36,7 +35,7 @@ use Rattle.judging.specs.Pieces.{two_times}
 
 -- What a principal claims or certifies is usable in the view, by the pairs that gave the strengths.
 abbrev pub NeedsView : StrengthsLent → Ledger → ℕ → Option View → ℕ → Judgement → Ledger → Type 0
-NeedsView strengths l q v k j r = (ps : List Pair) → LentStrengthsOf strengths ps → Leads l (walk.need_view ps q (view_in v) k (from_of j) (to_of j)) r
+NeedsView strengths l q v k j r = (ps : List Pair) → LentStrengthsOf strengths ps → Leads l (walk.need_view ps q (view_in v) k j.from j.to) r
 
 -- A row that is an assumption is used as it stands.
 abbrev pub UsesRow : List ℕ → StrengthsLent → ℕ → Scope → ℕ → Ledger → ℕ → Inferred → Type 0
@@ -63,7 +62,7 @@ UsesCertificate proof rows strengths scope q l r =
 abbrev pub TakesSides : List ℕ → ℕ → FormulaTag → Judgement → Ledger → Sides → Type 0
 TakesSides bytes q wanted j l r =
     (F : Formula) → TwoSided wanted → Means bytes 0 j.formula F
-    → Takes (sides wanted q F) q l r.ledger (λ x. On bytes (part_of j r.first) x.0 (from_of j) (to_of j) × On bytes (part_of j r.second) x.1 (from_of j) (to_of j))
+    → Takes (sides wanted q F) q l r.ledger (λ x. On bytes (part_of j r.first) x.0 j.from j.to × On bytes (part_of j r.second) x.1 j.from j.to)
 
 -- The same of what was inferred, where the walk goes on.
 abbrev pub TakesSidesInferred : List ℕ → ℕ → FormulaTag → Inferred → Sides → Type 0
@@ -78,7 +77,7 @@ abbrev pub TakesTimes : List ℕ → ℕ → Terms → ℕ → Ledger → Span �
 TakesTimes bytes at terms q l r =
     (sorts : List Sort) (x y : Place) (middle end : ℕ) → FewTerms terms → argument bytes sorts at ≡ Some (x, middle) → argument bytes sorts middle ≡ Some (y, end)
     → Takes (two_times q (fill_place 0 (terms_of terms) x) (fill_place 0 (terms_of terms) y)) q l r.ledger
-    (λ t. (r.from ≡ time_numbers t.0) × (r.to ≡ time_numbers t.1) × (r.next ≡ end))
+    (λ t. (r.from ≡ t.0) × (r.to ≡ t.1) × (r.next ≡ end))
 
 -- 28, 29: an "at" is taken apart.
 abbrev pub TakesAt : List ℕ → ℕ → Judgement → Ledger → Inside → Type 0
@@ -90,12 +89,12 @@ TakesAt bytes q j l r =
 abbrev pub TakesSays : List ℕ → ℕ → Judgement → Ledger → Inside → Type 0
 TakesSays bytes q j l r =
     (F : Formula) → Means bytes 0 j.formula F
-    → Takes (says_parts q F) q l r.ledger (λ x. (r.row.whose ≡ Some x.0) × On bytes r.row.judgement x.1 (from_of j) (to_of j))
+    → Takes (says_parts q F) q l r.ledger (λ x. (r.row.whose ≡ Some x.0) × On bytes r.row.judgement x.1 j.from j.to)
 
 -- 28, 29, 2A, 2B, 2E, 2F: what stands inside of a shell is taken out, as a row that is that assumption.
 abbrev pub TakesInside : List ℕ → ℕ → Shell → Judgement → Ledger → Inside → Type 0
 TakesInside bytes q shell j l r =
-    (F : Formula) → Means bytes 0 j.formula F → Takes (inside shell q (F, from_of j, to_of j)) q l r.ledger (RowIs bytes r.row 0 0)
+    (F : Formula) → Means bytes 0 j.formula F → Takes (inside shell q (F, j.from, j.to)) q l r.ledger (RowIs bytes r.row 0 0)
 
 -- 29, 2B: the same of what was inferred, where the walk goes on.
 abbrev pub TakesInsideInferred : List ℕ → ℕ → Shell → Inferred → Inside → Type 0
@@ -131,14 +130,14 @@ abbrev pub FitsGoal : List ℕ → List ℕ → ℕ → Inferred → Judgement �
 FitsGoal buffer bytes q inferred goal r =
     (state : List ℕ) (list : List Fact) (F : Formula) (a b : Time) (G : Formula)
     → Sound (book inferred.ledger list) → On buffer inferred.judgement F a b → Means bytes 0 goal.formula G
-    → Gives state (book inferred.ledger list) (fits_goal q F a b G (from_of goal) (to_of goal)) (book r list) tt
+    → Gives state (book inferred.ledger list) (fits_goal q F a b G goal.from goal.to) (book r list) tt
 
 -- The same with the walk that inferred it: where that has stopped, so has the whole.
 abbrev pub ChecksInferred : List ℕ → List ℕ → ℕ → Inferred → Judgement → Checked → Type 0
 ChecksInferred buffer bytes q inferred goal r =
     (state : List ℕ) (b : Book) (w : Walk walk.Judgement) (e : ℕ) (list : List Fact) (G : Formula)
     → Yields state buffer b w e inferred list → Means bytes 0 goal.formula G
-    → Passes state b (and_then w (λ j. fits_goal q j.0 j.1 j.2 G (from_of goal) (to_of goal))) e r list
+    → Passes state b (and_then w (λ j. fits_goal q j.0 j.1 j.2 G goal.from goal.to)) e r list
 
 -- 31: the walk that inferred it, and then that it is falsity.
 abbrev pub ChecksFalsity : List ℕ → ℕ → Inferred → Checked → Type 0

@@ -7,10 +7,10 @@ use crate::judge::{Checked, Inferred, Inside, Sides};
 use crate::rows::Row;
 use bl::FormulaTag;
 use formula::parts::{FormulaAt, Judgement, is_a};
-use procap::time::TimeNumbers;
+use procap::time::Time;
 
 // The side of a formula that begins at a place, as a plain assumption on an interval.
-pub fn side_on(judgement: Judgement, at: usize, from: TimeNumbers, to: TimeNumbers) -> Row
+pub fn side_on(judgement: Judgement, at: usize, from: Time, to: Time) -> Row
     ensures { result ≡ plain_side judgement at from to }
 {
     Row {

@@ -3,7 +3,6 @@ ghost use Rattle.std.specs.Prelude.{◌≡◌};
 ghost use Rattle.procap.specs.Writable.{TermInForm};
 ghost use Rattle.bl.specs.Walk as walk;
 ghost use Rattle.ledger.specs.Books.{misfitted, Leads};
-ghost use Rattle.formula.specs.Meaning.{from_of, to_of};
 ghost use Rattle.judging.specs.Judging.{outermost, scope_inside, scope_with, part_of, nothing_inferred, top_goal, order_goal, side_of, put_in};
 ghost use Rattle.judging.specs.StepPromises.{NeedsView, UsesRow, UsesLocal, UsesCertificate, TakesSides, TakesSidesInferred, StaysStopped, TakesTimes, TakesAt, TakesSays, TakesInside, TakesInsideInferred, Continues, PutsToUse, MeetsGoal, MeetsFact, FitsGoal, ChecksInferred};
 ghost use Rattle.judging.specs.Pieces.{binder_of};
@@ -19,7 +18,7 @@ use ledger::facts::FactList;
 use ledger::{Ledger, ask_fact, ask_order};
 use procap::bytes::past;
 use procap::fact::Term;
-use procap::time::{Time, TimeNumbers};
+use procap::time::Time;
 use steps::reader::index_at;
 use steps::time_at;
 use strength::table::{Strengths, as_strong};
@@ -28,8 +27,8 @@ use strength::table::{Strengths, as_strong};
 #[derive(Clone, Copy)]
 pub struct View {
     pub principal: u64,
-    pub from: TimeNumbers,
-    pub to: TimeNumbers,
+    pub from: Time,
+    pub to: Time,
 }
 
 // Where a step stands: how many assumptions are around it, below which of them the plain ones are shut out, and in whose view, if
@@ -91,8 +90,8 @@ pub struct Inside {
 #[derive(Clone, Copy)]
 struct Span {
     pub ledger: Ledger,
-    pub from: TimeNumbers,
-    pub to: TimeNumbers,
+    pub from: Time,
+    pub to: Time,
     pub next: usize,
 }
 
@@ -180,10 +179,10 @@ pub fn assume(assumptions: &mut [u64], scope: Scope, row: Row) -> Scope
 
 // The interval of a judgement must cover another: it begins no later, and then it ends no earlier.
 fn covers(ledger: Ledger, offset: usize, judgement: Judgement, from: Time, to: Time) -> Ledger
-    ensures { Leads ledger (walk.need_cover offset (from_of judgement) (to_of judgement) from to) result }
+    ensures { Leads ledger (walk.need_cover offset judgement.from judgement.to from to) result }
 {
-    let asked = ask_order(ledger, offset, judgement.from.time(), from);
-    ask_order(asked, offset, to, judgement.to.time())
+    let asked = ask_order(ledger, offset, judgement.from, from);
+    ask_order(asked, offset, to, judgement.to)
 }
 
 // What a principal claims or certifies must be usable in the view: the principal must be at least as strong as the view's, and
@@ -205,7 +204,7 @@ fn in_view(
     if !as_strong(strengths, principal, view.principal) {
         return unfit;
     }
-    covers(ledger, offset, judgement, view.from.time(), view.to.time())
+    covers(ledger, offset, judgement, view.from, view.to)
 }
 
 // A row, used as it stands: a plain assumption unless it is shut out, a claim in a view that it covers, of somebody whom its
@@ -412,8 +411,8 @@ fn applied(
     Application {
         ledger: covers(parts.ledger, offset, judgement, begin, end),
         premise: Judgement {
-            from: begin.numbers(),
-            to: end.numbers(),
+            from: begin,
+            to: end,
             ..part_at(judgement, parts.first)
         },
         conclusion: parts.second,
@@ -562,8 +561,8 @@ fn span_at(bytes: &[u8], at: usize, terms: Terms, offset: usize, ledger: Ledger)
     };
     Span {
         ledger,
-        from: from.numbers(),
-        to: to.numbers(),
+        from,
+        to,
         next,
     }
 }
@@ -574,8 +573,8 @@ fn no_span(ledger: Ledger, offset: usize) -> Span
 {
     Span {
         ledger: ledger.misfit(offset),
-        from: Time::ctime().numbers(),
-        to: Time::ctime().numbers(),
+        from: Time::ctime(),
+        to: Time::ctime(),
         next: 0,
     }
 }
@@ -665,7 +664,7 @@ pub fn order(bytes: &[u8], offset: usize, goal: Judgement, ledger: Ledger) -> Le
         offset,
         ledger,
     );
-    ask_order(span.ledger, offset, span.from.time(), span.to.time())
+    ask_order(span.ledger, offset, span.from, span.to)
 }
 
 // An inferring step where one is checked: the same formula, on an interval around the goal's.
@@ -692,8 +691,8 @@ fn within(buffer: &[u8], bytes: &[u8], offset: usize, inferred: Inferred, goal: 
         compared.ledger,
         offset,
         inferred.judgement,
-        goal.from.time(),
-        goal.to.time(),
+        goal.from,
+        goal.to,
     )
 }
 

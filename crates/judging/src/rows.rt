@@ -8,7 +8,7 @@ ghost use Rattle.judging.specs.RowNumbers.{whose_kind, whose_value, rows_with};
 use formula::parts::{FormulaAt, Judgement};
 use formula::terms::{TERMS_NUMBERS, Terms};
 use ledger::number_in;
-use procap::time::TimeNumbers;
+use procap::time::Time;
 
 // How many rows there are at the most.
 pub const MOST_ROWS: usize = 32;
@@ -24,15 +24,12 @@ pub struct Row {
     pub judgement: Judgement,
 }
 
-// Two numbers of the rows, as those of a time.
-fn time_in(rows: &[u64], at: usize) -> TimeNumbers
+// The time that two numbers of the rows stand for.
+fn time_in(rows: &[u64], at: usize) -> Time
     requires { at < 1000 }
     ensures { result ≡ time_in rows.now at }
 {
-    TimeNumbers {
-        kind: number_in(rows, at),
-        second: number_in(rows, at + 1),
-    }
+    Time::of_numbers(number_in(rows, at), number_in(rows, at + 1))
 }
 
 // As many numbers of the rows as terms take.
@@ -134,8 +131,8 @@ pub fn put_row(rows: &mut [u64], index: usize, row: Row)
         u64::from(row.whose.is_some()),
         row.whose.unwrap_or(0),
     );
-    put_two(rows, start + 2, from.kind, from.second);
-    put_two(rows, start + 4, to.kind, to.second);
+    put_two(rows, start + 2, from.kind(), from.second());
+    put_two(rows, start + 4, to.kind(), to.second());
     put_two(rows, start + 6, at as u64, terms.count as u64);
     put_numbers(rows, start + 8, &terms.numbers);
 }

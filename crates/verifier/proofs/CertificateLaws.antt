@@ -11,7 +11,6 @@ use borrow.Author.Tests.{leb-true, le-leb, lt-leb, not-true, not-false}
 use borrow.Author.Count.{below_more}
 use lib.ListN.{length, get_or, take, drop}
 use lib.Dec.{leb}
-use Rattle.procap.proofs.Numbered.{time_back}
 use Rattle.procap.specs.Lists.{nth}
 use Rattle.procap.specs.Tells.{Tells}
 use Rattle.procap.specs.Outcome.{Outcome, go_on}
@@ -213,8 +212,8 @@ row_certifies buffer c s e =
           reads = formula_in_shifted buffer c.start c.length h.inside A h.reads;
           filled = fill_nothing 0 A;
         };
-        from = time_back c.from;
-        to = time_back c.to;
+        from = refl;
+        to = refl;
       };
     })
 

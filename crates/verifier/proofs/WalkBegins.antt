@@ -8,7 +8,6 @@ use borrow.Author.Tests.{le-leb}
 use lib.ListN.{length}
 use Rattle.procap.specs.Times.{latest}
 use Rattle.procap.specs.States.{stated}
-use Rattle.procap.specs.Numbered.{time_numbers, time_of}
 use Rattle.procap.specs.declared.time.Time.TheVariants.{Ctime}
 use Rattle.procap.specs.declared.procap.Request.{Request}
 use Rattle.procap.specs.declared.fact.Fact.{Fact}
@@ -58,14 +57,14 @@ module _ {A : Type 0} (state : List ℕ) (w : Walk A) where
 
 -- What the walk of a request begins with.
 abbrev goal_on_ctime : Judgement
-goal_on_ctime = record { formula = record { at = 0; terms = no_terms }; from = time_numbers Ctime; to = time_numbers Ctime }
+goal_on_ctime = record { formula = record { at = 0; terms = no_terms }; from = Ctime; to = Ctime }
 
 walk_of_goal : (r : Request) (S : Sources) (assumptions goal_bytes : List ℕ) (reading : Reading) (list : List Fact) (c : Checked) (list' : List Fact)
     → length assumptions ≡ all_numbers
     → Means goal_bytes 0 (record { at = 0; terms = no_terms }) (goal r)
     → ChecksAt S assumptions outermost (begun reading) list most_proof_levels goal_bytes goal_on_ctime 0 c list'
     → Walked (record { request = r; reading = reading }) (PolicyLent S.buffer S.certificates S.strengths) S.proof S.state S.ends list c.ledger list'
-unfolding Assumed walk view_in time_of
+unfolding Assumed walk view_in
 walk_of_goal r S assumptions goal_bytes reading list c list' all_there means checks π N none reads =
     let around : Around S assumptions outermost most_proof_levels π [] = record { policy = reads.policy; assumed = tt; shut_inside = omega arith; room = omega arith; all_there = all_there } in
     let passes = (rw none at checks) π [] N (length S.proof) (begun_sound reading) around (proof_step (length π.statements) S.proof N reads.proof_reads) reads.told (goal r) means in

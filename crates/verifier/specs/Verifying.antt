@@ -1,7 +1,6 @@
 -- What the parts of verify and of the direct check promise.
 use Rattle.std.specs.Prelude.{ℕ, ◌≡◌, List, [], length, Err, Ok, Some}
 use Rattle.procap.specs.Lent.{Lent, LentToWrite}
-use Rattle.procap.specs.Numbered.{time_numbers}
 use Rattle.procap.specs.Outcome.{Outcome, answer_of, procap_handed}
 use Rattle.procap.specs.declared.time.Time.TheVariants.{Moment}
 use Rattle.procap.specs.declared.fact.Fact.{Fact}
@@ -36,7 +35,7 @@ no_record = record { principal = 0; from = Moment 0; to = Moment 0; start = 0; l
 abbrev pub row_of : Certificate → Row
 row_of c = record {
   whose = Some c.principal;
-  judgement = record { formula = record { at = c.start; terms = no_terms }; from = time_numbers c.from; to = time_numbers c.to };
+  judgement = record { formula = record { at = c.start; terms = no_terms }; from = c.from; to = c.to };
 }
 
 -- A record is well formed.

@@ -86,8 +86,8 @@ fn row_of(certificate: Certificate) -> Row
                 at: certificate.start,
                 terms: Terms::none(),
             },
-            from: certificate.from.numbers(),
-            to: certificate.to.numbers(),
+            from: certificate.from,
+            to: certificate.to,
         },
     }
 }

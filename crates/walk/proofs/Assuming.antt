@@ -15,7 +15,7 @@ use Rattle.steps.specs.Ends.{ToldChecking}
 use Rattle.ledger.specs.declared.Ledger.{Ledger}
 use Rattle.ledger.specs.Books.{book, Sound}
 use Rattle.formula.specs.declared.parts.Judgement.{Judgement}
-use Rattle.formula.specs.Meaning.{from_of, to_of, Means}
+use Rattle.formula.specs.Meaning.{Means}
 use Rattle.judging.specs.declared.rows.Row.{Row}
 use Rattle.judging.specs.declared.judge.Scope.{Scope}
 use Rattle.judging.specs.declared.judge.Checked.{Checked}
@@ -33,7 +33,7 @@ module _ (S : Sources) (rows : List ℕ) (scope : Scope) (left : ℕ) (goal_byte
   pub part_assuming : (π : Policy) (Γ : List Assumption) (N : Check) (e : ℕ) → Sound (book ledger list) → Around S rows scope (suc left) π Γ
       → check_step S.proof (length π.statements) left (suc scope.count) at ≡ Some (N, e) → ToldChecking S.ends N
       → (x : Assumption) → RowIs S.buffer row 0 0 x → (G : Formula) → Means goal_bytes 0 goal.formula G
-      → Passes S.state (book ledger list) (check π (x ∷ Γ) (view_in scope.view) N G (from_of goal) (to_of goal)) e r list'
+      → Passes S.state (book ledger list) (check π (x ∷ Γ) (view_in scope.view) N G goal.from goal.to) e r list'
   part_assuming π Γ N e sound around reads told x is G means =
       let room = around.room in
       let around' = around_kept S rows between scope (suc left) π Γ kept around in

@@ -30,7 +30,7 @@ use Rattle.judging.specs.declared.judge.Shell.TheVariants.{AtShell, SaysShell, L
 use Rattle.judging.specs.declared.judge.Sides.{Sides}
 use Rattle.judging.specs.declared.judge.Inside.{Inside}
 use Rattle.ledger.specs.Books.{GoesOn, book, Sound, Gives}
-use Rattle.formula.specs.Meaning.{from_of, to_of, Means, On}
+use Rattle.formula.specs.Meaning.{Means, On}
 use Rattle.judging.specs.RowsOf.{RowIs, is_plain, is_claim, is_shut}
 use Rattle.judging.specs.RowNumbers.{rows_with}
 use Rattle.judging.specs.Judging.{view_in, view_on, scope_inside, scope_with, part_of, and_then, sides, TwoSided, and_sides, inside, top_goal, fact_goal, order_goal, Passes}
@@ -182,7 +182,7 @@ module _ (S : Sources) (rows : List ℕ) (scope : Scope) (ledger : Ledger) (list
         let found = inferred_read S.proof (length π.statements) left scope.count at tag N e inside is reads in
         let there = begins_there S.proof (length π.statements) (suc left) scope.count at found.part e found.reads in
         let part = infer_tagged S rows scope ledger list (suc left) left at tag refl is infers in
-        rw (found.is, inferred_walk π Γ view at G (from_of goal) (to_of goal) found.part there)
+        rw (found.is, inferred_walk π Γ view at G goal.from goal.to found.part there)
         (h S.state (book ledger list) _ e list' G (part π Γ found.part e sound around found.reads (told_is S.ends found.is told)) means)
 
     -- What a step without parts makes of its goal.
@@ -194,42 +194,42 @@ module _ (S : Sources) (rows : List ℕ) (scope : Scope) (ledger : Ledger) (list
       pub check_trivial : Goes l list' top_goal → By TopStepTag (record { ledger = l; next = next }) list'
       check_trivial h π Γ N e sound around reads told G means =
           let found = trivial_read S.proof (length π.statements) left scope.count at N e reads in
-          rw (found.0, trivial_walk π Γ view at G (from_of goal) (to_of goal)) (record { gives = h G sound means; ends = λ _. ends (tag_inside S.proof at tag t) ∙ found.1 })
+          rw (found.0, trivial_walk π Γ view at G goal.from goal.to) (record { gives = h G sound means; ends = λ _. ends (tag_inside S.proof at tag t) ∙ found.1 })
 
       pub check_state : Goes l list' fact_goal → By StateTag (record { ledger = l; next = next }) list'
       check_state h π Γ N e sound around reads told G means =
           let found = state_read S.proof (length π.statements) left scope.count at N e reads in
-          rw (found.0, state_walk π Γ view at G (from_of goal) (to_of goal)) (record { gives = h G sound means; ends = λ _. ends (tag_inside S.proof at tag t) ∙ found.1 })
+          rw (found.0, state_walk π Γ view at G goal.from goal.to) (record { gives = h G sound means; ends = λ _. ends (tag_inside S.proof at tag t) ∙ found.1 })
 
       pub check_order : Goes l list' order_goal → By OrderStepTag (record { ledger = l; next = next }) list'
       check_order h π Γ N e sound around reads told G means =
           let found = compare_read S.proof (length π.statements) left scope.count at N e reads in
-          rw (found.0, compare_walk π Γ view at G (from_of goal) (to_of goal)) (record { gives = h G sound means; ends = λ _. ends (tag_inside S.proof at tag t) ∙ found.1 })
+          rw (found.0, compare_walk π Γ view at G goal.from goal.to) (record { gives = h G sound means; ends = λ _. ends (tag_inside S.proof at tag t) ∙ found.1 })
 
     -- 22: the sides of the goal, and then one after the other.
     module _ {parts : Sides} (splits : TakesSides goal_bytes at AndTag goal ledger parts) where
       sides_come : Sound (book ledger list) → (G : Formula) → Means goal_bytes 0 goal.formula G
           → Comes S.state (book ledger list) (and_sides at G) (book parts.ledger list)
-          (λ x. On goal_bytes (part_of goal parts.first) x.0 (from_of goal) (to_of goal) × On goal_bytes (part_of goal parts.second) x.1 (from_of goal) (to_of goal))
+          (λ x. On goal_bytes (part_of goal parts.first) x.0 goal.from goal.to × On goal_bytes (part_of goal parts.second) x.1 goal.from goal.to)
       unfolding sides TwoSided
       sides_come sound G means = comes_taken S.state list (and_sides at G) at ledger parts.ledger _ (G, G) sound (splits G tt means)
 
       pub check_pair_unfit : (GoesOn parts.ledger → ⊥) → {next : ℕ} → By PairTag (record { ledger = parts.ledger; next = next }) list
       check_pair_unfit n {next} π Γ N e sound around reads told G means =
           let found = pair_read S.proof (length π.statements) left scope.count at N e reads in
-          rw (found.is, pair_walk π Γ view at G (from_of goal) (to_of goal) found.one found.other)
+          rw (found.is, pair_walk π Γ view at G goal.from goal.to found.one found.other)
           (passes_halted S.state (book ledger list) (and_sides at G) parts.ledger list (sides_come sound G means) _ e n next)
 
       module _ (going : GoesOn parts.ledger) {begin : ℕ} (begins : at < length S.proof → begin ≡ at + 1) {one : Checked} {list₁ : List Fact}
           (checks : ChecksAt S rows scope parts.ledger list left goal_bytes (part_of goal parts.first) begin one list₁) where
         one_comes : (π : Policy) (Γ : List Assumption) (N : Check) (e : ℕ) → Sound (book parts.ledger list) → Around S rows scope (suc left) π Γ
             → check_step S.proof (length π.statements) left scope.count (at + 1) ≡ Some (N, e) → ToldChecking S.ends N
-            → (A : Formula) → On goal_bytes (part_of goal parts.first) A (from_of goal) (to_of goal)
-            → Comes S.state (book parts.ledger list) (check π Γ view N A (from_of goal) (to_of goal)) (book one.ledger list₁) (λ _. one.next ≡ e)
+            → (A : Formula) → On goal_bytes (part_of goal parts.first) A goal.from goal.to
+            → Comes S.state (book parts.ledger list) (check π Γ view N A goal.from goal.to) (book one.ledger list₁) (λ _. one.next ≡ e)
         one_comes π Γ N e sound around reads told A on =
             let inside = check_begins S.proof (length π.statements) left scope.count (at + 1) N e reads in
             comes_checked S.state (book parts.ledger list) _ e one list₁
-            (passes_on S.state goal_bytes (part_of goal parts.first) A (from_of goal) (to_of goal) on (check π Γ view N A) (book parts.ledger list) e one list₁
+            (passes_on S.state goal_bytes (part_of goal parts.first) A goal.from goal.to on (check π Γ view N A) (book parts.ledger list) e one list₁
             (checks π Γ N e sound (around_part S rows scope left π Γ around) (rw (begins (omega arith)) reads) told A on.means))
 
         pub check_pair_stopped : (GoesOn one.ledger → ⊥) → By PairTag one list₁
@@ -237,7 +237,7 @@ module _ (S : Sources) (rows : List ℕ) (scope : Scope) (ledger : Ledger) (list
         check_pair_stopped n π Γ N e sound around reads told G means =
             let found = pair_read S.proof (length π.statements) left scope.count at N e reads in
             let both = told_is S.ends found.is told in
-            rw (found.is, pair_walk π Γ view at G (from_of goal) (to_of goal) found.one found.other)
+            rw (found.is, pair_walk π Γ view at G goal.from goal.to found.one found.other)
             (passes_then S.state (book ledger list) (and_sides at G) parts.ledger list (sides_come sound G means) _ e going one list₁
             (λ sound x on. passes_halted S.state (book parts.ledger list) _ one.ledger list₁
             (one_comes π Γ found.one found.middle sound around found.one_reads both.0 x.0 on.0) _ e n one.next))
@@ -249,24 +249,24 @@ module _ (S : Sources) (rows : List ℕ) (scope : Scope) (ledger : Ledger) (list
         check_pair goes {other} {list₂} checks-other π Γ N e sound around reads told G means =
             let found = pair_read S.proof (length π.statements) left scope.count at N e reads in
             let both = told_is S.ends found.is told in
-            rw (found.is, pair_walk π Γ view at G (from_of goal) (to_of goal) found.one found.other)
+            rw (found.is, pair_walk π Γ view at G goal.from goal.to found.one found.other)
             (passes_then S.state (book ledger list) (and_sides at G) parts.ledger list (sides_come sound G means) _ e going other list₂
             (λ sound x on. passes_then S.state (book parts.ledger list) _ one.ledger list₁
             (one_comes π Γ found.one found.middle sound around found.one_reads both.0 x.0 on.0) _ e goes other list₂
-            (λ sound y ends. passes_on S.state goal_bytes (part_of goal parts.second) x.1 (from_of goal) (to_of goal) on.1 (check π Γ view found.other x.1) (book one.ledger list₁) e other list₂
+            (λ sound y ends. passes_on S.state goal_bytes (part_of goal parts.second) x.1 goal.from goal.to on.1 (check π Γ view found.other x.1) (book one.ledger list₁) e other list₂
             (checks-other π Γ found.other e sound (around_part S rows scope left π Γ around) (rw ends found.other_reads) both.1 x.1 on.1.means))))
 
     module _ (shell : Shell) where
       -- 28 and 2A: what stands inside of the goal is checked in the scope inside.
       module _ {held : Inside} (has : TakesInside goal_bytes at shell goal ledger held) where
         held_comes : Sound (book ledger list) → (G : Formula) → Means goal_bytes 0 goal.formula G
-            → Comes S.state (book ledger list) (inside shell at (G, from_of goal, to_of goal)) (book held.ledger list) (RowIs goal_bytes held.row 0 0)
+            → Comes S.state (book ledger list) (inside shell at (G, goal.from, goal.to)) (book held.ledger list) (RowIs goal_bytes held.row 0 0)
         held_comes sound G means = comes_taken S.state list _ at ledger held.ledger _ shut sound (has G means)
 
         pub check_put_unfit : (GoesOn held.ledger → ⊥) → {next : ℕ} → (tag : CheckTag) → Puts tag shell → By tag (record { ledger = held.ledger; next = next }) list
         check_put_unfit n {next} tag is π Γ N e sound around reads told G means =
             let found = put_read S.proof S.ends (length π.statements) left scope.count at tag shell N e is reads told in
-            rw (found.walks π Γ view (G, from_of goal, to_of goal))
+            rw (found.walks π Γ view (G, goal.from, goal.to))
             (passes_halted S.state (book ledger list) _ held.ledger list (held_comes sound G means) _ e n next)
 
         -- The part, for what it is that stands inside.
@@ -291,7 +291,7 @@ module _ (S : Sources) (rows : List ℕ) (scope : Scope) (ledger : Ledger) (list
         check_put going begins {r} {list'} checks tag is π Γ N e sound around reads told G means =
             let found = put_read S.proof S.ends (length π.statements) left scope.count at tag shell N e is reads told in
             let inside = check_begins S.proof (length π.statements) left scope.count (at + 1) found.part e found.reads in
-            rw (found.walks π Γ view (G, from_of goal, to_of goal))
+            rw (found.walks π Γ view (G, goal.from, goal.to))
             (passes_then S.state (book ledger list) _ held.ledger list (held_comes sound G means) _ e going r list'
             (λ sound x row. part_passes π Γ found.part e sound around _ (rw (begins (omega arith)) found.reads) found.told checks x row))
 
@@ -315,7 +315,7 @@ module _ (S : Sources) (rows : List ℕ) (scope : Scope) (ledger : Ledger) (list
         pub check_take_stopped : (GoesOn held.ledger → ⊥) → {next : ℕ} → (tag : CheckTag) → TakesOut tag shell → By tag (record { ledger = held.ledger; next = next }) list₁
         check_take_stopped n {next} tag is π Γ N e sound around reads told G means =
             let found = take_read S.proof S.ends (length π.statements) left scope.count at tag shell N e is reads told in
-            rw (found.walks π Γ view (G, from_of goal, to_of goal))
+            rw (found.walks π Γ view (G, goal.from, goal.to))
             (passes_halted S.state (book ledger list) _ held.ledger list₁ (taken_comes π Γ N e sound around found) _ e n next)
 
         -- The row is the assumption more.
@@ -326,7 +326,7 @@ module _ (S : Sources) (rows : List ℕ) (scope : Scope) (ledger : Ledger) (list
             → (tag : CheckTag) → TakesOut tag shell → By tag r list₂
         check_take going {between} {more} kept put all {r} {list₂} checks tag is π Γ N e sound around reads told G means =
             let found = take_read S.proof S.ends (length π.statements) left scope.count at tag shell N e is reads told in
-            rw (found.walks π Γ view (G, from_of goal, to_of goal))
+            rw (found.walks π Γ view (G, goal.from, goal.to))
             (passes_then S.state (book ledger list) _ held.ledger list₁ (taken_comes π Γ N e sound around found) _ e going r list₂
             (λ sound x so. part_assuming S rows scope left goal_bytes goal held.row kept put all held.ledger list₁ inferred.next checks
             π Γ found.other e sound around (rw so.1 found.other_reads) found.other_told x so.0 G means))

@@ -1,9 +1,10 @@
 -- 30 and 31, over bytes: what the code comes to in each branch is what the walk of the step that the reader finds there comes to.
 use Prim.Native.Nat.{ℕ, suc, ◌+◌, ◌<◌}
-use mathlib.Core.Path.{◌≡◌, refl, ap}
+use mathlib.Core.Path.{◌≡◌, refl, ap, ◌∙◌}
 use mathlib.Core.List.{List, ◌∷◌}
 use native.Mathlib.Omega.{arith}
 use lib.ListN.{length}
+use Rattle.procap.specs.declared.time.Time.{Time}
 use Rattle.bl.specs.declared.CheckTag.{CheckTag}
 use Rattle.bl.specs.declared.CheckTag.TheVariants.{OrOutTag, FalsityOutTag}
 use Rattle.bl.specs.declared.FormulaTag.TheVariants.{OrTag}
@@ -15,7 +16,7 @@ use Rattle.steps.specs.Ends.{ToldChecking}
 use Rattle.ledger.specs.declared.Ledger.{Ledger}
 use Rattle.ledger.specs.Books.{GoesOn, book, Sound}
 use Rattle.formula.specs.declared.parts.Judgement.{Judgement}
-use Rattle.formula.specs.Meaning.{from_of, to_of, Means}
+use Rattle.formula.specs.Meaning.{Means, On}
 use Rattle.judging.specs.declared.rows.Row.{Row}
 use Rattle.judging.specs.declared.judge.Scope.{Scope}
 use Rattle.judging.specs.declared.judge.Inferred.{Inferred}
@@ -35,6 +36,10 @@ use Rattle.walk.proofs.Assuming.{part_assuming}
 use Rattle.walk.proofs.Checking.{told_is}
 use Rattle.procap.specs.declared.fact.Fact.{Fact}
 
+-- What is on an interval is on the same interval under other names.
+same_interval : {bytes : List ℕ} {j : Judgement} {A : Formula} {a b c d : Time} → a ≡ c → b ≡ d → On bytes j A a b → On bytes j A c d
+same_interval e f on = record { means = on.means; from = on.from ∙ e; to = on.to ∙ f }
+
 module _ (S : Sources) (rows : List ℕ) (scope : Scope) (ledger : Ledger) (list : List Fact) (goal_bytes : List ℕ) (goal : Judgement) (left at : ℕ) where
   -- The view of the steps here.
   abbrev view : View
@@ -52,7 +57,7 @@ module _ (S : Sources) (rows : List ℕ) (scope : Scope) (ledger : Ledger) (list
     unfolding ToldChecking
     check_falsity h π Γ N e sound around reads told G means =
         let found = falsity_out_read S.proof (length π.statements) left scope.count at N e reads in
-        rw (found.is, falsity_out_walk π Γ view at G (from_of goal) (to_of goal) found.part)
+        rw (found.is, falsity_out_walk π Γ view at G goal.from goal.to found.part)
         (h S.state (book ledger list) _ e list₁
         (first_part S rows scope ledger list left at begins infers π Γ found.part e sound around found.reads (told_is S.ends found.is told)))
 
@@ -74,15 +79,15 @@ module _ (S : Sources) (rows : List ℕ) (scope : Scope) (ledger : Ledger) (list
           comes_or_stays S.state (book ledger list) (book inferred.ledger list₁) _ _ part (book parts.ledger list₁) (shut, shut)
           (λ going j so. comes_taken S.state list₁ (branches at j) at inferred.ledger parts.ledger _ (shut, shut) part.gives.sound
           (takes_then (branches at j) (λ x. (plain x.0 j.1 j.2, plain x.1 j.1 j.2)) refl
-          (λ x on. (is_plain refl (λ h. omega arith) on.0, is_plain refl (λ h. omega arith) on.1, so.1))
-          (rw (so.0.from, so.0.to) at (has going j.0 tt so.0.means))))
+          (λ x on. (is_plain refl (λ h. omega arith) (same_interval so.0.from so.0.to on.0), is_plain refl (λ h. omega arith) (same_interval so.0.from so.0.to on.1), so.1))
+          (has going j.0 tt so.0.means)))
           (λ n. ap (λ l. book l list₁) (stays n))
 
       -- Where it is no "or", or the walk has stopped before.
       pub check_cases_unfit : (GoesOn parts.ledger → ⊥) → {next : ℕ} → By OrOutTag (record { ledger = parts.ledger; next = next }) list₁
       check_cases_unfit n {next} π Γ N e sound around reads told G means =
           let found = or_out_read S.proof (length π.statements) left scope.count at N e reads in
-          rw (found.is, or_out_walk π Γ view at G (from_of goal) (to_of goal) found.part found.one found.other)
+          rw (found.is, or_out_walk π Γ view at G goal.from goal.to found.part found.one found.other)
           (passes_halted S.state (book ledger list) _ parts.ledger list₁ (branches_come π Γ N e sound around found told) _ e n next)
 
       -- The first branch, with the left side assumed.
@@ -92,7 +97,7 @@ module _ (S : Sources) (rows : List ℕ) (scope : Scope) (ledger : Ledger) (list
         one_comes : (π : Policy) (Γ : List Assumption) (N : Check) (e : ℕ) → Sound (book parts.ledger list₁) → Around S rows scope (suc left) π Γ
             → (found : OrOutRead S.proof (length π.statements) left scope.count at N e) → ToldChecking S.ends N → inferred.next ≡ found.middle
             → (x : Assumption) → RowIs S.buffer (side_row parts.first) 0 0 x → (G : Formula) → Means goal_bytes 0 goal.formula G
-            → Comes S.state (book parts.ledger list₁) (check π (x ∷ Γ) view found.one G (from_of goal) (to_of goal)) (book one.ledger list₂) (λ _. one.next ≡ found.later)
+            → Comes S.state (book parts.ledger list₁) (check π (x ∷ Γ) view found.one G goal.from goal.to) (book one.ledger list₂) (λ _. one.next ≡ found.later)
         unfolding ToldChecking
         one_comes π Γ N e sound around found told begins x is G means =
             comes_checked S.state (book parts.ledger list₁) _ found.later one list₂
@@ -102,7 +107,7 @@ module _ (S : Sources) (rows : List ℕ) (scope : Scope) (ledger : Ledger) (list
         pub check_cases_stopped : (GoesOn one.ledger → ⊥) → By OrOutTag one list₂
         check_cases_stopped n π Γ N e sound around reads told G means =
             let found = or_out_read S.proof (length π.statements) left scope.count at N e reads in
-            rw (found.is, or_out_walk π Γ view at G (from_of goal) (to_of goal) found.part found.one found.other)
+            rw (found.is, or_out_walk π Γ view at G goal.from goal.to found.part found.one found.other)
             (passes_then S.state (book ledger list) _ parts.ledger list₁ (branches_come π Γ N e sound around found told) _ e going one list₂
             (λ sound x so. passes_halted S.state (book parts.ledger list₁) _ one.ledger list₂
             (one_comes π Γ N e sound around found told so.2 x.0 so.0 G means) _ e n one.next))
@@ -115,7 +120,7 @@ module _ (S : Sources) (rows : List ℕ) (scope : Scope) (ledger : Ledger) (list
         unfolding ToldChecking
         check_cases goes kept₂ put₂ all₂ {other} {list₃} checks₂ π Γ N e sound around reads told G means =
             let found = or_out_read S.proof (length π.statements) left scope.count at N e reads in
-            rw (found.is, or_out_walk π Γ view at G (from_of goal) (to_of goal) found.part found.one found.other)
+            rw (found.is, or_out_walk π Γ view at G goal.from goal.to found.part found.one found.other)
             (passes_then S.state (book ledger list) _ parts.ledger list₁ (branches_come π Γ N e sound around found told) _ e going other list₃
             (λ sound x so. passes_then S.state (book parts.ledger list₁) _ one.ledger list₂
             (one_comes π Γ N e sound around found told so.2 x.0 so.0 G means) _ e goes other list₃

@@ -15,7 +15,7 @@ use Rattle.judging.specs.declared.judge.Scope.{Scope}
 use Rattle.judging.specs.declared.judge.Inferred.{Inferred}
 use Rattle.judging.specs.declared.judge.Checked.{Checked}
 use Rattle.ledger.specs.Books.{book, Sound}
-use Rattle.formula.specs.Meaning.{Means, from_of, to_of}
+use Rattle.formula.specs.Meaning.{Means}
 use Rattle.judging.specs.RowsOf.{Assumed, Certified, row_in, all_numbers}
 use Rattle.judging.specs.Judging.{view_in, Yields, Passes}
 use Rattle.procap.specs.declared.fact.Fact.{Fact}
@@ -60,7 +60,7 @@ module _ (S : Sources) (rows : List ℕ) (scope : Scope) (ledger : Ledger) (list
     abbrev pub ChecksStep : List ℕ → Judgement → Check → ℕ → Checked → List Fact → Type 0
     ChecksStep goal_bytes goal N e r list' =
         (G : Formula) → Means goal_bytes 0 goal.formula G
-        → Passes S.state (book ledger list) (check π Γ (view_in scope.view) N G (from_of goal) (to_of goal)) e r list'
+        → Passes S.state (book ledger list) (check π Γ (view_in scope.view) N G goal.from goal.to) e r list'
 
   -- A step that infers, at a place.
   abbrev pub InfersAt : ℕ → Inferred → List Fact → Type 0

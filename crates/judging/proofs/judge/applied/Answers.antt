@@ -14,7 +14,7 @@ returns c =
     put_to_use c.args.inferred.judgement c.sides_of-parts.result.first c.sides_of-parts.result.second _ on.from on.to begins.0 ends.0 s
     (c.sides_of-parts.ensures F tt on.means)
     (λ sound. c.covers.ensures state list sound)
-    (rw (c.numbers.ensures, c.numbers-2.ensures, c.part_at.ensures) refl)
+    (rw c.part_at.ensures refl)
     refl
     refl
     ends.1

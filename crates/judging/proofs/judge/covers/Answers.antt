@@ -6,5 +6,5 @@ use Rattle.judging.proofs.judge.covers.Goals as goal
 pub returns : goal.returns
 returns c =
     λ state list s.
-    let one = rw c.time.ensures at (order_leads _ _ _ _ c.ask_order-asked.ensures state list s) in
-    both_orders one (rw c.time-2.ensures at (order_leads _ _ _ _ c.ask_order.ensures state list one.sound))
+    let one = order_leads _ _ _ _ c.ask_order-asked.ensures state list s in
+    both_orders one (order_leads _ _ _ _ c.ask_order.ensures state list one.sound)

@@ -24,4 +24,4 @@ unfolding view_in
 returns c =
     λ ps strong state list s.
     let enough = holds_else c.as_strong.result c.if-not-as_strong.false-raw (c.as_strong.ensures ps strong) in
-    rw (c.in-Some.is, own_view _ ps _ _ _ _ _ _ enough) (rw (c.time-2.ensures, c.time.ensures) at (c.covers.ensures state list s))
+    rw (c.in-Some.is, own_view _ ps _ _ _ _ _ _ enough) (c.covers.ensures state list s)

@@ -18,4 +18,4 @@ returns c =
     order_taken m c.past.ensures.there _ (holds_else c.is_a.result c.if-not-is_a.false-raw c.is_a.ensures)
     c.span_at-span.ensures
     s
-    (rw (c.time.ensures, c.time-2.ensures) at (order_leads _ _ _ _ c.ask_order.ensures state list))
+    (order_leads _ _ _ _ c.ask_order.ensures state list)

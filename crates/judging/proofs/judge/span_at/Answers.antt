@@ -45,4 +45,4 @@ returns c =
     let p = both_placed _ _ c.in-Some.ensures c.in-Some-place_at.ensures sorts x y middle end few one other in
     let first = is_fixed p.first c.in-Fixed.is ∙ ap fixed c.in-When.is in
     let second = is_fixed p.second c.in-Fixed-other_place.is ∙ ap fixed c.in-When-other_term.is in
-    takes (_, _) (times_there _ first second) refl (c.numbers.ensures, c.numbers-2.ensures, p.ends)
+    takes (_, _) (times_there _ first second) refl (refl, refl, p.ends)

@@ -6,4 +6,4 @@ pub returns : goal.returns
 returns c =
     λ state list F a b G s on m.
     let compared = (c.same-compared.ensures F G on.means m on.means.low state list s).0 in
-    fits _ F G _ _ on.from on.to compared (rw (c.time.ensures, c.time-2.ensures) at (c.covers.ensures state list compared.sound))
+    fits _ F G _ _ on.from on.to compared (c.covers.ensures state list compared.sound)

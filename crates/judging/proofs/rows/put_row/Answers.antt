@@ -19,5 +19,8 @@ returns c =
     let row = c.args.row in
     row_put rows (index * row_numbers) row
     (grind arith) (grind arith) c.put_two.ensures
-    c.put_two-2.ensures c.put_two-3.ensures c.put_two-4.ensures c.put_numbers.ensures
+    (rw (c.kind.ensures, c.second.ensures) at c.put_two-2.ensures)
+    (rw (c.kind-2.ensures, c.second-2.ensures) at c.put_two-3.ensures)
+    c.put_two-4.ensures
+    c.put_numbers.ensures
     ∙ sym (put_there rows index row (omega arith) (omega arith))
