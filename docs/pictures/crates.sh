@@ -26,6 +26,7 @@ office  code     strength    who is as strong|as whom
 office  paper    bl          the logic on paper,|no code
 below   code     rising      numbers in|rising order
 below   code     procap      the data that|both halves share
+below   code     front       items at the front|of an array
 below   paper    by_hand     laws for proofs by hand,|used by no crate
 END
 }
