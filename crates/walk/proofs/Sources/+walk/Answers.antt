@@ -129,8 +129,7 @@ check_by-returns-in-OrOutTag-clause-walks t c =
 
 pub check_by-returns-in-FalsityOutTag-clause-walks : goal.check_by-returns-in-FalsityOutTag-clause-walks
 check_by-returns-in-FalsityOutTag-clause-walks t c =
-    let infers = rw c.part.ensures at c.infer-part.ensures.walks in
-    rw c.in-FalsityOutTag.is (check_falsity _ _ _ _ _ _ _ _ _ c.past-next.ensures.there infers c.from_falsity.ensures)
+    rw c.in-FalsityOutTag.is (c.by_falsity.ensures.walks c.args.goal.now)
 
 pub check_by-returns-in-InferredTag-clause-walks : goal.check_by-returns-in-InferredTag-clause-walks
 check_by-returns-in-InferredTag-clause-walks t c =
@@ -225,3 +224,8 @@ by_cases-returns t c =
           kept2 put2 all2 (rw (c.assume-2.ensures.scope, c.part-3.ensures) at c.check.ensures.walks);
       keeps = keeps_then kept2 (keeps_assumed c.args.here.scope _ _ put2 all2 (rw c.assume-2.ensures.scope at c.check.ensures.keeps));
     }
+
+pub by_falsity-returns-clause-walks : goal.by_falsity-returns-clause-walks
+by_falsity-returns-clause-walks t c = λ goal.
+    let infers = rw c.part.ensures at c.infer-inferred.ensures.walks in
+    check_falsity _ _ _ _ _ _ _ _ _ c.past-begin.ensures.there infers c.from_falsity.ensures
