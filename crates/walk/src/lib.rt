@@ -77,6 +77,8 @@ impl Here {
 
 impl Sources<'_, '_, '_> {
     // What the step at a place infers, of at most so many levels.
+    // It reads a tag and calls on: put in its callers' place, it takes no frame of its own at each level.
+    #[inline(always)]
     #[cycle(walk)]
     fn infer(&self, facts: &mut [u64], assumptions: &mut [u64], here: Here) -> Inferred
         ensures walks { Infers (sources self.now) facts assumptions here result }

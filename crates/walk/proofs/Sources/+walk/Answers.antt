@@ -7,7 +7,8 @@ use native.Mathlib.Omega.{arith}
 use Rattle.walk.specs.WalkCalls.{puts_at, puts_says, puts_left, puts_right, takes_at, takes_says}
 use Rattle.walk.proofs.Surroundings.{keeps_then, keeps_assumed, checks_kept}
 use Rattle.walk.proofs.Inferring.{infer_none, infer_tagged, infer_local, infer_certificate, infer_no_tag, infer_no_term, infer_first, infer_second, infer_instance, infer_apply_stopped, infer_apply}
-use Rattle.walk.proofs.Checking.{check_none, check_tagged, check_inferred, check_no_tag, check_trivial, check_state, check_order, check_pair_unfit, check_pair_stopped, check_pair, check_put_unfit, check_put, check_take_stopped, check_take}
+use Rattle.walk.proofs.Checking.{check_none, check_tagged, check_inferred, check_no_tag, check_trivial, check_state, check_order}
+use Rattle.walk.proofs.Checking.{check_pair_unfit, check_pair_stopped, check_pair, check_put_unfit, check_put, check_take_stopped, check_take}
 use Rattle.walk.proofs.CheckingCases.{check_falsity, check_cases_unfit, check_cases_stopped, check_cases}
 use Rattle.walk.proofs.Sources.+walk.Goals as goal
 
