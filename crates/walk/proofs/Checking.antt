@@ -37,7 +37,8 @@ use Rattle.judging.specs.Judging.{view_in, view_on, scope_inside, scope_with, pa
 use Rattle.judging.specs.StepPromises.{TakesSides, TakesInside, TakesInsideInferred, StaysStopped, ChecksInferred}
 use Rattle.walk.specs.Walking.{Sources, Around, Keeps, InfersAt, InfersBy, ChecksAt, ChecksBy}
 use Rattle.walk.specs.WalkCalls.{Puts, puts_at, puts_says, puts_left, puts_right, TakesOut, takes_at, takes_says}
-use Rattle.steps.proofs.StepsRead.{PartRead, check_read, pair_read, trivial_read, state_read, compare_read, at_in_read, says_in_read, at_out_read, says_out_read, or_left_read, or_right_read, inferred_tag, inferred_read, begins_there}
+use Rattle.steps.proofs.StepsRead.{PartRead, check_read, pair_read, trivial_read, state_read, compare_read, at_in_read}
+use Rattle.steps.proofs.StepsRead.{says_in_read, at_out_read, says_out_read, or_left_read, or_right_read, inferred_tag, inferred_read, begins_there}
 use Rattle.judging.proofs.StepWalks.{check_inside, pair_walk, trivial_walk, state_walk, compare_walk, at_in_walk, says_in_walk, at_out_walk, says_out_walk, or_left_walk, or_right_walk, inferred_walk}
 use Rattle.judging.proofs.Coming.{Comes, comes_taken, comes_inferred, comes_checked, comes_or_stays, passes_on, passes_halted, passes_then}
 use Rattle.judging.proofs.JudgingLaws.{takes_so}

@@ -3,7 +3,7 @@ use Rattle.std.specs.Prelude.{ℕ, ◌-◌, ◌≡◌, List, get_or, Some}
 use Rattle.procap.specs.Lent.{LentToWrite}
 use Rattle.bl.specs.declared.InferTag.{InferTag}
 use Rattle.bl.specs.declared.CheckTag.{CheckTag}
-use Rattle.bl.specs.declared.CheckTag.TheVariants.{AtInTag, AtOutTag, SaysInTag, SaysOutTag, OrLeftTag, OrRightTag}
+use Rattle.bl.specs.declared.CheckTag.TheVariants.{AtInTag, AtOutTag, SaysInTag, SaysOutTag, OrLeftTag, OrRightTag, FalsityOutTag}
 use Rattle.bl.specs.Tags.{check_tag}
 use Rattle.judging.specs.declared.judge.Inferred.{Inferred}
 use Rattle.judging.specs.declared.judge.Checked.{Checked}
@@ -67,6 +67,10 @@ module _ (S : Sources) (facts : ListLent) (assumptions : LentToWrite) where
 
     abbrev pub ChecksTaken : Shell → Type 0
     ChecksTaken shell = (tag : CheckTag) → TakesOut tag shell → ChecksTagged tag
+
+-- The step that shows any goal from falsity.
+abbrev pub ShowsAll : Sources → LentToWrite → LentToWrite → Here → Checked → Type 0
+ShowsAll S facts assumptions here r = (goal : Goal) → ChecksTagged S facts assumptions goal here r FalsityOutTag
 
 -- The rows of the assumptions that stand around are kept.
 abbrev pub KeepsRows : Here → LentToWrite → Type 0

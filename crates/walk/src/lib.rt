@@ -4,7 +4,7 @@
 
 ghost use Rattle.std.specs.Prelude.{◌≡◌, ◌-◌, ◌<◌};
 ghost use Rattle.ledger.specs.Books.{misfitted};
-ghost use Rattle.walk.specs.WalkCalls.{sources, Infers, InfersTagged, Checks, ChecksTagged, ChecksPut, ChecksTaken, TagStands, KeepsRows};
+ghost use Rattle.walk.specs.WalkCalls.{sources, Infers, InfersTagged, Checks, ChecksTagged, ChecksPut, ChecksTaken, ShowsAll, TagStands, KeepsRows};
 ghost use Rattle.bl.specs.declared.CheckTag.TheVariants.{PairTag, OrOutTag};
 ghost use Rattle.bl.specs.declared.InferTag.TheVariants.{ApplyTag};
 
@@ -78,6 +78,8 @@ impl Here {
 
 impl Sources<'_, '_, '_> {
     // What the step at a place infers, of at most so many levels.
+    // It reads a tag and calls on: put in its callers' place, it takes no frame of its own at each level.
+    #[inline(always)]
     #[cycle(walk)]
     fn infer(&self, facts: &mut FactList, assumptions: &mut [u64], here: Here) -> Inferred
         ensures walks { Infers (sources self.now) facts assumptions here result }
@@ -231,10 +233,7 @@ impl Sources<'_, '_, '_> {
             CheckTag::OrLeftTag => self.put_in(facts, assumptions, Shell::LeftShell, goal, here),
             CheckTag::OrRightTag => self.put_in(facts, assumptions, Shell::RightShell, goal, here),
             CheckTag::OrOutTag => self.by_cases(facts, assumptions, goal, here),
-            CheckTag::FalsityOutTag => {
-                let part = self.infer(facts, assumptions, here.part(next, ledger));
-                from_falsity(self.buffer, at, part)
-            }
+            CheckTag::FalsityOutTag => self.by_falsity(facts, assumptions, here),
             CheckTag::InferredTag(tag) => {
                 let inferred = self.infer_by(facts, assumptions, tag, here);
                 checked_by(self.buffer, goal.bytes, at, inferred, goal.judgement)
@@ -397,5 +396,20 @@ impl Sources<'_, '_, '_> {
             ..here.part(one.next, one.ledger)
         };
         self.check(facts, assumptions, goal, on_right)
+    }
+
+    // 31: any goal is shown where what was inferred is falsity.
+    // A level has room for all that is put in its place: this stays a call.
+    #[inline(never)]
+    #[cycle(walk)]
+    fn by_falsity(&self, facts: &mut [u64], assumptions: &mut [u64], here: Here) -> Checked
+        requires { 0 < here.left }
+        ensures walks { ShowsAll (sources self.now) facts assumptions here result }
+        ensures keeps { KeepsRows here assumptions }
+    {
+        let Here { at, ledger, .. } = here;
+        let begin = past(self.proof, at);
+        let inferred = self.infer(facts, assumptions, here.part(begin, ledger));
+        from_falsity(self.buffer, at, inferred)
     }
 }

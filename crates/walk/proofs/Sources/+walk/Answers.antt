@@ -7,7 +7,8 @@ use native.Mathlib.Omega.{arith}
 use Rattle.walk.specs.WalkCalls.{puts_at, puts_says, puts_left, puts_right, takes_at, takes_says}
 use Rattle.walk.proofs.Surroundings.{keeps_then, keeps_assumed, checks_kept}
 use Rattle.walk.proofs.Inferring.{infer_none, infer_tagged, infer_local, infer_certificate, infer_no_tag, infer_no_term, infer_first, infer_second, infer_instance, infer_apply_stopped, infer_apply}
-use Rattle.walk.proofs.Checking.{check_none, check_tagged, check_inferred, check_no_tag, check_trivial, check_state, check_order, check_pair_unfit, check_pair_stopped, check_pair, check_put_unfit, check_put, check_take_stopped, check_take}
+use Rattle.walk.proofs.Checking.{check_none, check_tagged, check_inferred, check_no_tag, check_trivial, check_state, check_order}
+use Rattle.walk.proofs.Checking.{check_pair_unfit, check_pair_stopped, check_pair, check_put_unfit, check_put, check_take_stopped, check_take}
 use Rattle.walk.proofs.CheckingCases.{check_falsity, check_cases_unfit, check_cases_stopped, check_cases}
 use Rattle.walk.proofs.Sources.+walk.Goals as goal
 
@@ -129,8 +130,7 @@ check_by-returns-in-OrOutTag-clause-walks t c =
 
 pub check_by-returns-in-FalsityOutTag-clause-walks : goal.check_by-returns-in-FalsityOutTag-clause-walks
 check_by-returns-in-FalsityOutTag-clause-walks t c =
-    let infers = rw c.part.ensures at c.infer-part.ensures.walks in
-    rw c.in-FalsityOutTag.is (check_falsity _ _ _ _ _ _ _ _ _ c.past-next.ensures.there infers c.from_falsity.ensures)
+    rw c.in-FalsityOutTag.is (c.by_falsity.ensures.walks c.args.goal.now)
 
 pub check_by-returns-in-InferredTag-clause-walks : goal.check_by-returns-in-InferredTag-clause-walks
 check_by-returns-in-InferredTag-clause-walks t c =
@@ -225,3 +225,8 @@ by_cases-returns t c =
           kept2 put2 all2 (rw (c.assume-2.ensures.scope, c.part-3.ensures) at c.check.ensures.walks);
       keeps = keeps_then kept2 (keeps_assumed c.args.here.scope _ _ put2 all2 (rw c.assume-2.ensures.scope at c.check.ensures.keeps));
     }
+
+pub by_falsity-returns-clause-walks : goal.by_falsity-returns-clause-walks
+by_falsity-returns-clause-walks t c = λ goal.
+    let infers = rw c.part.ensures at c.infer-inferred.ensures.walks in
+    check_falsity _ _ _ _ _ _ _ _ _ c.past-begin.ensures.there infers c.from_falsity.ensures

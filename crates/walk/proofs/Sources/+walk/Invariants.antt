@@ -31,3 +31,6 @@ decreases-take_out l = 3 * left_over l.here.left (length l.self.now.proof.now) (
 
 abbrev pub decreases-by_cases : goal.decreases-by_cases
 decreases-by_cases l = 3 * left_over l.here.left (length l.self.now.proof.now) (l.here.at + 1)
+
+abbrev pub decreases-by_falsity : goal.decreases-by_falsity
+decreases-by_falsity l = 3 * left_over l.here.left (length l.self.now.proof.now) (l.here.at + 1)
