@@ -1,13 +1,12 @@
 -- Laws of groups: what a group is from its heading and its line of hex, and groups of which some are read and the rest is still to be read.
-use Prim.Native.Nat.{ℕ, suc, ◌+◌, ◌-◌, ◌*◌, ◌≤◌}
+use Prim.Native.Nat.{ℕ, suc, ◌-◌}
 use mathlib.Core.Path.{◌≡◌, refl, sym, ap, ap₂, ◌∙◌}
 use mathlib.Core.List.{List, [], ◌∷◌, ◌++◌, append_assoc, append-nil}
-use Rattle.std.specs.Prelude.{Err, None, Ok, Some}
+use Rattle.std.specs.Prelude.{Err, Ok}
 use native.Mathlib.Omega.{arith}
 use lib.ListN.{length, length-append}
 use Rattle.procap.specs.Outcome.{Outcome, go_on}
 use Rattle.procap.specs.declared.answer.Answer.{Answer}
-use Rattle.procap.specs.declared.answer.Answer.TheVariants.{InputMalformed}
 use Rattle.procap.specs.declared.time.Time.{Time}
 use Rattle.text.specs.Words.{bytes_of}
 use Rattle.text.specs.LinesInARow.{one_line}

@@ -1,11 +1,11 @@
 -- Of all groups some are read: their records stand in the array and their formulas in the buffer, and the rest is still to be read.
-use Prim.Native.Nat.{ℕ, ◌+◌, ◌-◌, ◌*◌, ◌≤◌, ◌<◌}
+use Prim.Native.Nat.{ℕ, ◌+◌, ◌-◌, ◌≤◌, ◌<◌}
 use mathlib.Core.Path.{◌≡◌, refl, sym, ap, ap₂, ◌∙◌}
 use mathlib.Core.List.{List, [], ◌∷◌, ◌++◌}
 use native.Mathlib.Omega.{arith}
 use lib.ListN.{length, take, set, length-append}
 use Rattle.procap.specs.Lists.{pad}
-use Rattle.std.specs.Prelude.{Err, Ok}
+use Rattle.std.specs.Prelude.{Err}
 use Rattle.procap.specs.declared.answer.Answer.{Answer}
 use Rattle.bl.specs.Certificates.{most_certificates}
 use Rattle.bl.specs.declared.Certificate.{Certificate}

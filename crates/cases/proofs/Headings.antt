@@ -11,7 +11,6 @@ use Rattle.text.specs.LinesInARow.{one_line}
 use Rattle.cases.specs.CaseLines.{time_line}
 use Rattle.cases.specs.Case.{heading}
 use Rattle.cases.specs.Found.{ReadSoFar, WentOn, Told, HeadingTold}
-use Rattle.cases.specs.declared.groups.Heading.{Heading}
 use Rattle.cases.proofs.InARow.{lines_read, lines_break}
 
 module _ (old : ReadSoFar) where

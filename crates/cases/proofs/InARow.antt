@@ -2,11 +2,10 @@
 -- breaks the form.
 use Prim.Native.Nat.{ℕ, suc}
 use mathlib.Core.Path.{◌≡◌, refl}
-use Rattle.std.specs.Prelude.{Err, None, Ok, Some}
+use Rattle.std.specs.Prelude.{Err, Ok, Some}
 use Rattle.procap.specs.Outcome.{go_on}
 use Rattle.procap.specs.Bytes.{Reader}
 use Rattle.procap.specs.declared.answer.Answer.{Answer}
-use Rattle.procap.specs.declared.answer.Answer.TheVariants.{InputMalformed}
 use Rattle.text.specs.LinesInARow.{Lines, ◌>>=◌, at_line, one_line}
 
 module _ {A B : Type 0} (f : A → Lines B) (line at : ℕ) where
@@ -14,11 +13,6 @@ module _ {A B : Type 0} (f : A → Lines B) (line at : ℕ) where
   pub line_reads : (r : Reader A) (a : A) (next : ℕ) → r at ≡ Some (a, next) → (one_line r >>= f) line at ≡ f a (suc line) next
   unfolding at_line go_on
   line_reads r a next e = rw e refl
-
-  -- A line that does not read breaks the form.
-  pub line_breaks : (r : Reader A) → r at ≡ None → (one_line r >>= f) line at ≡ Err (InputMalformed line)
-  unfolding at_line go_on
-  line_breaks r e = rw e refl
 
   -- From lines that read one goes on with the line after them.
   pub lines_read : (r : Lines A) (a : A) (line' next : ℕ) → r line at ≡ Ok (a, line', next) → (r >>= f) line at ≡ f a line' next

@@ -17,7 +17,6 @@ use Rattle.text.specs.RequestLines.{request_lines}
 use Rattle.cases.specs.CaseLines.{hex_line, nothing_more}
 use Rattle.cases.specs.Case.{groups, case_with, case_lines}
 use Rattle.cases.specs.Found.{ReadSoFar, WentOn, Told, GroupsPut, CaseFound}
-use Rattle.cases.specs.declared.case.CaseRead.{CaseRead}
 use Rattle.cases.proofs.InARow.{line_reads, lines_read, lines_break}
 
 -- ── Nothing more ──

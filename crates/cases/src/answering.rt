@@ -15,7 +15,7 @@ use verifier::verify::verify;
 // How many bytes a case may have.
 pub const MOST_INPUT: usize = 65_536;
 
-// Puts what is printed for a case at the front of the buffer, the procap's text or the refusal's two lines: 13 for a buffer that is shorter.
+// Puts what is printed for a case at the front of the buffer, the procap's text or the refusal's two lines: 13 where it is too short.
 pub fn answer_case(input: &[u8], out: &mut [u8]) -> WrittenText
     ensures { Wrote (answering input.now (length out.old)) out.old result out.new }
 {

@@ -1,5 +1,5 @@
 // All lines of a case.
-ghost use Rattle.std.specs.Prelude.{◌≡◌, ◌≤◌, [], length};
+ghost use Rattle.std.specs.Prelude.{◌≡◌, ◌≤◌, []};
 ghost use Rattle.bl.specs.Certificates.{most_certificates};
 ghost use Rattle.cases.specs.Case.{case_with, case_lines};
 ghost use Rattle.cases.specs.Found.{CaseReads};
