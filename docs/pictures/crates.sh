@@ -27,7 +27,6 @@ office  paper    bl          the logic on paper;|in code the tags
 below   code     rising      numbers in|rising order
 below   code     front       the front of an array:|so many of its items
 below   code     procap      the data that|both halves share
-below   code     front       items at the front|of an array
 below   paper    by_hand     laws for proofs by hand,|used by no crate
 END
 }
