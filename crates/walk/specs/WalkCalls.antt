@@ -69,7 +69,7 @@ module _ (S : Sources) (facts : ListLent) (assumptions : LentToWrite) where
     ChecksTaken shell = (tag : CheckTag) → TakesOut tag shell → ChecksTagged tag
 
 -- The step that shows any goal from falsity.
-abbrev pub ShowsAll : Sources → LentToWrite → LentToWrite → Here → Checked → Type 0
+abbrev pub ShowsAll : Sources → ListLent → LentToWrite → Here → Checked → Type 0
 ShowsAll S facts assumptions here r = (goal : Goal) → ChecksTagged S facts assumptions goal here r FalsityOutTag
 
 -- The rows of the assumptions that stand around are kept.

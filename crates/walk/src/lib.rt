@@ -402,7 +402,7 @@ impl Sources<'_, '_, '_> {
     // A level has room for all that is put in its place: this stays a call.
     #[inline(never)]
     #[cycle(walk)]
-    fn by_falsity(&self, facts: &mut [u64], assumptions: &mut [u64], here: Here) -> Checked
+    fn by_falsity(&self, facts: &mut FactList, assumptions: &mut [u64], here: Here) -> Checked
         requires { 0 < here.left }
         ensures walks { ShowsAll (sources self.now) facts assumptions here result }
         ensures keeps { KeepsRows here assumptions }
