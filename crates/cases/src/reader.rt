@@ -113,7 +113,7 @@ impl<'a> CaseReader<'a> {
         }
     }
 
-    // Puts the bytes that pairs of hex digits say behind those before, as far as the pairs go.
+    // Puts the bytes that pairs of hex digits say behind those before, as far as the pairs go. The loop ends at the first that is none.
     fn pairs(&mut self)
         ensures reads { PairsPut self.old.input self.old.at self.old.bytes self.new.at self.new.bytes }
         ensures same { (self.new.input ≡ self.old.input) × (self.new.line ≡ self.old.line) }

@@ -11,7 +11,8 @@ use procap::fact::{Fact, Term};
 use procap::tag::TermTag;
 use state::fact_at;
 
-// Whether the fact, with the moment put for ctime, stands in a state. Of bytes that are no state the answer says nothing.
+// Whether the fact, with the moment put for ctime, stands in a state. Of bytes that are no state the answer says nothing. Facts have
+// several lengths, so the loop goes from place to place.
 pub(crate) fn holds_at(state: &[u8], wanted: Fact, moment: u64) -> bool
     ensures { (σ : List Spelled) → stated state.now ≡ Some σ → Tells result (HoldsAt moment σ (spelled wanted)) }
 {

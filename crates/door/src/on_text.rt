@@ -34,7 +34,7 @@ fn opening_text(
     first_missing(places.len(), |i| fact_on(text, places[i]), moment, state)
 }
 
-// The answer as 256 times its number plus its place.
+// The answer as 256 times its number plus its place. The office's number (`from_c`) has a length and a place of 32 bits in it.
 fn as_number(answer: Answer) -> u64
     requires { place_of answer < 256 }
     ensures { result ≡ packed answer }

@@ -1,4 +1,5 @@
-// The door on a procap text, for C: the call of the desk firmware, as include/procap.h says it.
+// The door on a procap text, for C: the call of the desk firmware, as include/procap.h says it. A static library exports only what
+// stands in it, so this is not `door`'s own.
 #![tactic(auto)]
 
 ghost use Rattle.std.specs.Prelude.{◌≡◌};

@@ -18,7 +18,7 @@ use text::writer::write_text;
 use verifier::verify::{direct, verify};
 
 // Verifies, and puts the text of the procap at the front of the buffer that is lent for it: 13 where it is shorter. The answer comes as one
-// number.
+// number. These are C's own parameters.
 pub fn office_verify(
     who: u16,
     what: u16,
@@ -43,7 +43,7 @@ pub fn office_verify(
     as_number(written.answer, written.length)
 }
 
-// Checks the proof directly, at a moment in a state. The answer comes as one number.
+// Checks the proof directly, at a moment in a state. The answer comes as one number. These are C's own parameters.
 pub fn office_direct(
     who: u16,
     what: u16,

@@ -1,4 +1,4 @@
-// The office's calls for C.
+// The office's calls for C: exported by name, each as C has its parameters. A static library exports only what stands in it.
 ghost use Rattle.std.specs.Prelude.{◌≡◌, length};
 ghost use Rattle.procap.specs.Outcome.{answer_of};
 ghost use Rattle.text.specs.Calls.{buffer_left};

@@ -32,12 +32,14 @@ impl<T: Copy, const N: usize> Front<T, N> {
         }
     }
 
-    // The first `count` of these.
+    // The first `count` of these, or all of them.
     pub fn of(items: [T; N], count: usize) -> Self
-        requires { count ≤ N }
         ensures { result ≡ take count items }
     {
-        Front { items, count }
+        Front {
+            items,
+            count: count.min(N),
+        }
     }
 
     // How many there are.
@@ -47,13 +49,15 @@ impl<T: Copy, const N: usize> Front<T, N> {
         self.count
     }
 
-    // Puts one more behind them.
+    // Puts one more behind them, where there is room.
     pub fn push(&mut self, item: T)
-        requires { length self.old < N }
-        ensures { self.new ≡ self.old ++ item ∷ [] }
+        ensures room { length self.old < N → self.new ≡ self.old ++ item ∷ [] }
+        ensures full { N ≤ length self.old → self.new ≡ self.old }
     {
-        self.items[self.count] = item;
-        self.count += 1;
+        if self.count < N {
+            self.items[self.count] = item;
+            self.count += 1;
+        }
     }
 
     // All of them.

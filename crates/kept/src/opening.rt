@@ -6,7 +6,7 @@ use from_c::office::{office_direct, office_verify};
 use from_c::packing::{length_in, number_in};
 use text::writer::MOST_TEXT;
 
-// Whether verify, the direct check and the door answer as demand 3 says, at this press: always.
+// Whether verify, the direct check and the door answer as demand 3 says, at this press: always. These are C's own parameters.
 #[unsafe(no_mangle)]
 pub extern "C" fn kept_demand_3(
     who: u16,

@@ -44,14 +44,14 @@ impl FactList {
     }
 
     // Whether there is room for one fact more.
-    pub fn has_room(&self) -> bool
+    pub(crate) fn has_room(&self) -> bool
         ensures { Tells result (length self.now < most_facts) }
     {
         self.count < MOST_FACTS
     }
 
     // Whether the fact is listed.
-    pub fn has(&self, fact: Fact) -> bool
+    pub(crate) fn has(&self, fact: Fact) -> bool
         ensures { Tells result (In (spelled fact) (map spelled self.now)) }
     {
         self.facts[..self.count]
@@ -60,7 +60,7 @@ impl FactList {
     }
 
     // The fact goes to the end of the list.
-    pub fn put(&mut self, fact: Fact)
+    pub(crate) fn put(&mut self, fact: Fact)
         requires { length self.old < most_facts }
         ensures { self.new ≡ self.old ++ fact ∷ [] }
     {

@@ -24,8 +24,8 @@ pub enum Reading {
 
 // What a walk has come to: the number and the place of the answer that stopped it, zeros while it goes on; 0 where it is read at the
 // office, and else the moment of the press plus one; and the moments that are left.
-// Plain numbers, since they miss no bar of speed: with a `Result<(), Answer>` and a `Reading` in their place, which proves, the longest
-// proofs take 440 microseconds for 329, and thirty_implications 20.6 for 13.9.
+// Plain numbers for the sake of speed: with a `Result<(), Answer>` and a `Reading` in their place, which proves, the longest proofs take
+// 440 microseconds for 329, and thirty_implications 20.6 for 13.9; docs/PERFORMANCE.md has the bar, 1.5 times the Rust one.
 #[derive(Clone, Copy)]
 pub struct Ledger {
     pub number: u64,

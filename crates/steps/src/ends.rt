@@ -1,4 +1,5 @@
-// Where the second part of each step 26 of a proof ends: a table that is lent, with a number for every three bytes.
+// Where the second part of each step 26 of a proof ends: a table that is lent, with a number for every three bytes. It is found by a
+// place of the proof and not by a key, so that a look takes one step; a map would need a heap.
 ghost use Rattle.std.specs.Prelude.{◌≡◌, ◌≤◌, get_or};
 ghost use Rattle.bl.specs.Steps.{most_proof_bytes};
 ghost use Rattle.steps.specs.Ends.{slot};

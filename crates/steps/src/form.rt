@@ -11,7 +11,8 @@ const MOST_PROOF_BYTES: usize = 4096;
 // How many steps 2C it may have.
 const MOST_STATES: usize = 16;
 
-// Whether the bytes are a proof over so many certificates; where they are, the table has where the second part of each 26 ends.
+// Whether the bytes are a proof over so many certificates; where they are, the table has where the second part of each 26 ends. What
+// waits to be read grows as it is read, so the loop goes on while something waits.
 pub fn well_formed(proof: &[u8], certificates: usize, ends: &mut [u16]) -> bool
     ensures tells { Tells result (IsProof proof certificates) }
     ensures told { EndsTold proof certificates ends }

@@ -1,6 +1,6 @@
 // The line of a fact.
-ghost use Rattle.std.specs.Prelude.{◌≡◌};
-ghost use Rattle.procap.specs.Facts.{most_terms};
+ghost use Rattle.std.specs.Prelude.{◌≡◌, None};
+ghost use Rattle.procap.specs.Facts.{most_terms, no_fact};
 ghost use Rattle.procap.specs.Reading.{FactReads, with_predicate};
 ghost use Rattle.text.specs.Places.{FactOn};
 ghost use Rattle.text.specs.Reader.{«term», «terms», fact_line};
@@ -19,9 +19,10 @@ pub fn fact_at(text: &[u8], at: usize) -> Option<(Fact, usize)>
     fact_with(text, predicate as u16, after_predicate)
 }
 
-// The fact on the line at a place, or zeros where none stands there.
+// The fact on the line at a place, or no fact where none stands there.
 pub fn fact_on(text: &[u8], at: usize) -> Fact
-    ensures { FactOn text.now at result }
+    ensures read { FactOn text.now at result }
+    ensures none { fact_line text.now at ≡ None → result ≡ no_fact }
 {
     match fact_at(text, at) {
         Some((fact, _)) => fact,

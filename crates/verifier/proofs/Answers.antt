@@ -22,7 +22,8 @@ use Rattle.procap.specs.declared.fact.Fact.{Fact}
 use Rattle.state.specs.Standing.{WellFormed}
 use Rattle.bl.specs.declared.Certificate.{Certificate}
 use Rattle.bl.specs.Trees.{Check}
-use Rattle.bl.specs.Strength.{most_pairs, pairs_of}
+use Rattle.bl.specs.Certificates.{statements}
+use Rattle.bl.specs.Strength.{most_pairs, pairs_in, pairs_of}
 use Rattle.bl.specs.Policy.{Policy, policy_in}
 use Rattle.bl.specs.Questions.{Walk, done}
 use Rattle.bl.specs.Steps.{proof_in}
@@ -35,7 +36,7 @@ use Rattle.ledger.specs.declared.Reading.TheVariants.{Office, Press}
 use Rattle.ledger.specs.declared.Ledger.{Ledger}
 use Rattle.ledger.specs.Books.{begun, stop_of, GoesOn, Book, book, Sound, kept_of, facts_said, resume}
 use Rattle.ledger.proofs.Giving.{stop_refused, stop_going}
-use Rattle.verifier.specs.Verifying.{Taken, Walked, PolicyRead, CaseRead}
+use Rattle.verifier.specs.Verifying.{Stops, Taken, Walked, PolicyRead, CaseRead}
 use Rattle.steps.specs.Ends.{ToldChecking}
 use Rattle.verifier.proofs.CertificateLaws.{statements_count}
 use Rattle.verifier.proofs.WalkBegins.{office_begins, press_begins}
@@ -57,6 +58,15 @@ module _ (r : Request) (l : Ledger) (list : List Fact) where
   some_left h p is = ap Ok is ∙ sym (goes_on _ _ tt (is_so NoMomentLeft (dec_le l.from l.to) h))
 
 -- ── What is malformed ──
+
+module _ (records : List Certificate) (buffer pairs : List ℕ) where
+  -- What stops the certificates stops the policy, and then what stops the pairs.
+  pub policy_stops : (one other : Outcome (Unit {0})) → Stops (statements buffer records) one → Stops (pairs_in pairs) other
+      → Stops (policy_in records buffer pairs) (go_on one (λ _. other))
+  unfolding policy_in go_on
+  policy_stops (Ok _) (Ok _) (cs, e) (ps, f) = (_, goes_on _ _ cs e ∙ goes_on _ _ ps f)
+  policy_stops (Ok _) (Err answer) (cs, e) f = goes_on _ _ cs e ∙ refused_on _ _ answer f
+  policy_stops (Err answer) other e f = refused_on _ _ answer e
 
 module _ (records : List Certificate) (buffer pairs proof rows ends : List ℕ) where
   -- What the case comes to.

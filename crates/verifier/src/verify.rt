@@ -29,7 +29,7 @@ use walk::{Goal, Here, Sources};
 // How many bytes the goal of a request takes.
 pub const GOAL_BYTES: usize = 17;
 
-// What verify answers, and the procap that it hands over.
+// What verify answers, and the procap that it hands over. It is no Result: a refusal hands over the empty procap, too.
 #[derive(Clone, Copy)]
 pub struct Verified {
     pub answer: Answer,

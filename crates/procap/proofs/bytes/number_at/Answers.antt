@@ -3,6 +3,7 @@ use Rattle.std.proofs.Common.{arith, ◌≡◌, ◌+◌, ◌^◌, ◌≤◌, ◌
 use Rattle.std.proofs.lemmas.Grind.{common_steps}
 use native.Mathlib.Nat.{pow-suc, pow-le-pow_right}
 use native.Mathlib.Numerals.{add-one}
+use borrow.Author.Tests.{le-leb}
 use Rattle.procap.specs.Bytes.{big_endian}
 use Rattle.procap.proofs.Numbers.{number_none, number_read, one_byte_more}
 use Rattle.procap.proofs.bytes.number_at.Goals as goal
@@ -46,4 +47,5 @@ returns-clause-reads g c =
     let n = g.row.N in
     let a = c.args in
     let all : take c.loop-byte.byte-index c.in_ok-byte-items.byte-items.now ≡ take n (drop a.at a.bytes.now) = grind (arith, common_steps) in
-    sym (number_read a.bytes.now n a.at _ (grind (arith, common_steps)) (c.loop-byte.invariant.1 ∙ ap (big_endian 0) all))
+    let few : n ≤ 8 = grind arith in
+    rw (le-leb n 8 few) (sym (number_read a.bytes.now n a.at _ (grind (arith, common_steps)) (c.loop-byte.invariant.1 ∙ ap (big_endian 0) all)))

@@ -8,7 +8,7 @@ pub loop-i-init : goal.loop-i-init
 loop-i-init c = none_filled _ _ _ (rw c.none-facts.ensures refl)
 
 pub loop-i-preserved : goal.loop-i-preserved
-loop-i-preserved c = one_filled _ _ _ _ c.loop-i.invariant (omega arith) (omega arith) _ c.fact_on.ensures
+loop-i-preserved c = one_filled _ _ _ _ c.loop-i.invariant (omega arith) (omega arith) _ c.fact_on.ensures.read
 
 pub returns : goal.returns
 returns c = all_filled _ _ _ _ c.loop-i.invariant (omega arith)
