@@ -14,7 +14,7 @@ pub loop-byte-preserved : goal.loop-byte-preserved
 loop-byte-preserved c =
     let now = c.loop-byte.invariant in
     let pair = c.in-Some.ensures in
-    rw c.push.ensures (record {
+    rw (c.push.ensures.room (omega (arith, pair.inside))) (record {
       same_input = now.same_input;
       same_line = now.same_line;
       short = now.short;
