@@ -5,7 +5,7 @@ ghost use Rattle.from_c.specs.Values.{value_bytes, term_bytes, fact_bytes, argum
 
 use crate::numbers::{number_or_zero, term_at};
 use crate::row::{InARow, in_a_row};
-use procap::fact::{Argument, Fact, MOST_TERMS, Term};
+use procap::fact::{Argument, Fact, MOST_TERMS};
 use procap::procap::{MOST_FACTS, Procap, Request};
 
 // How many bytes a value takes.
@@ -45,13 +45,10 @@ impl InARow for Fact {
     ghost takes_some = { Prim.search rules };
 
     fn at(bytes: &[u8], at: usize) -> Fact {
-        let none = Argument {
-            term: Term::Name(0),
-        };
         Fact {
             predicate: number_or_zero::<2>(bytes, at) as u16,
             count: number_or_zero::<1>(bytes, at + 2) as usize,
-            arguments: in_a_row(bytes, at + TERMS_START, MOST_TERMS, none),
+            arguments: in_a_row(bytes, at + TERMS_START, MOST_TERMS, Argument::NONE),
         }
     }
 }

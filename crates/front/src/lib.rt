@@ -42,13 +42,6 @@ impl<T: Copy, const N: usize> Front<T, N> {
         }
     }
 
-    // How many there are.
-    pub fn len(&self) -> usize
-        ensures { result ≡ length self.now }
-    {
-        self.count
-    }
-
     // Puts one more behind them, where there is room.
     pub fn push(&mut self, item: T)
         ensures room { length self.old < N → self.new ≡ self.old ++ item ∷ [] }
