@@ -29,5 +29,13 @@ facts_compared f g =
       λ e. d.1 (ap (λ x. x.predicate) e, (ap (λ x. x.count) e, ap (λ x. x.arguments) e)),
     )
 
+-- A flag that is what such a comparison answers tells whether they are the same.
+module _ (b d : Bool) {P : Type 0} (h : Decides d P) (e : b ≡ d) where
+  decided_told : Tells b P
+  decided_told = tells_if b (λ t. h.0 (sym e ∙ t)) (λ t s. false≢true (sym t ∙ e ∙ h.1 s))
+
+pub terms_told : (b : Bool) (t u : Term) → b ≡ term-eq.it t u → Tells b (t ≡ u)
+terms_told b t u e = decided_told b _ (terms_compared t u) e
+
 pub facts_told : (b : Bool) (f g : Fact) → b ≡ fact-eq.it f g → Tells b (f ≡ g)
-facts_told b f g e = tells_if b (λ t. (facts_compared f g).0 (sym e ∙ t)) (λ t s. false≢true (sym t ∙ e ∙ (facts_compared f g).1 s))
+facts_told b f g e = decided_told b _ (facts_compared f g) e

@@ -3,21 +3,21 @@ use Prim.Native.Nat.{ℕ, zero, suc, ◌<◌}
 use mathlib.Core.Bool.{Bool, true, false}
 use mathlib.Core.List.{List, [], ◌∷◌, map}
 use mathlib.Core.Logic.{inl, inr}
-use mathlib.Core.Path.{◌≡◌}
+use mathlib.Core.Path.{◌≡◌, ap}
 use denote.Ref.{Bor}
 use denote.Param.Members.{Mut}
 use lib.ListN.{length, get_or}
 use native.Mathlib.Omega.{arith}
 use Rattle.std.specs.Bool.{MatchBool}
 use Rattle.std.specs.Fn.{Called}
-use Rattle.std.specs.Iterator.{YieldsThen}
+use Rattle.std.specs.Iterator.{YieldsThen, AlwaysYields}
 use Rattle.std.specs.List.{FoldsTo, AllWithin, HoldsAt}
 use Rattle.std.specs.Option.{MatchOption}
 use Rattle.std.specs.Prelude.{Option}
 use Rattle.std.specs.Slice.Iter.{iter_rest}
 use Rattle.std.proofs.Common.{Iter}
 use Rattle.std.proofs.iter.Yields.{fronts}
-use Rattle.std.proofs.lemmas.Iterator.{YieldsList-from_slice, cases_from_all, cases_from_any}
+use Rattle.std.proofs.lemmas.Iterator.{YieldsList, YieldsList-from_slice, cases_from_all, cases_from_any}
 use Rattle.procap.specs.Tells.{Tells}
 use Rattle.procap.specs.Lists.{All, In}
 use Rattle.procap.proofs.Indices.{all_from, all_at}
@@ -79,3 +79,13 @@ module _ {A F : Type 0} {g : Mut F (Bor A × Unit {0}) Bool} {s u : Iter A} {f :
   any_told h b e t ran =
       tells_any h b r xs
       (cases_from_any u f r (λ x. b ≡ h x) (λ x. b ≡ h x → ⊥) ran (YieldsList-from_slice xs e) (λ x q k. (t x true q k).1) (λ x q k. t x false q k))
+
+-- What is made of each item that a chain gives is what is made of the list.
+module _ {S A B C : Type 0} (steps : S → Option A → S → Type 0) (v : A → B) (h : B → C) where
+  made_of : (s : S) (ys : List B) → AlwaysYields steps v s ys → AlwaysYields steps (λ x. h (v x)) s (map h ys)
+  made_of s [] r = r
+  made_of s (y ∷ ys) r = (r.0, λ x j t. (ap h (r.1 x j t).0, made_of j ys (r.1 x j t).1))
+
+pub yields_made : {S A B C : Type 0} {steps : S → Option A → S → Type 0} {v : A → B} {s : S} {ys : List B} (h : B → C) → YieldsList steps v s ys
+    → YieldsList steps (λ x. h (v x)) s (map h ys)
+yields_made {steps = steps} {v = v} h y = record { runs = made_of steps v h _ _ y.runs }

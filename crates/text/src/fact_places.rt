@@ -9,6 +9,9 @@ use crate::facts::{fact_at, fact_on};
 use procap::fact::Fact;
 use procap::procap::MOST_FACTS;
 
+// How many bytes the word takes with which every line of a fact begins.
+const WORD_BYTES: usize = 5;
+
 // Where the lines of facts begin: the first `count` places, and zeros past them.
 #[derive(Clone, Copy)]
 pub struct Lines {
@@ -56,14 +59,15 @@ fn stood_before(text: &[u8], at: usize, end: usize, places: &[usize]) -> bool
     false
 }
 
-// Whether the line of a fact, up to its end, is the line at another place too.
+// Whether the line of a fact, up to its end, is the line at another place too: both begin with the same word, so what stands behind it is
+// compared.
 fn same_line(text: &[u8], at: usize, end: usize, other: usize) -> bool
     ensures { SameLine text.now at end other result }
 {
-    let Some(line) = text.get(at..end) else {
+    let Some(line) = text.get(at.saturating_add(WORD_BYTES)..end) else {
         return false;
     };
-    let Some(rest) = text.get(other..) else {
+    let Some(rest) = text.get(other.saturating_add(WORD_BYTES)..) else {
         return false;
     };
     rest.starts_with(line)

@@ -3,7 +3,6 @@ use Rattle.std.proofs.Common.{rules}
 use mathlib.Core.Path.{◌≡◌, ◌∙◌}
 use lib.ListN.{take}
 use Rattle.procap.proofs.Indices.{mapped, tells_zeros}
-use Rattle.procap.proofs.Compared.{facts_told}
 use Rattle.procap.proofs.Slices.{all_told}
 use Rattle.procap.proofs.Spelling.{beyond}
 use Rattle.procap.proofs.Telling.{holds, tells_both, tells_first}
@@ -23,7 +22,7 @@ returns-then-all c =
     tells_both _ _ _
     (holds _ c.if-all.true (in_form (goal.at.returns-then-all c).After-all))
     (tells_zeros most_facts no_fact beyond _ _ (search mapped) c.requires _
-    (all_told _ (λ f. f ≡ no_fact) (c.iter-then-all.ensures.rest ∙ c.split_at.ensures.back) (λ x b q k. search (rules, facts_told)) c.all-then-all.ensures.ran))
+    (all_told _ (λ f. f ≡ no_fact) (c.iter-then-all.ensures.rest ∙ c.split_at.ensures.back) (λ x b q k. search rules) c.all-then-all.ensures.ran))
 
 pub returns-else-all : goal.returns-else-all
 returns-else-all c = tells_first _ _ _ c.if-all.false (in_form (goal.at.returns-else-all c).After-all)
