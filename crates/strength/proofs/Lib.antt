@@ -8,3 +8,9 @@ pub mod Gaining
 pub mod PairMore
 pub mod PairsTaken
 pub mod Telling
+pub mod CountedNames
+pub mod NamesTaken
+pub mod WordsOfRows
+pub mod Exchanged
+pub mod StrengthLaws
+pub mod TellingByNumbers

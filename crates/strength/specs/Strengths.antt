@@ -1,6 +1,7 @@
 -- The strengths that pairs give: the strongers, the weakers, and a mark for each two of them.
-use Rattle.std.specs.Prelude.{ℕ, ◌≡◌, Bool, List, ◌⊎◌, Option, None, Some, take, replicate}
+use Rattle.std.specs.Prelude.{ℕ, ◌≡◌, Bool, List, [], ◌⊎◌, Option, None, Some, take, replicate}
 use Rattle.std.specs.Borrow.{Bor}
+use Rattle.std.specs.Option.{option_copied}
 use Rattle.procap.specs.Lists.{In}
 use Rattle.procap.specs.Tells.{Tells}
 use Rattle.rising.specs.Rising.{below}
@@ -16,6 +17,11 @@ names ordered = take ordered.count ordered.numbers
 -- Nobody is marked yet.
 abbrev pub Unmarked : Strengths → Type 0
 Unmarked s = s.marks ≡ replicate most_pairs 0
+
+-- No name stands there.
+pub record Nameless (s : Strengths) : Type 0 where
+  pub above : names s.strongers ≡ []
+  pub under : names s.weakers ≡ []
 
 -- The mark of two principals, where their names stand.
 abbrev pub MarkOf : Strengths → ℕ → ℕ → Type 0
@@ -49,6 +55,10 @@ LentAbove (Some s) k j = MarkedAbove s.now k j
 -- The strengths that are lent are those of the pairs.
 abbrev pub LentStrengthsOf : StrengthsLent → List Pair → Type 0
 LentStrengthsOf lent ps = Gives ps (LentAbove lent)
+
+-- What was handed back, strengths or none, is those of the pairs wherever it is lent.
+abbrev pub HandedStrengthsOf : Option Strengths → List Pair → Type 0
+HandedStrengthsOf handed ps = (lent : StrengthsLent) → option_copied lent ≡ handed → LentStrengthsOf lent ps
 
 -- A flag tells whether a principal is at least as strong as another, by the strengths that are lent.
 abbrev pub TellsStrength : StrengthsLent → ℕ → ℕ → Bool → Type 0

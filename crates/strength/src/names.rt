@@ -5,6 +5,7 @@ ghost use Rattle.rising.proofs.RisingLaws.{rising_prop};
 ghost use Rattle.bl.specs.Strength.{most_pairs};
 
 use crate::MOST_PAIRS;
+use crate::lists::names_in;
 use rising::{below, put};
 
 // Names in rising order: the first `count` of the numbers.
@@ -17,18 +18,42 @@ pub(crate) struct Names {
 }
 
 impl Names {
-    ghost use Rattle.std.specs.Prelude.{◌≡◌, ◌+◌, ◌<◌};
+    ghost use Rattle.std.specs.Prelude.{◌≡◌, ◌+◌, ◌<◌, length};
     ghost use Rattle.procap.specs.Lists.{In};
     ghost use Rattle.rising.specs.Rising.{insert};
     ghost use Rattle.strength.specs.Strengths.{names};
     ghost use Rattle.strength.specs.Places.{PlacedIn};
+    ghost use Rattle.strength.specs.InNumbers.{names_numbers, HasNames, counted};
 
     // No names.
-    pub(crate) fn none() -> Names {
+    #[tactic(auto, unfolding(rising::specs::Rising::Rising, procap::specs::Lists::All))]
+    pub(crate) fn none() -> Names
+        ensures { result.count ≡ 0 }
+    {
         Names {
             count: 0,
             numbers: [0; MOST_PAIRS],
         }
+    }
+
+    // The names of a counted list, where it is in order.
+    pub(crate) fn of_numbers(numbers: &[u64]) -> Names
+        ensures { HasNames numbers.now result }
+    {
+        let mut found = Names::none();
+        for name in names_in(numbers) {
+            found.put_name(*name);
+        }
+        found
+    }
+
+    // Leaves the names in numbers, behind their count.
+    pub(crate) fn put_in(&self, numbers: &mut [u64])
+        requires { length numbers.old ≡ names_numbers }
+        ensures { numbers.new ≡ counted self.now }
+    {
+        numbers[0] = self.count as u64;
+        numbers[1..].copy_from_slice(&self.numbers);
     }
 
     // Leaves no name.

@@ -1,15 +1,16 @@
 // The strengths that pairs give: the names are put first, and then a mark for each two, with the pairs taken from the last to the first.
-ghost use Rattle.std.specs.Prelude.{◌≡◌, ◌≤◌, [], length};
+ghost use Rattle.std.specs.Prelude.{◌≡◌, ◌≤◌, ◌↔◌, [], IsSome, length};
 ghost use Rattle.procap.specs.Lists.{In};
 ghost use Rattle.procap.specs.Tells.{Tells};
 ghost use Rattle.bl.specs.Strength.{pair_of, pairs_of, most_pairs};
-ghost use Rattle.strength.specs.Strengths.{names, Unmarked, MarkedAbove, StrengthsOf, TellsStrength};
+ghost use Rattle.strength.specs.Strengths.{names, Unmarked, Nameless, MarkedAbove, StrengthsOf, TellsStrength};
 ghost use Rattle.strength.specs.Finding.{FindsStrengths};
+ghost use Rattle.strength.specs.InNumbers.{strength_numbers, numbers_of, TakesNumbers, PutsStrengths};
 ghost use Rattle.strength.specs.Taking.{Stands, Standing, Reaches, Gains, OnePairMore};
 
-use crate::MOST_PAIRS;
-use crate::marks::{gain_rows, has_mark};
+use crate::marks::{gain_rows, has_mark, put_rows, rows_of};
 use crate::names::Names;
+use crate::{MARKS_AT, MOST_PAIRS, STRENGTH_NUMBERS, WEAKERS_AT};
 
 // Who stands above somebody and who stands below, and for each two of them a mark: a row for each stronger one, and in it a bit for
 // each weaker one.
@@ -61,12 +62,43 @@ impl Strengths {
 
     // No names and no marks.
     pub fn none() -> Strengths
-        ensures { Unmarked result }
+        ensures marks { Unmarked result }
+        ensures names { Nameless result }
     {
         Strengths {
             strongers: Names::none(),
             weakers: Names::none(),
             marks: [0; MOST_PAIRS],
+        }
+    }
+
+    // The strengths that numbers hold, where these are as many as strengths take.
+    pub fn of_numbers(numbers: &[u64]) -> Option<Strengths>
+        ensures size { IsSome result ↔ (length numbers.now ≡ strength_numbers) }
+        ensures taken { TakesNumbers numbers.now result }
+    {
+        if numbers.len() != STRENGTH_NUMBERS {
+            return None;
+        }
+        Some(Strengths {
+            strongers: Names::of_numbers(&numbers[0..WEAKERS_AT]),
+            weakers: Names::of_numbers(&numbers[WEAKERS_AT..MARKS_AT]),
+            marks: rows_of(&numbers[MARKS_AT..]),
+        })
+    }
+
+    // Leaves the strengths in numbers, where these are as many as strengths take.
+    pub fn put_in(&self, numbers: &mut [u64])
+        ensures put { length numbers.old ≡ strength_numbers → numbers.new ≡ numbers_of self.now }
+        ensures left { (length numbers.old ≡ strength_numbers → ⊥) → numbers.new ≡ numbers.old }
+        ensures strengths { PutsStrengths self.now numbers.old numbers.new }
+    {
+        if numbers.len() == STRENGTH_NUMBERS {
+            let (lists, marks) = numbers.split_at_mut(MARKS_AT);
+            let (above, under) = lists.split_at_mut(WEAKERS_AT);
+            self.strongers.put_in(above);
+            self.weakers.put_in(under);
+            put_rows(&self.marks, marks);
         }
     }
 

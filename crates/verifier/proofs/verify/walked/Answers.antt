@@ -11,4 +11,4 @@ returns-then-is_empty c =
 
 pub returns : goal.returns
 returns c =
-    by_strengths _ _ _ _ _ _ _ _ _ (λ ps. found_give _ c.none-strengths.result _ ps c.none-strengths.ensures c.find.ensures) c.walked_by-2.ensures
+    by_strengths _ _ _ _ _ _ _ _ _ (λ ps. found_give _ c.none-strengths.result _ ps c.none-strengths.ensures.marks c.find.ensures) c.walked_by-2.ensures
