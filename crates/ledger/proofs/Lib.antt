@@ -4,3 +4,5 @@ pub mod Giving
 pub mod Asking
 pub mod Asked
 pub mod Listing
+pub mod ListNumbers
+pub mod NumbersAsked

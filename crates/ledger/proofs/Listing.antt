@@ -4,8 +4,8 @@ use mathlib.Core.Path.{◌≡◌, sym, ap, ap₂, ◌∙◌}
 use mathlib.Core.List.{List, [], ◌∷◌, ◌++◌, map, map-append}
 use native.Mathlib.Omega.{arith}
 use native.Mathlib.Numerals.{add-one}
-use lib.ListN.{length, take, set, length-append, length-map, length-take, length-replicate}
-use lib.Seq.{length-take-le, take-suc-set}
+use lib.ListN.{length, take, set, length-append, length-map}
+use lib.Seq.{take-suc-set}
 use Rattle.procap.specs.Lists.{pad, ZerosPast}
 use Rattle.procap.proofs.Indices.{pad_more}
 use Rattle.procap.specs.Facts.{spelled, fact_of, no_fact}
@@ -15,17 +15,17 @@ use Rattle.procap.specs.declared.procap.Request.{Request}
 use Rattle.ledger.specs.declared.Ledger.{Ledger}
 use Rattle.ledger.specs.Books.{book, Sound}
 use Rattle.ledger.specs.Asking.{held_procap}
+use Rattle.ledger.specs.Places.{all_stand, first_stand}
 
 -- ── The places of a list ──
 
 -- So many facts are listed, and no facts stand in the places past them.
 module _ (facts : List Fact) (n : ℕ) (few : n ≤ most_facts) (rest : ZerosPast most_facts no_fact n facts) where
   all_places : length facts ≡ most_facts
-  unfolding pad
-  all_places = omega (arith, simp (length-append, length-replicate) at (ap length rest), length-take n facts)
+  all_places = all_stand most_facts no_fact n facts few rest
 
   pub counted : length (take n facts) ≡ n
-  counted = length-take-le n facts (omega (arith, all_places))
+  counted = first_stand most_facts no_fact n facts few rest
 
   -- The procap takes the places over.
   pub taken_over : (r : Request) (l : Ledger)

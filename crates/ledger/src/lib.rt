@@ -14,6 +14,12 @@ use procap::time::{LATEST_SECOND, Time};
 use state::stands_in;
 
 pub mod facts; // the list of the facts that the office asks for
+pub mod numbers; // the same list as plain numbers that a caller lends
+
+// How many numbers a listed fact takes: its predicate, its count, and two for each term.
+pub const FACT_NUMBERS: usize = 10;
+// How many numbers the list of facts takes.
+pub const LIST_NUMBERS: usize = 160;
 
 // How a walk is read: at the office with the clock open, or at a press at its moment.
 #[derive(Clone, Copy)]

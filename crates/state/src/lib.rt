@@ -91,7 +91,7 @@ fn settled_term_at(state: &[u8], at: usize) -> Option<(Term, usize)>
 {
     let tag = TermTag::try_from(*state.get(at)?).ok()?;
     if !is_settled(tag) {
-        return None;
+        return None; // a ctime, or a variable
     }
     term_by(state, tag, at + 1)
 }
