@@ -22,7 +22,7 @@ use Rattle.formula.specs.declared.parts.FormulaAt.{FormulaAt}
 use Rattle.formula.specs.declared.compare.Compared.{Compared}
 use Rattle.ledger.specs.Books.{book, misfitted}
 use Rattle.formula.specs.PutIn.{terms_of, FewTerms, place_of, fill_place}
-use Rattle.formula.specs.Meaning.{begin, PlaceReads}
+use Rattle.formula.specs.Meaning.{begin, PlaceReadsIfAny}
 use Rattle.ledger.specs.Books.{Leads}
 use Rattle.formula.specs.Comparing.{Two, move, PlacesStand, ComparesPlaces}
 use Rattle.ledger.proofs.Giving as giving
@@ -122,9 +122,9 @@ module _ (bytes : List ℕ) (d : ℕ) (f : FormulaAt) where
       let found = none_of (argument bytes h.sorts) 0 place h.written e refl h.reads in
       (sym h.filled ∙ ap (map fill) found.0, found.1)
 
-  -- What `place_at` promises of a place.
+  -- What `place_if_any` promises of a place.
   abbrev FindsPlace : ℕ → Option (code.Place × ℕ) → Type 0
-  FindsPlace place r = PlaceReads bytes place f.terms d r
+  FindsPlace place r = PlaceReadsIfAny bytes place f.terms d r
 
   -- Where it finds none there are no places.
   none_there : (place count : ℕ) (xs : List Place) (e : ℕ) → FindsPlace place None → PlacesStand bytes d (suc count) (begin f place) xs e → ⊥

@@ -27,7 +27,7 @@ use Rattle.formula.specs.declared.terms.Place.TheVariants.{Fixed, Bound}
 use Rattle.formula.specs.declared.parts.Head.{Head}
 use Rattle.formula.specs.declared.parts.FormulaAt.{FormulaAt}
 use Rattle.formula.specs.PutIn.{terms_of, FewTerms, place_of, fill_place}
-use Rattle.formula.specs.Meaning.{tag_of, Means, PlaceReads, HeadReads, SpellsPlaces}
+use Rattle.formula.specs.Meaning.{tag_of, Means, PlaceReadsIfAny, HeadReads, SpellsPlaces}
 use Rattle.formula.proofs.PartsRead.{EndsAt, next_of}
 use Rattle.formula.proofs.Shapes.{kind, tag_is, inside, fact_shape}
 
@@ -111,7 +111,7 @@ module _ {bytes : List ℕ} {terms : Terms} {count at : ℕ} {arguments : List A
 
   module _ {next i : ℕ} (h : PlacesKept bytes terms count at arguments next i) (l : i < count) where
     -- Where there is no next place there are not so many.
-    pub place_missing : PlaceReads bytes next terms 0 None → (sorts : List Sort) (xs : List Place) (e : ℕ) → FewTerms terms
+    pub place_missing : PlaceReadsIfAny bytes next terms 0 None → (sorts : List Sort) (xs : List Place) (e : ℕ) → FewTerms terms
         → many (argument bytes sorts) count at ≡ Some (xs, e) → as_terms (filled terms xs) ≡ None
     place_missing found sorts xs e few q =
         let before = h.so_far sorts xs e few q in
@@ -119,7 +119,7 @@ module _ {bytes : List ℕ} {terms : Terms} {count at : ℕ} {arguments : List A
         let one = first_of (argument bytes sorts) (count - (i + 1)) next before.left e (rw one_less at before.reads) in
         absurd (none-some _ (found sorts one.first one.next one.first_reads).1)
 
-    module _ (place : code.Place) (after : ℕ) (found : PlaceReads bytes next terms 0 (Some (place, after))) where
+    module _ (place : code.Place) (after : ℕ) (found : PlaceReadsIfAny bytes next terms 0 (Some (place, after))) where
       -- The next place, which is what was handed back, and those after it.
       record NextPlace (x : Place) (sorts : List Sort) (xs : List Place) (e : ℕ) : Type 0 where
         rest : List Place

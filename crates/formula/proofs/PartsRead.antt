@@ -4,7 +4,7 @@ use mathlib.Core.Path.{◌≡◌, refl, sym, ap, ◌∙◌}
 use mathlib.Core.List.{List, ◌∷◌}
 use mathlib.Core.Logic.{◌⊎◌, inl, inr}
 use Rattle.std.proofs.lemmas.Option.{none-some, same_Some}
-use Rattle.std.specs.Prelude.{None, Option, Some}
+use Rattle.std.specs.Prelude.{None, Option, Some, unwrap_or}
 use native.Mathlib.Omega.{arith}
 use Rattle.procap.specs.Bytes.{Reader, then, present, many, number, byte, term_tag, term_by, predicate_and}
 use Rattle.procap.specs.declared.fact.Term.{Term}
@@ -20,7 +20,7 @@ use Rattle.formula.specs.declared.terms.Place as code
 use Rattle.formula.specs.declared.terms.Place.TheVariants.{Fixed}
 use Rattle.formula.specs.declared.parts.Head.{Head}
 use Rattle.formula.specs.PutIn.{place_of, fill_place}
-use Rattle.formula.specs.Meaning.{PlaceFound, PlaceReads, HeadReads}
+use Rattle.formula.specs.Meaning.{PlaceFound, PlaceReads, PlaceEnds, PlaceReadsIfAny, HeadReads}
 
 -- ── What stands where a term may ──
 
@@ -53,32 +53,32 @@ module _ (bytes : List ℕ) (at : ℕ) (terms : Terms) (under : ℕ) (r : Option
   abbrev So : Place → ℕ → Type 0
   So x e = PlaceFound terms under x e r
 
-  found_if : ((sorts : List Sort) → IfRead So (argument bytes sorts at)) → PlaceReads bytes at terms under r
+  found_if : ((sorts : List Sort) → IfRead So (argument bytes sorts at)) → PlaceReadsIfAny bytes at terms under r
   found_if h sorts x e q = so_read {P = So} (argument bytes sorts at) q (h sorts)
 
   -- Past the end and without a tag nothing is.
-  pub none_found : byte bytes at ≡ None → PlaceReads bytes at terms under r
+  pub none_found : byte bytes at ≡ None → PlaceReadsIfAny bytes at terms under r
   unfolding argument then
   none_found none = found_if (λ sorts. rw none unread)
 
   module _ (b next : ℕ) (there : byte bytes at ≡ Some (b, next)) where
-    pub untagged : term_tag b ≡ None → PlaceReads bytes at terms under r
+    pub untagged : term_tag b ≡ None → PlaceReadsIfAny bytes at terms under r
     unfolding argument then present
     untagged none = found_if (λ sorts. rw (there, none) unread)
 
     module _ (tag : TermTag) (told : term_tag b ≡ Some tag) where
-      found_by : ((sorts : List Sort) → IfRead So (place_by bytes sorts tag next)) → PlaceReads bytes at terms under r
+      found_by : ((sorts : List Sort) → IfRead So (place_by bytes sorts tag next)) → PlaceReadsIfAny bytes at terms under r
       unfolding argument then present
       found_by h = found_if (λ sorts. rw (there, told) (h sorts))
 
       -- A tag that announces no place.
-      pub ctime_found : tag ≡ CtimeTag → PlaceReads bytes at terms under r
+      pub ctime_found : tag ≡ CtimeTag → PlaceReadsIfAny bytes at terms under r
       unfolding place_by
       ctime_found e = found_by (λ sorts. rw e unread)
 
       -- A tag that announces a term.
       pub fixed_found : Fixes tag → ((t : Term) (e : ℕ) → term_by bytes tag next ≡ Some (t, e) → r ≡ Some (Fixed t, e))
-          → PlaceReads bytes at terms under r
+          → PlaceReadsIfAny bytes at terms under r
       unfolding fixed_by fill_place place_of
       fixed_found f h =
           found_by λ sorts.
@@ -87,13 +87,22 @@ module _ (bytes : List ℕ) (at : ℕ) (terms : Terms) (under : ℕ) (r : Option
 
       -- A tag that announces a variable.
       pub variable_found : tag ≡ VariableTag → ((i e : ℕ) → byte bytes next ≡ Some (i, e) → PlaceFound terms under (bound i) e r)
-          → PlaceReads bytes at terms under r
+          → PlaceReadsIfAny bytes at terms under r
       unfolding place_by
       variable_found e h =
           found_by λ sorts.
           rw e
           (then_read (if_read {P = λ i e. So (bound i) e} (byte bytes next) h)
           (λ i e q. ensure_read _ _ _ (λ l. read q)))
+
+-- What stands for a place is that which was found, whatever is handed back elsewhere.
+module _ (bytes : List ℕ) (at : ℕ) (terms : Terms) (under : ℕ) (o : Option (code.Place × ℕ)) (found : PlaceReadsIfAny bytes at terms under o)
+    (other : code.Place × ℕ) where
+  pub place_given : PlaceReads bytes at terms under (unwrap_or o other).0
+  place_given sorts x e few q = let so = found sorts x e q in rw so.1 (so.2 few)
+
+  pub end_given : PlaceEnds bytes at (unwrap_or o other).1
+  end_given sorts x e q = rw (found sorts x e q).1 refl
 
 -- ── A predicate and a count ──
 

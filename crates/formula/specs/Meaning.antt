@@ -51,12 +51,22 @@ pub record On (bytes : List ℕ) (j : Judgement) (F : Formula) (a b : Time) : Ty
 abbrev pub PlaceFound : Terms → ℕ → Place → ℕ → Option (code.Place × ℕ) → Type 0
 PlaceFound terms under x e r = (found : code.Place) × (r ≡ Some (found, e)) × (FewTerms terms → place_of found ≡ fill_place under (terms_of terms) x)
 
--- Where the reader finds something at a place, it is found with the terms put in, and a place after it is where it ends.
-abbrev pub PlaceReads : List ℕ → ℕ → Terms → ℕ → Option (code.Place × ℕ) → Type 0
-PlaceReads bytes at terms under r = (sorts : List Sort) (x : Place) (e : ℕ) → argument bytes sorts at ≡ Some (x, e) → PlaceFound terms under x e r
+-- Where the reader finds something at a place, a value with the terms put in is that, and a place after it is where it ends.
+abbrev pub PlaceReads : List ℕ → ℕ → Terms → ℕ → code.Place → Type 0
+PlaceReads bytes at terms under place =
+    (sorts : List Sort) (x : Place) (e : ℕ) → FewTerms terms → argument bytes sorts at ≡ Some (x, e)
+    → place_of place ≡ fill_place under (terms_of terms) x
 
-abbrev pub PlaceEnds : List ℕ → ℕ → Option ℕ → Type 0
-PlaceEnds bytes at r = (sorts : List Sort) (x : Place) (e : ℕ) → argument bytes sorts at ≡ Some (x, e) → r ≡ Some e
+abbrev pub PlaceEnds : List ℕ → ℕ → ℕ → Type 0
+PlaceEnds bytes at next = (sorts : List Sort) (x : Place) (e : ℕ) → argument bytes sorts at ≡ Some (x, e) → next ≡ e
+
+-- There, too, it is found, with the terms put in, and a place after it.
+abbrev pub PlaceReadsIfAny : List ℕ → ℕ → Terms → ℕ → Option (code.Place × ℕ) → Type 0
+PlaceReadsIfAny bytes at terms under r =
+    (sorts : List Sort) (x : Place) (e : ℕ) → argument bytes sorts at ≡ Some (x, e) → PlaceFound terms under x e r
+
+abbrev pub PlaceEndsIfAny : List ℕ → ℕ → Option ℕ → Type 0
+PlaceEndsIfAny bytes at r = (sorts : List Sort) (x : Place) (e : ℕ) → argument bytes sorts at ≡ Some (x, e) → r ≡ Some e
 
 -- A predicate and a count are what the readers find.
 abbrev pub HeadReads : List ℕ → ℕ → Option Head → Type 0
@@ -65,8 +75,12 @@ HeadReads bytes at r =
     → r ≡ Some (record { predicate = p; count = n; next = e₂ })
 
 -- A formula of at most so many levels ends there.
-abbrev pub FormulaEnds : List ℕ → ℕ → ℕ → Option ℕ → Type 0
-FormulaEnds bytes left at r =
+abbrev pub FormulaEnds : List ℕ → ℕ → ℕ → ℕ → Type 0
+FormulaEnds bytes left at r = (n : ℕ) (sorts : List Sort) (A : Formula) (e : ℕ) → n ≤ left → formula bytes n sorts at ≡ Some (A, e) → r ≡ e
+
+-- And that it does is found.
+abbrev pub FormulaEndsIfAny : List ℕ → ℕ → ℕ → Option ℕ → Type 0
+FormulaEndsIfAny bytes left at r =
     (n : ℕ) (sorts : List Sort) (A : Formula) (e : ℕ) → n ≤ left → formula bytes n sorts at ≡ Some (A, e) → r ≡ Some e
 
 -- Comparing two formulas in bytes is comparing what they mean, and where it goes on it comes to their ends.

@@ -8,7 +8,7 @@ ghost use Rattle.ledger.specs.Books.{Leads};
 ghost use Rattle.formula.specs.Comparing.{LeadsTo, ended, PlacesOf, HeadsOf, FormulasOf, BodiesOf, RestsOf, TaggedOf};
 ghost use Rattle.formula.specs.PartPromises.{ComparesOver, PastTags};
 
-use crate::parts::{FormulaAt, head_at, is_a, place_at, tag_at};
+use crate::parts::{FormulaAt, head_at, is_a, place_if_any, tag_at};
 use crate::terms::{MOST_BINDERS, Place};
 use bl::FormulaTag;
 use ledger::{Ledger, ask_order};
@@ -192,11 +192,11 @@ impl Pair<'_> {
         let mut now = ledger;
         let mut next = spot;
         for _ in 0..count {
-            let one = place_at(self.left.bytes, next.left, left_terms, next.under);
+            let one = place_if_any(self.left.bytes, next.left, left_terms, next.under);
             let Some((one, left)) = one else {
                 return different(now, self.offset);
             };
-            let other = place_at(self.right.bytes, next.right, right_terms, next.under);
+            let other = place_if_any(self.right.bytes, next.right, right_terms, next.under);
             let Some((other, right)) = other else {
                 return different(now, self.offset);
             };

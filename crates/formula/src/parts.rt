@@ -2,7 +2,7 @@
 ghost use Rattle.std.specs.Prelude.{◌≡◌, ◌≤◌, IfSome};
 ghost use Rattle.procap.specs.Tells.{Tells};
 ghost use Rattle.procap.specs.Facts.{most_terms};
-ghost use Rattle.formula.specs.Meaning.{tag_of, PlaceReads, PlaceEnds, HeadReads, FormulaEnds};
+ghost use Rattle.formula.specs.Meaning.{tag_of, PlaceReads, PlaceEnds, PlaceReadsIfAny, PlaceEndsIfAny, HeadReads, FormulaEnds, FormulaEndsIfAny};
 ghost use Rattle.formula.specs.PartPromises.{front_on_ctime, FixedReads, VariableReads, FactSpelled, HeadSpelled, PlacesEnd, HeadEnds};
 
 use crate::terms::{Place, Terms};
@@ -43,8 +43,15 @@ impl Judgement {
     }
 }
 
+// What stands where a term may, and the place after it.
+#[derive(Clone, Copy)]
+pub struct PlaceRead {
+    pub place: Place,
+    pub next: usize,
+}
+
 // The tag of the formula at a place, if there is one; past the end there is none.
-pub(crate) fn tag_at(bytes: &[u8], at: usize) -> Option<FormulaTag>
+pub fn tag_at(bytes: &[u8], at: usize) -> Option<FormulaTag>
     ensures { result ≡ tag_of bytes.now at }
 {
     FormulaTag::try_from(*bytes.get(at)?).ok()
@@ -57,9 +64,19 @@ pub fn is_a(bytes: &[u8], at: usize, wanted: FormulaTag) -> bool
     tag_at(bytes, at) == Some(wanted)
 }
 
-// What stands at a place where a term may, with the terms put in, and the place after it.
-pub fn place_at(bytes: &[u8], at: usize, terms: Terms, under: usize) -> Option<(Place, usize)>
-    ensures { PlaceReads bytes.now at terms under result }
+// What stands at a place where a term may, with the terms put in, and the place after it; where nothing is read, the variable 0 and the
+// same place, which say nothing.
+pub fn place_at(bytes: &[u8], at: usize, terms: Terms, under: usize) -> PlaceRead
+    ensures place { PlaceReads bytes.now at terms under result.place }
+    ensures next { PlaceEnds bytes.now at result.next }
+{
+    let (place, next) = place_if_any(bytes, at, terms, under).unwrap_or((Place::Bound(0), at));
+    PlaceRead { place, next }
+}
+
+// The same, if something is read there.
+pub fn place_if_any(bytes: &[u8], at: usize, terms: Terms, under: usize) -> Option<(Place, usize)>
+    ensures { PlaceReadsIfAny bytes.now at terms under result }
 {
     let (byte, after) = number_at::<1>(bytes, at)?;
     let tag = TermTag::try_from(byte as u8).ok()?;
@@ -134,7 +151,7 @@ fn fact_with(bytes: &[u8], head: Head, terms: Terms) -> Option<Fact>
     let mut arguments = [zero; MOST_TERMS];
     let mut next = head.next;
     for i in 0..head.count {
-        let (place, after) = place_at(bytes, next, terms, 0)?;
+        let (place, after) = place_if_any(bytes, next, terms, 0)?;
         let Place::Fixed(term) = place else {
             return None;
         };
@@ -150,9 +167,9 @@ fn fact_with(bytes: &[u8], head: Head, terms: Terms) -> Option<Fact>
 
 // Where what stands at a place ends.
 pub(crate) fn past_place(bytes: &[u8], at: usize) -> Option<usize>
-    ensures { PlaceEnds bytes.now at result }
+    ensures { PlaceEndsIfAny bytes.now at result }
 {
-    let (_, next) = place_at(bytes, at, Terms::none(), 0)?;
+    let (_, next) = place_if_any(bytes, at, Terms::none(), 0)?;
     Some(next)
 }
 
@@ -175,10 +192,17 @@ fn past_head(bytes: &[u8], at: usize) -> Option<usize>
     past_places(bytes, head.next, head.count)
 }
 
-// Where a formula of at most so many levels ends. (`ends::formula_end` asks of each place its sort besides, of bytes that may be no
-// formula; here they are one, and no binders are carried along.)
-pub fn past_formula(bytes: &[u8], at: usize, left: u64) -> Option<usize>
+// Where a formula of at most so many levels ends; where none is read, the same place.
+pub fn past_formula(bytes: &[u8], at: usize, left: u64) -> usize
     ensures { FormulaEnds bytes.now left at result }
+{
+    past_formula_if_any(bytes, at, left).unwrap_or(at)
+}
+
+// The same, if a formula is read there. (`ends::formula_end` asks of each place its sort besides, of bytes that may be no
+// formula; here they are one, and no binders are carried along.)
+pub fn past_formula_if_any(bytes: &[u8], at: usize, left: u64) -> Option<usize>
+    ensures { FormulaEndsIfAny bytes.now left at result }
 {
     if left == 0 {
         return None;
@@ -188,18 +212,20 @@ pub fn past_formula(bytes: &[u8], at: usize, left: u64) -> Option<usize>
     match tag_at(bytes, at)? {
         FormulaTag::TopTag | FormulaTag::FalsityTag => Some(after),
         FormulaTag::AndTag | FormulaTag::ImpliesTag | FormulaTag::OrTag => {
-            let middle = past_formula(bytes, after, lower)?;
-            past_formula(bytes, middle, lower)
+            let middle = past_formula_if_any(bytes, after, lower)?;
+            past_formula_if_any(bytes, middle, lower)
         }
-        FormulaTag::AllNamesTag | FormulaTag::AllTimesTag => past_formula(bytes, after, lower),
+        FormulaTag::AllNamesTag | FormulaTag::AllTimesTag => past_formula_if_any(
+            bytes, after, lower,
+        ),
         FormulaTag::SaysTag => {
             let who = past_place(bytes, after)?;
-            past_formula(bytes, who, lower)
+            past_formula_if_any(bytes, who, lower)
         }
         FormulaTag::AtTag => {
             let from = past_place(bytes, after)?;
             let to = past_place(bytes, from)?;
-            past_formula(bytes, to, lower)
+            past_formula_if_any(bytes, to, lower)
         }
         FormulaTag::AtomTag | FormulaTag::FactTag => past_head(bytes, after),
         FormulaTag::OrderTag => {

@@ -1,8 +1,12 @@
-// The reader of proof bytes: the lent bytes and a place in them, as D77 has it. Every byte of a proof that is looked at, to see that it
-// is well formed or to walk it, is read by it.
-ghost use Rattle.std.specs.Prelude.{◌≡◌, ◌+◌, ◌≤◌, ◌<◌, length, get_or, slice_get};
+// The reader of proof bytes: the lent bytes and a place in them, as D77 has it. Every byte of a proof that is read, to see that it is
+// well formed or to walk it, is read by one of its steps.
+ghost use Rattle.std.specs.Prelude.{◌≡◌, ◌+◌, ◌≤◌, ◌<◌, length, get_or, slice_get, IfSome};
+ghost use Rattle.procap.specs.Bytes.{term};
+ghost use Rattle.procap.specs.Writable.{TermInForm};
 
-use procap::bytes::past;
+use procap::bytes::{past, term_by};
+use procap::fact::Term;
+use procap::tag::TermTag;
 
 // The lent bytes of a proof and a place in them.
 #[derive(Clone, Copy)]
@@ -17,6 +21,15 @@ impl<'a> Reader<'a> {
         ensures { result ≡ slice_get self.entry.proof.now self.entry.at }
     {
         self.proof.get(self.at).copied()
+    }
+
+    // The term at its place and the place after it, if one is there.
+    pub(crate) fn term(self) -> Option<(Term, usize)>
+        ensures reads { result ≡ term self.entry.proof.now self.entry.at }
+        ensures in_form { IfSome result (λ r. TermInForm r.0) }
+    {
+        let tag = TermTag::try_from(self.byte()?).ok()?;
+        term_by(self.proof, tag, self.at + 1)
     }
 
     // The reader of the same bytes at the place after a byte; past the end it stays.

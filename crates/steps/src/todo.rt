@@ -5,7 +5,7 @@ ghost use Rattle.steps.specs.Rooms.{Room as RoomOf, whole_room, inner, assuming}
 ghost use Rattle.steps.specs.Todo.{OpensIndex, OpensInferring, OpensChecking, OpensTimes, Opens};
 
 use crate::reader::Reader;
-use crate::{MOST_PROOF_LEVELS, check_tag_at, infer_tag_at, term_at, time_at};
+use crate::{MOST_PROOF_LEVELS, check_tag_at, infer_tag_at, term_if_any, time_if_any};
 use bl::{CheckTag, InferTag};
 use procap::bytes::past;
 use std::marker::Model;
@@ -152,7 +152,7 @@ impl<'a> Source<'a> {
                 later: Todo::Second(room),
             }),
             InferTag::InstanceTag => {
-                let (_, next) = term_at(self.proof, at)?;
+                let (_, next) = term_if_any(self.proof, at)?;
                 Some(Opened::One { next, part })
             }
         }
@@ -216,7 +216,7 @@ fn open_index(proof: &[u8], limit: usize, at: usize) -> Option<Opened>
 fn open_times(proof: &[u8], at: usize) -> Option<Opened>
     ensures { OpensTimes proof at result }
 {
-    let (_, between) = time_at(proof, at)?;
-    let (_, next) = time_at(proof, between)?;
+    let (_, between) = time_if_any(proof, at)?;
+    let (_, next) = time_if_any(proof, between)?;
     Some(Opened::Leaf { next, states: 0 })
 }

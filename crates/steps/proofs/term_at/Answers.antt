@@ -1,22 +1,16 @@
--- The byte at the place is the tag that the reader goes on from; past the end it reads none.
-use mathlib.Core.Path.{◌∙◌}
+-- What was found is what the reader finds; where there is none, name 0 is in form.
+use mathlib.Core.Path.{sym}
 use native.Mathlib.Omega.{arith}
-use Rattle.steps.proofs.BytesAt.{as_before, inside}
-use Rattle.steps.proofs.Opening.{no_term_at, term_untagged, term_tagged}
+use Rattle.procap.specs.Writable.{TermInForm}
+use Rattle.steps.proofs.TermsGiven.{given_found, given_none}
 use Rattle.steps.proofs.term_at.Goals as goal
 
-pub returns-in_err-byte-clause-reads : goal.returns-in_err-byte-clause-reads
-returns-in_err-byte-clause-reads c = rw c.from_residual.ensures (no_term_at _ _ c.in_err-byte.ensures)
+pub returns-in-Some-clause-reads : goal.returns-in-Some-clause-reads
+returns-in-Some-clause-reads c = given_found _ _ (sym c.in-Some.ensures.reads)
 
-pub returns-in_err-tag-clause-reads : goal.returns-in_err-tag-clause-reads
-returns-in_err-tag-clause-reads c =
-    rw c.from_residual-in_err-tag.ensures
-    (term_untagged c.args.proof.now c.args.at c.in_ok-byte.ensures (c.in_err-tag.ensures.value ∙ (rw c.try_from.ensures (as_before _ _))))
+pub returns-in-None-clause-reads : goal.returns-in-None-clause-reads
+returns-in-None-clause-reads c = given_none _ _ (sym c.in-None.ensures.reads)
 
-pub overflow_add-at : goal.overflow_add-at
-overflow_add-at c = omega (arith, inside c.args.proof.now c.args.at c.in_ok-byte.ensures)
-
-pub returns-clause-reads : goal.returns-clause-reads
-returns-clause-reads c =
-    c.term_by.ensures.reads
-    ∙ term_tagged c.args.proof.now c.args.at c.in_ok-byte.ensures (c.in_ok-tag.ensures.value ∙ (rw c.try_from.ensures (as_before _ _)))
+pub returns-in-None-clause-in_form : goal.returns-in-None-clause-in_form
+unfolding TermInForm
+returns-in-None-clause-in_form c = omega arith

@@ -1,6 +1,6 @@
 -- A time goes on from a term, and there is none at a name.
 use Rattle.steps.proofs.Opening.{no_term, a_name, a_time}
-use Rattle.steps.proofs.time_at.Goals as goal
+use Rattle.steps.proofs.time_if_any.Goals as goal
 
 pub returns-in_err-time : goal.returns-in_err-time
 returns-in_err-time c = λ k. rw c.from_residual.ensures (no_term _ _ k c.in_err-time.ensures.reads)
