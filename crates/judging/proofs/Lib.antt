@@ -10,3 +10,4 @@ pub mod PartsTaken
 pub mod PlacesTaken
 pub mod InstancesTaken
 pub mod Goals
+pub mod ByNumbers

@@ -14,7 +14,7 @@ use Rattle.ledger.specs.declared.Ledger.{Ledger}
 use Rattle.formula.specs.declared.parts.FormulaAt.{FormulaAt}
 use Rattle.formula.specs.declared.parts.Judgement.{Judgement}
 use Rattle.ledger.specs.Books.{misfitted}
-use Rattle.formula.specs.Meaning.{tag_of, begin, Means, On, FormulaEnds}
+use Rattle.formula.specs.Meaning.{tag_of, begin, Means, On, FormulaEndsIfAny}
 use Rattle.judging.specs.Judging.{part_of, sides, TwoSided, Takes, takes, unfit}
 use Rattle.formula.proofs.Shapes.{inside, TwoParts, and_shape, implies_shape, or_shape, not_and, not_implies, not_or}
 use Rattle.judging.proofs.WalkParts.{and_parts, no_and, implies_parts, no_implies, or_parts, no_or}
@@ -25,7 +25,7 @@ After bytes place next = place < length bytes → next ≡ place + 1
 
 -- A formula of at most so many levels that begins at a place ends there.
 abbrev EndsAt : List ℕ → ℕ → Option ℕ → Type 0
-EndsAt bytes place end = FormulaEnds bytes most_formula_levels place end
+EndsAt bytes place end = FormulaEndsIfAny bytes most_formula_levels place end
 
 -- A part that begins at a place, on the same interval.
 pub part_on : {bytes : List ℕ} (j : Judgement) {A : Formula} {part : Judgement} {at place : ℕ}

@@ -26,7 +26,7 @@ use Rattle.formula.specs.declared.parts.Judgement.{Judgement}
 use Rattle.judging.specs.declared.judge.Span.{Span}
 use Rattle.ledger.specs.Books.{book, Sound, Gives}
 use Rattle.formula.specs.PutIn.{terms_of, FewTerms, place_of, fill_place}
-use Rattle.formula.specs.Meaning.{tag_of, begin, Means, On, PlaceReads, SpellsPlaces}
+use Rattle.formula.specs.Meaning.{tag_of, begin, Means, On, PlaceReadsIfAny, SpellsPlaces}
 use Rattle.judging.specs.Judging.{at_parts, fact_goal, order_goal, Takes, takes, unfit}
 use Rattle.judging.specs.Pieces.{two_times}
 use Rattle.formula.proofs.Shapes.{Stands, inside, says_shape, at_shape, fact_shape, order_shape}
@@ -66,7 +66,7 @@ time_no_name e = rw e
 
 -- What reading a place tells: the terms are put in, and the place after it.
 abbrev PlaceTold : List ℕ → Terms → ℕ → Option (Place × ℕ) → Type 0
-PlaceTold bytes terms at r = PlaceReads bytes at terms 0 r
+PlaceTold bytes terms at r = PlaceReadsIfAny bytes at terms 0 r
 
 -- What is read there is told, and where nothing is told nothing is read.
 record OnePlace (found : Place) (next : ℕ) (terms : Terms) (x : tree.Place) (e : ℕ) : Type 0 where

@@ -4,3 +4,4 @@ pub mod RowNumbers
 pub mod Judging
 pub mod Pieces
 pub mod StepPromises
+pub mod Numbers

@@ -12,7 +12,7 @@ use crate::either::side_inside;
 use crate::rows::{MOST_ROWS, Row, put_row, row_at};
 use bl::FormulaTag;
 use formula::compare::{LentFormula, same};
-use formula::parts::{FormulaAt, Judgement, fact_at, is_a, past_formula, place_at};
+use formula::parts::{FormulaAt, Judgement, fact_at, is_a, past_formula_if_any, place_if_any};
 use formula::terms::{MOST_FORMULA_LEVELS, Place, Terms};
 use ledger::facts::FactList;
 use ledger::{Ledger, ask_fact, ask_order};
@@ -20,7 +20,7 @@ use procap::bytes::past;
 use procap::fact::Term;
 use procap::time::Time;
 use steps::reader::index_at;
-use steps::time_at;
+use steps::time_if_any;
 use strength::table::{Strengths, as_strong};
 
 // The view of a principal, and on which interval.
@@ -293,7 +293,7 @@ pub fn sides_of(
         return no_sides(ledger, offset);
     }
     let first = past(bytes, judgement.formula.at);
-    let Some(second) = past_formula(bytes, first, MOST_FORMULA_LEVELS) else {
+    let Some(second) = past_formula_if_any(bytes, first, MOST_FORMULA_LEVELS) else {
         return no_sides(ledger, offset);
     };
     Sides {
@@ -395,10 +395,10 @@ fn applied(
     ensures { PutsToUse buffer.now proof.now offset inferred second_end result }
 {
     let judgement = inferred.judgement;
-    let Some((begin, between)) = time_at(proof, second_end) else {
+    let Some((begin, between)) = time_if_any(proof, second_end) else {
         return unused(judgement, inferred.ledger.misfit(offset));
     };
-    let Some((end, next)) = time_at(proof, between) else {
+    let Some((end, next)) = time_if_any(proof, between) else {
         return unused(judgement, inferred.ledger.misfit(offset));
     };
     let parts = sides_of(
@@ -541,10 +541,10 @@ fn lifted(bytes: &[u8], offset: usize, judgement: Judgement, ledger: Ledger) -> 
 fn span_at(bytes: &[u8], at: usize, terms: Terms, offset: usize, ledger: Ledger) -> Span
     ensures { TakesTimes bytes.now at terms offset ledger result }
 {
-    let Some((one_place, between)) = place_at(bytes, at, terms, 0) else {
+    let Some((one_place, between)) = place_if_any(bytes, at, terms, 0) else {
         return no_span(ledger, offset);
     };
-    let Some((other_place, next)) = place_at(bytes, between, terms, 0) else {
+    let Some((other_place, next)) = place_if_any(bytes, between, terms, 0) else {
         return no_span(ledger, offset);
     };
     let Place::Fixed(one_term) = one_place else {
@@ -588,7 +588,7 @@ fn said(bytes: &[u8], offset: usize, judgement: Judgement, ledger: Ledger) -> In
     if !is_a(bytes, formula.at, FormulaTag::SaysTag) {
         return not_inside(judgement, ledger, offset);
     }
-    let Some((place, next)) = place_at(bytes, past(bytes, formula.at), terms, 0) else {
+    let Some((place, next)) = place_if_any(bytes, past(bytes, formula.at), terms, 0) else {
         return not_inside(judgement, ledger, offset);
     };
     let Place::Fixed(term) = place else {

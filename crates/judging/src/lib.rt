@@ -3,4 +3,5 @@
 
 pub mod either; // the steps of an "or" and of falsity
 pub mod judge; // what one step makes of a goal, or of what was inferred
+pub mod numbers; // the same over plain numbers that a caller lends
 pub mod rows; // assumptions and certificates as rows of numbers

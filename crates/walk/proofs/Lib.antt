@@ -5,3 +5,4 @@ pub mod Inferring
 pub mod Assuming
 pub mod Checking
 pub mod CheckingCases
+pub mod ByNumbers

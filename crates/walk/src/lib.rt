@@ -8,6 +8,8 @@ ghost use Rattle.walk.specs.WalkCalls.{sources, Infers, InfersTagged, Checks, Ch
 ghost use Rattle.bl.specs.declared.CheckTag.TheVariants.{PairTag, OrOutTag};
 ghost use Rattle.bl.specs.declared.InferTag.TheVariants.{ApplyTag};
 
+pub mod numbers; // the same walk over plain numbers that a caller lends
+
 use bl::{CheckTag, FormulaTag, InferTag};
 use formula::parts::Judgement;
 use judging::either::{from_falsity, side_on};
@@ -20,7 +22,7 @@ use ledger::Ledger;
 use ledger::facts::FactList;
 use procap::bytes::past;
 use steps::ends::end_in;
-use steps::{check_tag_at, infer_tag_at, term_at};
+use steps::{check_tag_at, infer_tag_at, term_if_any};
 use strength::table::Strengths;
 
 // What is lent all through a walk: formulas, proof and state in bytes, certificates in rows, strengths if there are any, and where
@@ -137,7 +139,7 @@ impl Sources<'_, '_, '_> {
             }
             InferTag::ApplyTag => self.apply(facts, assumptions, here),
             InferTag::InstanceTag => {
-                let Some((term, next)) = term_at(self.proof, begin) else {
+                let Some((term, next)) = term_if_any(self.proof, begin) else {
                     return nothing(ledger.misfit(at));
                 };
                 let part = self.infer(facts, assumptions, here.part(next, ledger));

@@ -10,7 +10,7 @@ unfolding sides TwoSided
 returns c =
     λ state list F a b t1 t2 k e₃ e₄ going s on time₁ time₂.
     let begins = same_read _ (sym (c.in-Some.ensures k)) time₁ in
-    let ends = same_read _ (sym (c.in-Some-time_at.ensures k)) (rw (← begins.1) at time₂) in
+    let ends = same_read _ (sym (c.in-Some-time_if_any.ensures k)) (rw (← begins.1) at time₂) in
     put_to_use c.args.inferred.judgement c.sides_of-parts.result.first c.sides_of-parts.result.second _ on.from on.to begins.0 ends.0 s
     (c.sides_of-parts.ensures F tt on.means)
     (λ sound. c.covers.ensures state list sound)
