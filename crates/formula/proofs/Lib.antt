@@ -17,3 +17,4 @@ pub mod ComparingParts
 pub mod SortsAround
 pub mod Endings
 pub mod Shifted
+pub mod ComparesInNumbers

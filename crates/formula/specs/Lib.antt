@@ -5,3 +5,4 @@ pub mod Ends
 pub mod Meaning
 pub mod Comparing
 pub mod PartPromises
+pub mod Numbers

@@ -11,3 +11,5 @@ pub mod PlacesTaken
 pub mod InstancesTaken
 pub mod Goals
 pub mod ByNumbers
+pub mod StepsInNumbers
+pub mod InNumbers

@@ -14,14 +14,16 @@ use lib.ListN.{length, get_or, take, set, length-set}
 use lib.Seq.{sets, length-sets, get_or-set_same, get_or-set_other, get_or-append-add, length-take-le, take-suc, ext_get_or}
 use lib.Dec.{ltb, eqb}
 use Rattle.procap.specs.Tells.{pick}
-use Rattle.procap.specs.Numbered.{time_kind, time_second, time_of}
+use Rattle.procap.specs.Numbered.{time_of}
 use Rattle.procap.proofs.Numbered.{time_back}
 use Rattle.judging.proofs.Stored.{sets_after}
 use Rattle.judging.specs.declared.rows.Row.{Row}
+use Rattle.judging.specs.declared.rows.RowNumbers.{RowNumbers}
 use Rattle.formula.specs.PutIn.{terms_numbers}
 use Rattle.formula.specs.PartPromises.{front_on_ctime}
-use Rattle.judging.specs.RowsOf.{numbers_in, time_in, whose_in, row_from, row_in, most_rows, row_numbers, all_numbers}
-use Rattle.judging.specs.RowNumbers.{whose_kind, whose_value, numbers_of, rows_with}
+use Rattle.judging.specs.RowsOf.{numbers_in, whose_in, row_from, row_in, most_rows, row_numbers, all_numbers}
+use Rattle.formula.specs.Numbers.{numbers_of_judgement}
+use Rattle.judging.specs.RowNumbers.{whose_kind, whose_value, row_of, numbers_of_row, two_in, numbers_from, numbers_at, in_order, rows_put, rows_with}
 
 -- ── Numbers stored one after another ──
 
@@ -105,8 +107,8 @@ module _ (xs ys : List ℕ) (s t : ℕ) where
   whose_alike same =
       ap₂ (λ (a b : ℕ). pick (eqb a 0) None (Some b)) (first_alike same) (same 1 (omega arith))
 
-  time_alike : Alike 2 xs s ys t → time_in xs s ≡ time_in ys t
-  time_alike same = ap₂ time_of (first_alike same) (same 1 (omega arith))
+  time_alike : Alike 2 xs s ys t → two_in xs s ≡ two_in ys t
+  time_alike same = λ d. record { kind = first_alike same d; second = same 1 (omega arith) d }
 
   numbers_alike : (n : ℕ) → Alike n xs s ys t → numbers_in xs s n ≡ numbers_in ys t n
   numbers_alike n same =
@@ -116,8 +118,8 @@ module _ (xs ys : List ℕ) (s t : ℕ) where
   further : (n m j : ℕ) → m + j ≤ n → Alike n xs s ys t → Alike j xs (s + m) ys (t + m)
   further n m j fits same k inside = simp add_assoc (same (m + k) (omega arith))
 
-rows_alike : (xs ys : List ℕ) (i j : ℕ) → Alike row_numbers xs (i * row_numbers) ys (j * row_numbers) → row_from xs i ≡ row_from ys j
-unfolding row_from
+rows_alike : (xs ys : List ℕ) (i j : ℕ) → Alike row_numbers xs (i * row_numbers) ys (j * row_numbers) → numbers_from xs i ≡ numbers_from ys j
+unfolding numbers_from
 rows_alike xs ys i j same =
     let s = i * row_numbers in
     let t = j * row_numbers in
@@ -157,21 +159,52 @@ module _ (rows : List ℕ) (i : ℕ) where
   unfolding row_in
   row_of_none apart = rw (ne_eqb (length rows) all_numbers apart)
 
+-- The same of their numbers.
+pub numbers_whole : (rows : List ℕ) (i : ℕ) → length rows ≡ all_numbers → numbers_at rows i ≡ numbers_from rows i
+unfolding numbers_at
+numbers_whole rows i all = rw (eq-eqb (length rows) all_numbers all)
+
+pub numbers_of_none : (rows : List ℕ) (i : ℕ) → (length rows ≡ all_numbers → ⊥)
+    → numbers_at rows i ≡ record { whose = None; judgement = numbers_of_judgement front_on_ctime }
+unfolding numbers_at
+numbers_of_none rows i apart = rw (ne_eqb (length rows) all_numbers apart)
+
 -- In rows of as many numbers, a row that is the same in its own is the same.
-same_row : (xs ys : List ℕ) (i : ℕ) → length xs ≡ length ys → row_from xs i ≡ row_from ys i → row_in xs i ≡ row_in ys i
-unfolding row_in
+same_row : (xs ys : List ℕ) (i : ℕ) → length xs ≡ length ys → numbers_from xs i ≡ numbers_from ys i → numbers_at xs i ≡ numbers_at ys i
+unfolding numbers_at
 same_row xs ys i n same = rw (n, same)
+
+-- A row is what its numbers stand for, and a row's numbers stand for it.
+pub row_by_numbers : (rows : List ℕ) (i : ℕ) → row_in rows i ≡ row_of (numbers_at rows i)
+unfolding row_in row_from numbers_at numbers_from time_of
+row_by_numbers rows i = by (eqb (length rows) all_numbers)
+  where
+    by : (all : Bool)
+        → pick all (row_from rows i) (record { whose = None; judgement = front_on_ctime })
+        ≡ row_of (pick all (numbers_from rows i) (record { whose = None; judgement = numbers_of_judgement front_on_ctime }))
+    by true = refl
+    by false = refl
+
+pub row_again : (row : Row) → row_of (numbers_of_row row) ≡ row
+row_again row = λ d. record {
+  whose = row.whose;
+  judgement = record { formula = row.judgement.formula; from = time_back row.judgement.from d; to = time_back row.judgement.to d };
+}
+
+-- So where its numbers stay, a row does.
+pub row_stays : (rows after : List ℕ) (i : ℕ) → numbers_at after i ≡ numbers_at rows i → row_in after i ≡ row_in rows i
+row_stays rows after i same = row_by_numbers after i ∙ ap row_of same ∙ sym (row_by_numbers rows i)
 
 -- ── A row that is put ──
 
 -- Its parts put one after another are all of them.
-pub row_put : (before : List ℕ) (start : ℕ) {first second third fourth after : List ℕ} {k₁ v₁ : ℕ} (row : Row)
+pub row_put : (before : List ℕ) (start : ℕ) {first second third fourth after : List ℕ} {k₁ v₁ : ℕ} (row : RowNumbers)
     → k₁ ≡ whose_kind row.whose → v₁ ≡ whose_value row.whose → first ≡ sets before start (k₁ ∷ v₁ ∷ [])
-    → second ≡ sets first (start + 2) (time_kind row.judgement.from ∷ time_second row.judgement.from ∷ [])
-    → third ≡ sets second (start + 4) (time_kind row.judgement.to ∷ time_second row.judgement.to ∷ [])
+    → second ≡ sets first (start + 2) (row.judgement.from.kind ∷ row.judgement.from.second ∷ [])
+    → third ≡ sets second (start + 4) (row.judgement.to.kind ∷ row.judgement.to.second ∷ [])
     → fourth ≡ sets third (start + 6) (row.judgement.formula.at ∷ row.judgement.formula.terms.count ∷ [])
     → after ≡ sets fourth (start + 8) row.judgement.formula.terms.numbers
-    → after ≡ sets before start (numbers_of row)
+    → after ≡ sets before start (in_order row)
 row_put before start row a b one two three four five = rw (five, four, three, two, one, a, b) (simp towards_suc)
 
 -- Each part is read back.
@@ -179,8 +212,8 @@ whose_back : (w : Option ℕ) → pick (eqb (whose_kind w) 0) None (Some (whose_
 whose_back None = refl
 whose_back (Some k) = refl
 
-row_back : (row : Row) → length row.judgement.formula.terms.numbers ≡ terms_numbers → row_from (numbers_of row) 0 ≡ row
-unfolding row_from whose_in
+row_back : (row : RowNumbers) → length row.judgement.formula.terms.numbers ≡ terms_numbers → numbers_from (in_order row) 0 ≡ row
+unfolding numbers_from whose_in
 row_back row e = λ d. record {
   whose = whose_back row.whose d;
   judgement = record {
@@ -188,64 +221,79 @@ row_back row e = λ d. record {
       at = row.judgement.formula.at;
       terms = record { count = row.judgement.formula.terms.count; numbers = sym numbers_back d };
     };
-    from = time_back row.judgement.from d;
-    to = time_back row.judgement.to d;
+    from = row.judgement.from;
+    to = row.judgement.to;
   };
 }
   where
     numbers : List ℕ
     numbers = row.judgement.formula.terms.numbers
 
-    numbers_back : numbers ≡ numbers_in (numbers_of row) 8 terms_numbers
-    numbers_back = numbers_are numbers (numbers_of row) 8 terms_numbers e (λ k inside. sym (get_or-append-add (take 8 (numbers_of row)) numbers k 0))
+    numbers_back : numbers ≡ numbers_in (in_order row) 8 terms_numbers
+    numbers_back = numbers_are numbers (in_order row) 8 terms_numbers e (λ k inside. sym (get_or-append-add (take 8 (in_order row)) numbers k 0))
 
 -- The rows with a row put among them, by cases of whether they are all there and have such an index.
-module _ (rows : List ℕ) (index : ℕ) (row : Row) where
-  pub not_all_there : (length rows ≡ all_numbers → ⊥) → rows ≡ rows_with rows index row
-  unfolding rows_with
+module _ (rows : List ℕ) (index : ℕ) (row : RowNumbers) where
+  pub not_all_there : (length rows ≡ all_numbers → ⊥) → rows ≡ rows_put rows index row
+  unfolding rows_put
   not_all_there apart = rw (ne_eqb (length rows) all_numbers apart)
 
   module _ (all : length rows ≡ all_numbers) where
-    pub no_such_row : most_rows ≤ index → rows ≡ rows_with rows index row
-    unfolding rows_with
+    pub no_such_row : most_rows ≤ index → rows ≡ rows_put rows index row
+    unfolding rows_put
     no_such_row above = rw (eq-eqb (length rows) all_numbers all, le-ltb index most_rows above)
 
-    pub put_there : index < most_rows → rows_with rows index row ≡ sets rows (index * row_numbers) (numbers_of row)
-    unfolding rows_with
+    pub put_there : index < most_rows → rows_put rows index row ≡ sets rows (index * row_numbers) (in_order row)
+    unfolding rows_put
     put_there below = rw (eq-eqb (length rows) all_numbers all, lt-ltb index most_rows below)
 
 -- What is so of the rows as they were and of those with the numbers of a row stored is so of the rows with the row.
-with_either : (P : List ℕ → Type 0) (rows : List ℕ) (index : ℕ) (row : Row)
-    → P rows → P (sets rows (index * row_numbers) (numbers_of row)) → P (rows_with rows index row)
-unfolding rows_with
+with_either : (P : List ℕ → Type 0) (rows : List ℕ) (index : ℕ) (row : RowNumbers)
+    → P rows → P (sets rows (index * row_numbers) (in_order row)) → P (rows_put rows index row)
+unfolding rows_put
 with_either P rows index row same put = either (eqb (length rows) all_numbers) (either (ltb index most_rows) put same) same
   where
     either : (b : Bool) {xs ys : List ℕ} → P xs → P ys → P (pick b xs ys)
     either true p q = p
     either false p q = q
 
-module _ (rows : List ℕ) (index : ℕ) (row : Row) {after : List ℕ} (put : after ≡ rows_with rows index row) where
-  -- The row stands there, where all rows are there and it is one of theirs, and it has all its numbers.
-  pub row_there : length rows ≡ all_numbers → index < most_rows → length row.judgement.formula.terms.numbers ≡ terms_numbers → row_in after index ≡ row
-  row_there all below full =
-      row_whole after index (ap length (put ∙ put_there rows index row all below) ∙ length-sets rows (index * row_numbers) (numbers_of row) ∙ all)
-      ∙ rows_alike after (numbers_of row) index 0
-      (λ k inside. rw (put ∙ put_there rows index row all below, zero-add) (stands rows (index * row_numbers) (numbers_of row) k (omega arith) (omega arith)))
+module _ (rows : List ℕ) (index : ℕ) (row : RowNumbers) {after : List ℕ} (put : after ≡ rows_put rows index row) where
+  -- The row's numbers stand there, where all rows are there and it is one of theirs, and it has all its numbers.
+  pub numbers_there : length rows ≡ all_numbers → index < most_rows → length row.judgement.formula.terms.numbers ≡ terms_numbers → numbers_at after index ≡ row
+  numbers_there all below full =
+      numbers_whole after index (ap length (put ∙ put_there rows index row all below) ∙ length-sets rows (index * row_numbers) (in_order row) ∙ all)
+      ∙ rows_alike after (in_order row) index 0
+      (λ k inside. rw (put ∙ put_there rows index row all below, zero-add) (stands rows (index * row_numbers) (in_order row) k (omega arith) (omega arith)))
       ∙ row_back row full
 
-  -- A row stays that none of its numbers are stored in,
-  stays_outside : (i : ℕ) → ((k : ℕ) → k < row_numbers → index * row_numbers ≤ i * row_numbers + k → index * row_numbers + length (numbers_of row) ≤ i * row_numbers + k)
-      → row_in after i ≡ row_in rows i
+  -- So the row does that they stand for.
+  pub row_of_there : length rows ≡ all_numbers → index < most_rows → length row.judgement.formula.terms.numbers ≡ terms_numbers → row_in after index ≡ row_of row
+  row_of_there all below full = row_by_numbers after index ∙ ap row_of (numbers_there all below full)
+
+  -- Those of a row stay that none of its numbers are stored in,
+  stays_outside : (i : ℕ) → ((k : ℕ) → k < row_numbers → index * row_numbers ≤ i * row_numbers + k → index * row_numbers + length (in_order row) ≤ i * row_numbers + k)
+      → numbers_at after i ≡ numbers_at rows i
   stays_outside i outside =
       rw put
-      (with_either (λ after. row_in after i ≡ row_in rows i) rows index row refl
-      (same_row (sets rows (index * row_numbers) (numbers_of row)) rows i (length-sets rows (index * row_numbers) (numbers_of row))
-      (rows_alike (sets rows (index * row_numbers) (numbers_of row)) rows i i
-      (λ k inside. stays rows (index * row_numbers) (numbers_of row) (i * row_numbers + k) (outside k inside)))))
+      (with_either (λ after. numbers_at after i ≡ numbers_at rows i) rows index row refl
+      (same_row (sets rows (index * row_numbers) (in_order row)) rows i (length-sets rows (index * row_numbers) (in_order row))
+      (rows_alike (sets rows (index * row_numbers) (in_order row)) rows i i
+      (λ k inside. stays rows (index * row_numbers) (in_order row) (i * row_numbers + k) (outside k inside)))))
 
-  -- as each before it does, and, where it has all its numbers, every other.
+  -- as those of each before it do, and, where it has all its numbers, of every other.
+  pub earlier_numbers_stay : (i : ℕ) → i < index → numbers_at after i ≡ numbers_at rows i
+  earlier_numbers_stay i before = stays_outside i (λ k inside l. absurd (omega arith))
+
+  pub other_numbers_stay : length row.judgement.formula.terms.numbers ≡ terms_numbers → (i : ℕ) → (i ≡ index → ⊥) → numbers_at after i ≡ numbers_at rows i
+  other_numbers_stay full i other = stays_outside i (λ k inside l. omega arith)
+
+-- The same of a row on two times.
+module _ (rows : List ℕ) (index : ℕ) (row : Row) {after : List ℕ} (put : after ≡ rows_with rows index row) where
+  pub row_there : length rows ≡ all_numbers → index < most_rows → length row.judgement.formula.terms.numbers ≡ terms_numbers → row_in after index ≡ row
+  row_there all below full = row_of_there rows index (numbers_of_row row) put all below full ∙ row_again row
+
   pub earlier_stay : (i : ℕ) → i < index → row_in after i ≡ row_in rows i
-  earlier_stay i before = stays_outside i (λ k inside l. absurd (omega arith))
+  earlier_stay i before = row_stays rows after i (earlier_numbers_stay rows index (numbers_of_row row) put i before)
 
   pub others_stay : length row.judgement.formula.terms.numbers ≡ terms_numbers → (i : ℕ) → (i ≡ index → ⊥) → row_in after i ≡ row_in rows i
-  others_stay full i other = stays_outside i (λ k inside l. omega arith)
+  others_stay full i other = row_stays rows after i (other_numbers_stay rows index (numbers_of_row row) put full i other)

@@ -1,18 +1,15 @@
-// The same steps over plain numbers that a caller lends: strengths, the list of facts, and times; and the two sides of a conjunction.
+// The same steps over plain numbers that a caller lends: strengths, and the list of facts; and the two sides of a conjunction.
 ghost use Rattle.std.specs.Prelude.{◌≡◌};
-ghost use Rattle.procap.specs.Numbered.{time_of};
-ghost use Rattle.judging.specs.Judging.{plain_side, first_side, second_side};
+ghost use Rattle.judging.specs.Judging.{first_side, second_side};
 ghost use Rattle.judging.specs.StepPromises.{Continues};
-ghost use Rattle.judging.specs.Numbers.{UsesLocal, UsesCertificate, MeetsFact};
+ghost use Rattle.judging.specs.Numbers.{UsesLocal, UsesCertificate, UsesLocalInNumbers, UsesCertificateInNumbers, ContinuesInNumbers, MeetsFact};
 
+use crate::judge;
 use crate::judge::{Inferred, Scope, Side, conjunct};
-use crate::rows::Row;
-use crate::{either, judge};
 use formula::parts::Judgement;
 use ledger::Ledger;
 use ledger::facts::FactList;
 use ledger::numbers::Counted;
-use procap::time::TimeNumbers;
 use strength::table::Strengths;
 
 // 20: an assumption as it stands, by strengths in numbers.
@@ -24,7 +21,8 @@ pub fn local(
     offset: usize,
     ledger: Ledger,
 ) -> Inferred
-    ensures { UsesLocal proof.now assumptions.now strengths.now scope offset ledger result }
+    ensures listed { UsesLocal proof.now assumptions.now strengths.now scope offset ledger result }
+    ensures counted { UsesLocalInNumbers proof.now assumptions.now strengths.now scope offset ledger result }
 {
     let found = Strengths::of_numbers(strengths);
     judge::local(proof, assumptions, found.as_ref(), scope, offset, ledger)
@@ -39,7 +37,8 @@ pub fn certificate(
     offset: usize,
     ledger: Ledger,
 ) -> Inferred
-    ensures { UsesCertificate proof.now certificates.now strengths.now scope offset ledger result }
+    ensures listed { UsesCertificate proof.now certificates.now strengths.now scope offset ledger result }
+    ensures counted { UsesCertificateInNumbers proof.now certificates.now strengths.now scope offset ledger result }
 {
     let found = Strengths::of_numbers(strengths);
     judge::certificate(proof, certificates, found.as_ref(), scope, offset, ledger)
@@ -47,14 +46,16 @@ pub fn certificate(
 
 // 23: the first side of the conjunction that was inferred.
 pub fn first(buffer: &[u8], offset: usize, inferred: Inferred) -> Inferred
-    ensures { Continues buffer.now inferred (first_side offset) result }
+    ensures listed { Continues buffer.now inferred (first_side offset) result }
+    ensures counted { ContinuesInNumbers buffer.now inferred (first_side offset) result }
 {
     conjunct(buffer, offset, Side::First, inferred)
 }
 
 // 24: the second side of the conjunction that was inferred.
 pub fn second(buffer: &[u8], offset: usize, inferred: Inferred) -> Inferred
-    ensures { Continues buffer.now inferred (second_side offset) result }
+    ensures listed { Continues buffer.now inferred (second_side offset) result }
+    ensures counted { ContinuesInNumbers buffer.now inferred (second_side offset) result }
 {
     conjunct(buffer, offset, Side::Second, inferred)
 }
@@ -77,11 +78,4 @@ pub fn state_fact(
         ledger,
         count: list.count(),
     }
-}
-
-// The side of a formula that begins at a place, as a plain assumption on an interval that two pairs of numbers stand for.
-pub fn side_on(judgement: Judgement, at: usize, from: TimeNumbers, to: TimeNumbers) -> Row
-    ensures { result ≡ plain_side judgement at (time_of from.kind from.second) (time_of to.kind to.second) }
-{
-    either::side_on(judgement, at, from.time(), to.time())
 }

@@ -3,8 +3,9 @@ ghost use Rattle.std.specs.Prelude.{◌≡◌, [], ◌∷◌, ◌+◌, ◌≤◌
 ghost use Rattle.std.proofs.lemmas.List.Edits.{sets};
 ghost use Rattle.formula.specs.PutIn.{terms_numbers};
 ghost use Rattle.judging.specs.RowsOf.{row_from, row_in, whose_in, time_in, numbers_in, most_rows};
-ghost use Rattle.judging.specs.RowNumbers.{whose_kind, whose_value, rows_with};
+ghost use Rattle.judging.specs.RowNumbers.{whose_kind, whose_value, row_of, numbers_of_row, rows_put, rows_with};
 
+use formula::numbers::JudgementNumbers;
 use formula::parts::{FormulaAt, Judgement};
 use formula::terms::{TERMS_NUMBERS, Terms};
 use ledger::number_in;
@@ -22,6 +23,37 @@ pub const ALL_NUMBERS: usize = 512;
 pub struct Row {
     pub whose: Option<u64>,
     pub judgement: Judgement,
+}
+
+// A row whose times are held in numbers; any two stand for a time.
+#[derive(Clone, Copy)]
+pub struct RowNumbers {
+    pub whose: Option<u64>,
+    pub judgement: JudgementNumbers,
+}
+
+impl RowNumbers {
+    // The row on the times that the numbers stand for.
+    pub fn row(self) -> Row
+        ensures { result ≡ row_of self }
+    {
+        Row {
+            whose: self.whose,
+            judgement: self.judgement.judgement(),
+        }
+    }
+}
+
+impl Row {
+    // The same with its times in numbers.
+    pub fn numbers(self) -> RowNumbers
+        ensures { result ≡ numbers_of_row self }
+    {
+        RowNumbers {
+            whose: self.whose,
+            judgement: self.judgement.numbers(),
+        }
+    }
 }
 
 // The time that two numbers of the rows stand for.
@@ -116,6 +148,13 @@ fn put_numbers(rows: &mut [u64], at: usize, numbers: &[u64; TERMS_NUMBERS])
 pub fn put_row(rows: &mut [u64], index: usize, row: Row)
     ensures { rows.new ≡ rows_with rows.old index row }
 {
+    put_row_numbers(rows, index, row.numbers());
+}
+
+// The same of a row whose times are held in numbers, which are put as they are.
+pub fn put_row_numbers(rows: &mut [u64], index: usize, row: RowNumbers)
+    ensures { rows.new ≡ rows_put rows.old index row }
+{
     if rows.len() != ALL_NUMBERS {
         return;
     }
@@ -123,7 +162,7 @@ pub fn put_row(rows: &mut [u64], index: usize, row: Row)
         return;
     }
     let start = index * ROW_NUMBERS;
-    let Judgement { formula, from, to } = row.judgement;
+    let JudgementNumbers { formula, from, to } = row.judgement;
     let FormulaAt { at, terms } = formula;
     put_two(
         rows,
@@ -131,8 +170,8 @@ pub fn put_row(rows: &mut [u64], index: usize, row: Row)
         u64::from(row.whose.is_some()),
         row.whose.unwrap_or(0),
     );
-    put_two(rows, start + 2, from.kind(), from.second());
-    put_two(rows, start + 4, to.kind(), to.second());
+    put_two(rows, start + 2, from.kind, from.second);
+    put_two(rows, start + 4, to.kind, to.second);
     put_two(rows, start + 6, at as u64, terms.count as u64);
     put_numbers(rows, start + 8, &terms.numbers);
 }

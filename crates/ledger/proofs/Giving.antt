@@ -87,11 +87,11 @@ from_going (Err answer) t' x y e same r h = no_grant (sym same ∙ stop_going t'
 -- ── Room ──
 
 -- Room for both lines is room for the first,
-room_first : {A B : Type 0} (b : Book) (w : Walk A) (g : A → Walk B) → HasRoom b (w >>= g) → HasRoom b w
+pub room_first : {A B : Type 0} (b : Book) (w : Walk A) (g : A → Walk B) → HasRoom b (w >>= g) → HasRoom b w
 room_first b w g room going = omega (arith, room going, asks_first w g)
 
 -- and, after the first, for the second: what the first listed it asked for.
-room_then : {A B : Type 0} (state : List ℕ) (b m : Book) (w : Walk A) (a : A) (g : A → Walk B) → Gives state b w m a → HasRoom b (w >>= g)
+pub room_then : {A B : Type 0} (state : List ℕ) (b m : Book) (w : Walk A) (a : A) (g : A → Walk B) → Gives state b w m a → HasRoom b (w >>= g)
     → HasRoom m (g a)
 unfolding resume kept_of run
 room_then state b m w a g h room going =

@@ -6,3 +6,4 @@ pub mod Asked
 pub mod Listing
 pub mod ListNumbers
 pub mod NumbersAsked
+pub mod RoomInNumbers

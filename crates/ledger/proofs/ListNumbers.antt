@@ -17,9 +17,10 @@ use Rattle.procap.specs.declared.fact.Fact.{Fact}
 use Rattle.procap.specs.declared.fact.Term.{Term}
 use Rattle.bl.specs.Questions.{Walk, done}
 use Rattle.bl.specs.Readings.{run}
+use Rattle.ledger.specs.declared.Ledger.{Ledger}
 use Rattle.ledger.specs.declared.numbers.Counted.{Counted}
 use Rattle.ledger.specs.Books.{stop_of, reading_in, reading_of, unless_stopped, book as list_book, kept_of as list_kept, Sound as ListSound, resume as list_resume, Gives as ListGives}
-use Rattle.ledger.specs.Numbers.{fact_numbers, list_numbers, argument_in, fact_in, facts_listed, facts_in, argument_numbers, numbers_of_fact, put_from, with_facts, book, kept_of, Sound, resume, Gives}
+use Rattle.ledger.specs.Numbers.{fact_numbers, list_numbers, argument_in, fact_in, facts_listed, facts_in, argument_numbers, numbers_of_fact, put_from, with_facts, counted, book, kept_of, Sound, resume, Gives}
 
 -- ── What stands in the numbers ──
 
@@ -259,15 +260,32 @@ module _ (list : List ℕ) (c : Counted) where
       (λ fs. unless_stopped (stop_of c.ledger) (run (reading_of state (reading_in c.ledger)) w record { from = c.ledger.from; to = c.ledger.to; facts = fs }))
       (listed_spelled list c.count)
 
--- A walk that leads from the facts of the one book to those of the other leads from the one to the other.
-pub gives_numbers : {A : Type 0} (state list more : List ℕ) (c d : Counted) (w : Walk A) (a : A) → Sound (book c list) → length more ≡ list_numbers
-    → ListGives state (list_book c.ledger (facts_listed list c.count)) w (list_book d.ledger (facts_listed more d.count)) a
-    → Gives state (book c list) w (book d more) a
-gives_numbers state list more c d w a s room g = record {
-  same_reading = g.same_reading;
-  sound = sound_numbers more d room g.sound;
-  resumed = λ has_room.
-      same_resumed more d state (done a)
-      ∙ g.resumed (λ going. omega (arith, has_room going, listed_counted list c.count))
-      ∙ sym (same_resumed list c state w);
-}
+-- A walk that leads from the facts of the one book to those of the other leads from the one to the other, and the other way round.
+module _ {A : Type 0} (state list more : List ℕ) (c d : Counted) (w : Walk A) (a : A) where
+  pub gives_numbers : length more ≡ list_numbers → ListGives state (list_book c.ledger (facts_listed list c.count)) w (list_book d.ledger (facts_listed more d.count)) a
+      → Gives state (book c list) w (book d more) a
+  gives_numbers room g = record {
+    same_reading = g.same_reading;
+    sound = sound_numbers more d room g.sound;
+    resumed = λ has_room.
+        same_resumed more d state (done a)
+        ∙ g.resumed (λ going. omega (arith, has_room going, listed_counted list c.count))
+        ∙ sym (same_resumed list c state w);
+  }
+
+  pub gives_facts : Gives state (book c list) w (book d more) a → ListGives state (list_book c.ledger (facts_listed list c.count)) w (list_book d.ledger (facts_listed more d.count)) a
+  gives_facts g = record {
+    same_reading = g.same_reading;
+    sound = sound_facts more d g.sound;
+    resumed = λ has_room.
+        sym (same_resumed more d state (done a))
+        ∙ g.resumed (λ going. omega (arith, has_room going, listed_counted list c.count))
+        ∙ same_resumed list c state w;
+  }
+
+-- A walk that leads from the one ledger to the other whatever is listed does so by every sound list in numbers.
+pub leads_in_numbers : {A : Type 0} (state list : List ℕ) (count : ℕ) (l r : Ledger) (w : Walk A) (a : A) → Sound (book (counted l count) list)
+    → ((facts : List Fact) → ListSound (list_book l facts) → ListGives state (list_book l facts) w (list_book r facts) a)
+    → Gives state (book (counted l count) list) w (book (counted r count) list) a
+leads_in_numbers state list count l r w a s leads =
+    gives_numbers state list list (counted l count) (counted r count) w a s.room (leads (facts_listed list count) (sound_facts list (counted l count) s))

@@ -24,6 +24,7 @@ use Rattle.ledger.specs.declared.numbers.Counted.{Counted}
 use Rattle.ledger.specs.Books.{facts_said, stopped_by, Book as ListBook, book as list_book, Sound as ListSound, Gives as ListGives}
 use Rattle.ledger.specs.Asking.{asked_by, fact_listed as listed_last, fact_asked as asked_of_list}
 use Rattle.ledger.specs.Numbers.{fact_numbers, list_numbers, fact_in, facts_listed, facts_in, numbers_of_fact, Book, book, Sound, Gives, fact_listed, fact_asked}
+use Rattle.ledger.proofs.Asking.{no_room}
 use Rattle.ledger.proofs.Asked.{list_has, list_lacks}
 use Rattle.ledger.proofs.ListNumbers.{listed_counted, listed_spelled, stored_length, fact_more, sound_facts, gives_numbers}
 
@@ -200,7 +201,7 @@ module _ (list : List ℕ) (c : Counted) (f : Fact) where
         pub leads_longer : Longer more → fact_in (sets list (c.count * fact_numbers) (numbers_of_fact f)) c.count ≡ f
             → Gives state (book c list) (ask_fact q (spelled f)) (with_one r) tt
         leads_longer h stands =
-            gives_numbers state list (sets list (c.count * fact_numbers) (numbers_of_fact f)) c _ _ tt s
+            gives_numbers state list (sets list (c.count * fact_numbers) (numbers_of_fact f)) c _ _ tt
             (stored_length (numbers_of_fact f) list (c.count * fact_numbers) ∙ h.0)
             (subst (λ fs. ListGives state (list_book c.ledger (facts_listed list c.count)) (ask_fact q (spelled f)) (list_book r fs) tt) same from_numbers)
           where
@@ -212,7 +213,7 @@ module _ (list : List ℕ) (c : Counted) (f : Fact) where
 
         pub leads_stayed : (Longer more → ⊥) → Gives state (book c list) (ask_fact q (spelled f)) (with_none r) tt
         leads_stayed n =
-            gives_numbers state list list c _ _ tt s s.room
+            gives_numbers state list list c _ _ tt s.room
             (subst (λ fs. ListGives state (list_book c.ledger (facts_listed list c.count)) (ask_fact q (spelled f)) (list_book r fs) tt) same from_numbers)
           where
             more_is : more ≡ old
@@ -223,3 +224,11 @@ module _ (list : List ℕ) (c : Counted) (f : Fact) where
 
             same : more ≡ facts_listed list c.count
             same = more_is ∙ all_old s.few
+
+-- Without room for a fact no walk that asks for one goes on, by a list in numbers too.
+pub no_room_in_numbers : (state list : List ℕ) (c : Counted) (q : ℕ) (f : Fact) → Sound (book c list) → (c.count < most_facts → ⊥)
+    → Gives state (book c list) (ask_fact q (spelled f)) (book c list) tt
+no_room_in_numbers state list c q f s full =
+    let listed = listed_counted list c.count in
+    gives_numbers state list list c c (ask_fact q (spelled f)) tt s.room
+    (no_room state (facts_listed list c.count) c.ledger q f (sound_facts list c s) (λ room. full (omega (arith, listed, room))))

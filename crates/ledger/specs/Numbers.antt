@@ -19,6 +19,7 @@ use Rattle.procap.specs.declared.procap.Request.{Request}
 use Rattle.procap.specs.declared.procap.Procap.{Procap}
 use Rattle.bl.specs.Questions.{Walk, done, asks, ask_fact}
 use Rattle.bl.specs.Readings.{Kept, run}
+use Rattle.ledger.specs.declared.Ledger.{Ledger}
 use Rattle.ledger.specs.declared.numbers.Counted.{Counted}
 use Rattle.ledger.specs.Books.{GoesOn, stop_of, reading_in, reading_of, stopped_by, facts_said, unless_stopped}
 use Rattle.ledger.specs.Asking.{asked_by}
@@ -78,6 +79,10 @@ pub record Book : Type 0 where
   pub counted : Counted
   pub list : List ℕ
 
+-- A ledger, and how many facts are listed beside it.
+abbrev pub counted : Ledger → ℕ → Counted
+counted l n = record { ledger = l; count = n }
+
 abbrev pub book : Counted → List ℕ → Book
 book c list = record { counted = c; list = list }
 
@@ -111,7 +116,7 @@ fact_listed list c f =
     ite (Dec.and (ℕ_discrete (length list) list_numbers) (dec_lt c.count most_facts))
     (ite (in? spelled? (spelled f) (facts_in list c.count))
     (book c list)
-    (book record { ledger = c.ledger; count = c.count + 1 } (sets list (c.count * fact_numbers) (numbers_of_fact f))))
+    (book (counted c.ledger (c.count + 1)) (sets list (c.count * fact_numbers) (numbers_of_fact f))))
     (book c list)
 
 -- The book after the question of a fact: listed at the office; at a press as it was where the fact holds, and else stopped by 10.
@@ -120,7 +125,7 @@ fact_asked state list c q f =
     asked_by c.ledger (book c list) (fact_listed list c f)
     (ite (holds_at? (c.ledger.press - 1) (facts_said (stated state)) (spelled f))
     (book c list)
-    (book record { ledger = stopped_by (FactMissing q) c.ledger; count = c.count } list))
+    (book (counted (stopped_by (FactMissing q) c.ledger) c.count) list))
 
 -- The call leads where the question of the fact does, for a fact of few terms with zeros past them.
 abbrev pub AsksFact : Lent → LentToWrite → Counted → ℕ → Fact → Counted → Type 0

@@ -3,3 +3,4 @@ pub mod CertificateLaws
 pub mod WalkBegins
 pub mod ByStrengths
 pub mod Answers
+pub mod BegunInNumbers

@@ -1,6 +1,6 @@
 -- What the parts of verify and of the direct check promise.
 use Rattle.std.specs.Prelude.{ℕ, ◌≡◌, List, [], length, Err, Ok, Some}
-use Rattle.procap.specs.Lent.{Lent, LentToWrite}
+use Rattle.procap.specs.Lent.{Lent}
 use Rattle.procap.specs.Outcome.{Outcome, answer_of, procap_handed}
 use Rattle.procap.specs.declared.time.Time.TheVariants.{Moment}
 use Rattle.procap.specs.declared.fact.Fact.{Fact}

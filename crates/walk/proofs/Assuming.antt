@@ -16,23 +16,23 @@ use Rattle.ledger.specs.declared.Ledger.{Ledger}
 use Rattle.ledger.specs.Books.{book, Sound}
 use Rattle.formula.specs.declared.parts.Judgement.{Judgement}
 use Rattle.formula.specs.Meaning.{Means}
-use Rattle.judging.specs.declared.rows.Row.{Row}
+use Rattle.judging.specs.declared.rows.RowNumbers.{RowNumbers}
 use Rattle.judging.specs.declared.judge.Scope.{Scope}
 use Rattle.judging.specs.declared.judge.Checked.{Checked}
 use Rattle.judging.specs.RowsOf.{RowIs}
-use Rattle.judging.specs.RowNumbers.{rows_with}
+use Rattle.judging.specs.RowNumbers.{row_of, rows_put}
 use Rattle.judging.specs.Judging.{view_in, scope_with, Passes}
 use Rattle.walk.specs.Walking.{Sources, Around, Keeps, ChecksAt}
 use Rattle.walk.proofs.Surroundings.{around_more, around_kept, scope_more, keeps_others}
 use Rattle.procap.specs.declared.fact.Fact.{Fact}
 
 module _ (S : Sources) (rows : List ℕ) (scope : Scope) (left : ℕ) (goal_bytes : List ℕ) (goal : Judgement)
-    {between more : List ℕ} (row : Row) (kept : Keeps scope.count rows between) (put : more ≡ rows_with between scope.count row) (all : length more ≡ length between)
+    {between more : List ℕ} (row : RowNumbers) (kept : Keeps scope.count rows between) (put : more ≡ rows_put between scope.count row) (all : length more ≡ length between)
     (ledger : Ledger) (list : List Fact) (at : ℕ) {r : Checked} {list' : List Fact}
     (checks : ChecksAt S more (scope_with scope) ledger list left goal_bytes goal at r list') where
   pub part_assuming : (π : Policy) (Γ : List Assumption) (N : Check) (e : ℕ) → Sound (book ledger list) → Around S rows scope (suc left) π Γ
       → check_step S.proof (length π.statements) left (suc scope.count) at ≡ Some (N, e) → ToldChecking S.ends N
-      → (x : Assumption) → RowIs S.buffer row 0 0 x → (G : Formula) → Means goal_bytes 0 goal.formula G
+      → (x : Assumption) → RowIs S.buffer (row_of row) 0 0 x → (G : Formula) → Means goal_bytes 0 goal.formula G
       → Passes S.state (book ledger list) (check π (x ∷ Γ) (view_in scope.view) N G goal.from goal.to) e r list'
   part_assuming π Γ N e sound around reads told x is G means =
       let room = around.room in

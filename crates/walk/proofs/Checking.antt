@@ -32,7 +32,8 @@ use Rattle.judging.specs.declared.judge.Inside.{Inside}
 use Rattle.ledger.specs.Books.{GoesOn, book, Sound, Gives}
 use Rattle.formula.specs.Meaning.{Means, On}
 use Rattle.judging.specs.RowsOf.{RowIs, is_plain, is_claim, is_shut}
-use Rattle.judging.specs.RowNumbers.{rows_with}
+use Rattle.judging.specs.RowNumbers.{numbers_of_row, rows_with}
+use Rattle.judging.proofs.RowLaws.{row_again}
 use Rattle.judging.specs.Judging.{view_in, view_on, scope_inside, scope_with, part_of, and_then, sides, TwoSided, and_sides, inside, top_goal, fact_goal, order_goal, Passes}
 use Rattle.judging.specs.StepPromises.{TakesSides, TakesInside, TakesInsideInferred, StaysStopped, ChecksInferred}
 use Rattle.walk.specs.Walking.{Sources, Around, Keeps, InfersAt, InfersBy, ChecksAt, ChecksBy}
@@ -329,5 +330,5 @@ module _ (S : Sources) (rows : List ℕ) (scope : Scope) (ledger : Ledger) (list
             let found = take_read S.proof S.ends (length π.statements) left scope.count at tag shell N e is reads told in
             rw (found.walks π Γ view (G, goal.from, goal.to))
             (passes_then S.state (book ledger list) _ held.ledger list₁ (taken_comes π Γ N e sound around found) _ e going r list₂
-            (λ sound x so. part_assuming S rows scope left goal_bytes goal held.row kept put all held.ledger list₁ inferred.next checks
-            π Γ found.other e sound around (rw so.1 found.other_reads) found.other_told x so.0 G means))
+            (λ sound x so. part_assuming S rows scope left goal_bytes goal (numbers_of_row held.row) kept put all held.ledger list₁ inferred.next checks
+            π Γ found.other e sound around (rw so.1 found.other_reads) found.other_told x (rw (row_again held.row) so.0) G means))

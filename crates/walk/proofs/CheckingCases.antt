@@ -23,7 +23,8 @@ use Rattle.judging.specs.declared.judge.Inferred.{Inferred}
 use Rattle.judging.specs.declared.judge.Checked.{Checked}
 use Rattle.judging.specs.declared.judge.Sides.{Sides}
 use Rattle.judging.specs.RowsOf.{RowIs, is_plain}
-use Rattle.judging.specs.RowNumbers.{rows_with}
+use Rattle.judging.specs.RowNumbers.{numbers_of_row, rows_with}
+use Rattle.judging.proofs.RowLaws.{row_again}
 use Rattle.judging.specs.Judging.{view_in, scope_with, plain_side, and_then, sides, TwoSided, branches}
 use Rattle.judging.specs.StepPromises.{TakesSidesInferred, StaysStopped, ChecksFalsity}
 use Rattle.walk.specs.Walking.{Sources, Around, Keeps, InfersAt, ChecksAt, ChecksBy}
@@ -101,8 +102,8 @@ module _ (S : Sources) (rows : List ℕ) (scope : Scope) (ledger : Ledger) (list
         unfolding ToldChecking
         one_comes π Γ N e sound around found told begins x is G means =
             comes_checked S.state (book parts.ledger list₁) _ found.later one list₂
-            (part_assuming S rows scope left goal_bytes goal (side_row parts.first) kept put all parts.ledger list₁ inferred.next checks
-            π Γ found.one found.later sound around (rw begins found.one_reads) (told_is S.ends found.is told).1 x is G means)
+            (part_assuming S rows scope left goal_bytes goal (numbers_of_row (side_row parts.first)) kept put all parts.ledger list₁ inferred.next checks
+            π Γ found.one found.later sound around (rw begins found.one_reads) (told_is S.ends found.is told).1 x (rw (row_again (side_row parts.first)) is) G means)
 
         pub check_cases_stopped : (GoesOn one.ledger → ⊥) → By OrOutTag one list₂
         check_cases_stopped n π Γ N e sound around reads told G means =
@@ -124,5 +125,5 @@ module _ (S : Sources) (rows : List ℕ) (scope : Scope) (ledger : Ledger) (list
             (passes_then S.state (book ledger list) _ parts.ledger list₁ (branches_come π Γ N e sound around found told) _ e going other list₃
             (λ sound x so. passes_then S.state (book parts.ledger list₁) _ one.ledger list₂
             (one_comes π Γ N e sound around found told so.2 x.0 so.0 G means) _ e goes other list₃
-            (λ sound y ends. part_assuming S rows scope left goal_bytes goal (side_row parts.second) kept₂ put₂ all₂ one.ledger list₂ one.next checks₂
-            π Γ found.other e sound around (rw ends found.other_reads) (told_is S.ends found.is told).2 x.1 so.1 G means)))
+            (λ sound y ends. part_assuming S rows scope left goal_bytes goal (numbers_of_row (side_row parts.second)) kept₂ put₂ all₂ one.ledger list₂ one.next checks₂
+            π Γ found.other e sound around (rw ends found.other_reads) (told_is S.ends found.is told).2 x.1 (rw (row_again (side_row parts.second)) so.1) G means)))

@@ -23,8 +23,9 @@ use Rattle.judging.specs.declared.judge.Checked.{Checked}
 use Rattle.formula.specs.PutIn.{terms_numbers}
 use Rattle.judging.specs.Judging.{one_more, scope_with}
 use Rattle.judging.specs.RowsOf.{most_rows, row_in, RowIs, is_plain, is_claim, is_shut, Assumed}
-use Rattle.judging.specs.RowNumbers.{rows_with}
-use Rattle.judging.proofs.RowLaws.{row_there, earlier_stay}
+use Rattle.judging.specs.declared.rows.RowNumbers.{RowNumbers}
+use Rattle.judging.specs.RowNumbers.{row_of, rows_put}
+use Rattle.judging.proofs.RowLaws.{row_of_there, earlier_numbers_stay, row_stays}
 use Rattle.walk.specs.Walking.{Sources, Around, Keeps, ChecksAt}
 
 -- A row inside of a says-in: a plain one is shut out, a claim stays.
@@ -66,9 +67,13 @@ row_whole buffer row index below x h (is_shut plain-Row lower) = absurd (omega a
 pub keeps_then : {count : ℕ} {before between after : List ℕ} → Keeps count before between → Keeps count between after → Keeps count before after
 keeps_then first second = record { rows = λ i below. second.rows i below ∙ first.rows i below; all = second.all ∙ first.all }
 
+-- What keeps the numbers of rows keeps the rows.
+rows_kept : {count : ℕ} {before after : List ℕ} → Keeps count before after → (i : ℕ) → i < count → row_in after i ≡ row_in before i
+rows_kept {count} {before} {after} keeps i below = row_stays before after i (keeps.rows i below)
+
 -- A row that is put at the count leaves those below it.
-pub keeps_others : (count : ℕ) (before : List ℕ) (row : Row) {after : List ℕ} → after ≡ rows_with before count row → length after ≡ length before → Keeps count before after
-keeps_others count before row put all = record { rows = earlier_stay before count row put; all = all }
+pub keeps_others : (count : ℕ) (before : List ℕ) (row : RowNumbers) {after : List ℕ} → after ≡ rows_put before count row → length after ≡ length before → Keeps count before after
+keeps_others count before row put all = record { rows = earlier_numbers_stay before count row put; all = all }
 
 -- With one assumption more there are no fewer; and where a row has room, one more.
 scope_grows : (scope : Scope) → scope.count ≤ (scope_with scope).count
@@ -84,7 +89,7 @@ unfolding scope_with
 scope_more scope room = rw (lt-ltb scope.count most_rows room) refl
 
 -- A row is put, and then a call keeps what is below the assumption more: both keep what was there before.
-pub keeps_assumed : (scope : Scope) (before : List ℕ) (row : Row) {more after : List ℕ} → more ≡ rows_with before scope.count row → length more ≡ length before
+pub keeps_assumed : (scope : Scope) (before : List ℕ) (row : RowNumbers) {more after : List ℕ} → more ≡ rows_put before scope.count row → length more ≡ length before
     → Keeps (scope_with scope).count more after → Keeps scope.count before after
 keeps_assumed scope before row put all after =
     let below = keeps_others scope.count before row put all in
@@ -117,19 +122,19 @@ module _ (S : Sources) (rows : List ℕ) (scope : Scope) (left : ℕ) (π : Poli
       }
 
   -- A part with one assumption more: the row is put past those that are there.
-  pub around_more : (more : List ℕ) (row : Row) (x : Assumption) → RowIs S.buffer row 0 0 x → more ≡ rows_with rows scope.count row → Keeps scope.count rows more
+  pub around_more : (more : List ℕ) (row : RowNumbers) (x : Assumption) → RowIs S.buffer (row_of row) 0 0 x → more ≡ rows_put rows scope.count row → Keeps scope.count rows more
       → Around S more (one_more scope) left π (x ∷ Γ)
   unfolding Assumed
   around_more more row x usable put keeps =
       let room = around.room in
       let inside = around.shut_inside in
-      let is = row_usable S.buffer row scope.count scope.shut x inside usable in
+      let is = row_usable S.buffer (row_of row) scope.count scope.shut x inside usable in
       record {
         policy = around.policy;
         assumed =
             rw (add-one scope.count) (
-              rw (row_there rows scope.count row put around.all_there (omega arith) (row_whole S.buffer row scope.count scope.shut x inside is)) is,
-              assumed_in S.buffer rows more scope.shut scope.count Γ keeps.rows around.assumed,
+              rw (row_of_there rows scope.count row put around.all_there (omega arith) (row_whole S.buffer (row_of row) scope.count scope.shut x inside is)) is,
+              assumed_in S.buffer rows more scope.shut scope.count Γ (rows_kept keeps) around.assumed,
             );
         shut_inside = omega arith;
         room = omega arith;
@@ -142,7 +147,7 @@ pub around_kept : (S : Sources) (before after : List ℕ) (scope : Scope) (left 
 around_kept S before after scope left π Γ keeps around =
     record {
       policy = around.policy;
-      assumed = assumed_in S.buffer before after scope.shut scope.count Γ keeps.rows around.assumed;
+      assumed = assumed_in S.buffer before after scope.shut scope.count Γ (rows_kept keeps) around.assumed;
       shut_inside = around.shut_inside;
       room = around.room;
       all_there = keeps.all ∙ around.all_there;

@@ -16,7 +16,8 @@ use Rattle.judging.specs.declared.judge.Inferred.{Inferred}
 use Rattle.judging.specs.declared.judge.Checked.{Checked}
 use Rattle.ledger.specs.Books.{book, Sound}
 use Rattle.formula.specs.Meaning.{Means}
-use Rattle.judging.specs.RowsOf.{Assumed, Certified, row_in, all_numbers}
+use Rattle.judging.specs.RowsOf.{Assumed, Certified, all_numbers}
+use Rattle.judging.specs.RowNumbers.{numbers_at}
 use Rattle.judging.specs.Judging.{view_in, Yields, Passes}
 use Rattle.procap.specs.declared.fact.Fact.{Fact}
 
@@ -44,9 +45,9 @@ pub record Around (S : Sources) (rows : List ℕ) (scope : Scope) (left : ℕ) (
   pub room : scope.count + left ≤ most_proof_levels
   pub all_there : length rows ≡ all_numbers
 
--- The rows below a count are as they were, and as many numbers are there.
+-- The rows below a count are as they were, with each number of their times, and as many numbers are there.
 pub record Keeps (count : ℕ) (before after : List ℕ) : Type 0 where
-  pub rows : (i : ℕ) → i < count → row_in after i ≡ row_in before i
+  pub rows : (i : ℕ) → i < count → numbers_at after i ≡ numbers_at before i
   pub all : length after ≡ length before
 
 module _ (S : Sources) (rows : List ℕ) (scope : Scope) (ledger : Ledger) (list : List Fact) (left : ℕ) where

@@ -4,7 +4,7 @@ use mathlib.Core.Path.{sym, ◌∙◌}
 use native.Mathlib.Omega.{arith}
 use Rattle.judging.specs.RowsOf.{row_numbers}
 use Rattle.judging.proofs.RowLaws.{row_put, not_all_there, no_such_row, put_there}
-use Rattle.judging.proofs.rows.put_row.Goals as goal
+use Rattle.judging.proofs.rows.put_row_numbers.Goals as goal
 
 pub returns-then-rows-ne-ALL_NUMBERS : goal.returns-then-rows-ne-ALL_NUMBERS
 returns-then-rows-ne-ALL_NUMBERS c = not_all_there _ _ _ (λ all. grind arith)
@@ -19,8 +19,8 @@ returns c =
     let row = c.args.row in
     row_put rows (index * row_numbers) row
     (grind arith) (grind arith) c.put_two.ensures
-    (rw (c.kind.ensures, c.second.ensures) at c.put_two-2.ensures)
-    (rw (c.kind-2.ensures, c.second-2.ensures) at c.put_two-3.ensures)
+    c.put_two-2.ensures
+    c.put_two-3.ensures
     c.put_two-4.ensures
     c.put_numbers.ensures
     ∙ sym (put_there rows index row (omega arith) (omega arith))
