@@ -6,3 +6,4 @@ pub mod Presses
 pub mod HandedBack
 pub mod OfficeCalls
 pub mod Unpacking
+pub mod RecordParts

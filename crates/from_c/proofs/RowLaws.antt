@@ -1,5 +1,5 @@
--- Laws of values in a row, and of an array that is filled with them one by one: so the records, the pairs, the terms of a fact
--- and the facts of a value are read.
+-- Laws of values in a row, and of places that are filled with them one by one: so the records, the pairs, the terms of a fact and the facts of
+-- a value are read.
 use Prim.Native.Nat.{ℕ, zero, suc, ◌+◌, ◌*◌, ◌≤◌, ◌<◌}
 use mathlib.Core.Path.{◌≡◌, refl, sym, ap, ap₂, ◌∙◌}
 use mathlib.Core.List.{List, [], ◌∷◌, ◌++◌}
@@ -8,7 +8,7 @@ use native.Mathlib.Numerals.{add-one}
 use native.Mathlib.Omega.{arith}
 use native.Mathlib.Decide.{dec_le}
 use lib.ListN.{length, take, set, length-set}
-use lib.Seq.{take_all, take-suc-set}
+use lib.Seq.{take_all, take_at, length-take-le, take-suc-set}
 use Rattle.from_c.specs.InARow.{in_a_row, how_many}
 use borrow.Author.Tests.{eq-eqb, ne_eqb}
 use Rattle.std.specs.Prelude.{min, ◌%◌}
@@ -55,11 +55,20 @@ module _ {A : Type 0} (value : ℕ → A) (each : ℕ) where
           let same : min all most ≡ most = omega arith in
           ap (λ k. in_a_row value each k 0) same ∙ sym (first_in_a_row value each most all 0 (omega arith))
 
+  -- So are as many as the bytes have, by the quotient rounded up.
   pub first_lent : (n most count : ℕ) → count ≡ min (div_ceil n each) most
       → in_a_row value each count 0 ≡ take most (in_a_row value each (how_many each n) 0)
   first_lent n most count e = rw (e, ← how_many_up each n) (first_of_all (how_many each n) most)
 
--- The first i of an array of n are the values in a row from a place on.
+  -- They stand at the front of what they were put into.
+  pub put_first : (xs rest : List A) (count at : ℕ) (none : List A) → count ≤ length none → xs ≡ in_a_row value each (length (take count none)) at
+      → take count (xs ++ rest) ≡ in_a_row value each count at
+  put_first xs rest count at none l put =
+      let room : length (take count none) ≡ count = length-take-le count none l in
+      let row : xs ≡ in_a_row value each count at = put ∙ ap (λ k. in_a_row value each k at) room in
+      take_at xs rest count (ap length row ∙ row_length value each count at) ∙ row
+
+-- The first i of n places are the values in a row from a place on.
 pub record Filled {A : Type 0} (value : ℕ → A) (step n at : ℕ) (array : List A) (i : ℕ) : Type 0 where
   pub whole : length array ≡ n
   pub front : take i array ≡ in_a_row value step i at

@@ -1,5 +1,5 @@
 // Certificate records in bytes: 36 for each.
-ghost use Rattle.std.specs.Prelude.{◌≡◌, ◌+◌, ◌≤◌, length, take};
+ghost use Rattle.std.specs.Prelude.{◌≡◌, ◌+◌, ◌≤◌, take};
 ghost use Rattle.std.proofs.Common.{rules};
 ghost use Rattle.from_c.specs.Records.{record_bytes, lent_at_most, records_in, record_at, whole_record, no_record, time_of};
 
@@ -33,25 +33,23 @@ impl InARow for Certificate {
 
     #[tactic(auto, unfolding(crate::specs::Records::record_at))]
     fn at(bytes: &[u8], at: usize) -> Certificate {
-        if at + Self::BYTES <= bytes.len() {
-            whole_record(bytes, at)
-        } else {
-            no_record()
+        match bytes.get(at..at + Self::BYTES) {
+            Some(record) => whole_record(record),
+            None => no_record(),
         }
     }
 }
 
-// The record at a place where all its bytes are there.
-fn whole_record(bytes: &[u8], at: usize) -> Certificate
-    requires { at + record_bytes ≤ length bytes.now }
-    ensures { result ≡ whole_record bytes.now at }
+// The record that its own bytes are. They are handed over alone, so that how many they are is known where they are read.
+fn whole_record(bytes: &[u8]) -> Certificate
+    ensures { result ≡ whole_record bytes.now 0 }
 {
     Certificate {
-        principal: number_or_zero::<2>(bytes, at) as u16,
-        from: time_of(term_at(bytes, at + 2)),
-        to: time_of(term_at(bytes, at + 11)),
-        start: number_or_zero::<8>(bytes, at + 20) as usize,
-        length: number_or_zero::<8>(bytes, at + 28) as usize,
+        principal: number_or_zero::<2>(bytes, 0) as u16,
+        from: time_of(term_at(bytes, 2)),
+        to: time_of(term_at(bytes, 11)),
+        start: number_or_zero::<8>(bytes, 20) as usize,
+        length: number_or_zero::<8>(bytes, 28) as usize,
     }
 }
 

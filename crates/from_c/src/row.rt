@@ -22,23 +22,15 @@ pub trait InARow: Copy {
     ghost takes_some: { 1 ≤ BYTES };
 }
 
-// An array that begins with so many of them, in a row from a place on; past them it has what stands for none.
-// A loop, and no `array::from_fn`: what `T::at` requires must stand at the closure, and there a bound's member is refused.
-pub(crate) fn in_a_row<T: InARow, const N: usize>(
-    bytes: &[u8],
-    start: usize,
-    count: usize,
-    none: T,
-) -> [T; N]
-    requires few { count ≤ N }
-    requires room { start + T.BYTES * N ≤ usize.MAX }
-    ensures { take count result ≡ in_a_row (T.value_at bytes.now) T.BYTES count start }
+// Fills lent places with things that stand in a row from a place of the bytes on, one for each place.
+// A loop, and no closure: what `T::at` requires must stand at the closure, and there a bound's member is refused.
+pub(crate) fn put_in_a_row<T: InARow>(bytes: &[u8], start: usize, items: &mut [T])
+    requires { start + T.BYTES * length items.old ≤ usize.MAX }
+    ensures { items.new ≡ in_a_row (T.value_at bytes.now) T.BYTES (length items.old) start }
 {
-    let mut items = [none; N];
-    for i in 0..count {
+    for i in 0..items.len() {
         items[i] = T::at(bytes, start + T::BYTES * i);
     }
-    items
 }
 
 // The first of the things that the bytes say, no more of them than are lent on; an incomplete one at the end is one too.
@@ -47,5 +39,7 @@ pub(crate) fn front_of<T: InARow, const N: usize>(bytes: &[u8], none: T) -> Fron
     ensures { result ≡ take N (in_a_row (T.value_at bytes.now) T.BYTES (how_many T.BYTES (length bytes.now)) 0) }
 {
     let count = bytes.len().div_ceil(T::BYTES).min(N);
-    Front::of(in_a_row(bytes, 0, count, none), count)
+    let mut items = [none; N];
+    put_in_a_row(bytes, 0, &mut items[..count]);
+    Front::of(items, count)
 }

@@ -4,7 +4,7 @@ ghost use Rattle.std.proofs.Common.{rules};
 ghost use Rattle.from_c.specs.Values.{value_bytes, term_bytes, fact_bytes, argument_at, fact_at, value_of};
 
 use crate::numbers::{number_or_zero, term_at};
-use crate::row::{InARow, in_a_row};
+use crate::row::{InARow, put_in_a_row};
 use procap::fact::{Argument, Fact, MOST_TERMS};
 use procap::procap::{MOST_FACTS, Procap, Request};
 
@@ -20,6 +20,8 @@ pub(crate) fn value_of(bytes: &[u8]) -> Procap
     requires { length bytes.now ≡ value_bytes }
     ensures { result ≡ value_of bytes.now }
 {
+    let mut facts = [Fact::none(); MOST_FACTS];
+    put_in_a_row(bytes, FACTS_START, &mut facts);
     Procap {
         version: number_or_zero::<1>(bytes, 0) as u8,
         request: Request::of(
@@ -30,7 +32,7 @@ pub(crate) fn value_of(bytes: &[u8]) -> Procap
         from: number_or_zero::<8>(bytes, 7),
         to: number_or_zero::<8>(bytes, 15),
         count: number_or_zero::<1>(bytes, 23) as usize,
-        facts: in_a_row(bytes, FACTS_START, MOST_FACTS, Fact::none()),
+        facts,
     }
 }
 
@@ -45,10 +47,12 @@ impl InARow for Fact {
     ghost takes_some = { Prim.search rules };
 
     fn at(bytes: &[u8], at: usize) -> Fact {
+        let mut arguments = [Argument::NONE; MOST_TERMS];
+        put_in_a_row(bytes, at + TERMS_START, &mut arguments);
         Fact {
             predicate: number_or_zero::<2>(bytes, at) as u16,
             count: number_or_zero::<1>(bytes, at + 2) as usize,
-            arguments: in_a_row(bytes, at + TERMS_START, MOST_TERMS, Argument::NONE),
+            arguments,
         }
     }
 }
