@@ -40,7 +40,8 @@ impl InARow for Certificate {
     }
 }
 
-// The record that its own bytes are. They are handed over alone, so that how many they are is known where they are read.
+// The record that its own bytes are. They are handed over alone, so that the compiler knows how many they are once it puts the call in
+// its place.
 fn whole_record(bytes: &[u8]) -> Certificate
     ensures { result ≡ whole_record bytes.now 0 }
 {
