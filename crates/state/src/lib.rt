@@ -1,7 +1,8 @@
 // The state of the machine: whether its bytes are well formed, whether a fact stands in it, and which fact stands at a place.
 #![tactic(auto)]
 
-ghost use Rattle.std.specs.Prelude.{◌≡◌, ◌≤◌};
+ghost use Rattle.std.specs.Prelude.{◌≡◌, ◌≤◌, None};
+ghost use Rattle.std.specs.Option.{option_map};
 ghost use Rattle.procap.specs.Tells.{Tells};
 ghost use Rattle.procap.specs.Facts.{spelled, most_terms};
 ghost use Rattle.procap.specs.Bytes.{many};
@@ -61,28 +62,31 @@ pub fn fact_at(state: &[u8], at: usize) -> Option<(Fact, usize)>
     if MOST_TERMS < terms {
         return None;
     }
-    fact_with(state, predicate as u16, terms, after_count)
+    let mut next = after_count;
+    let fact = fact_with(state, predicate as u16, terms, &mut next)?;
+    Some((fact, next))
 }
 
-// The fact of a predicate and the terms at a place of the state.
-fn fact_with(state: &[u8], predicate: u16, terms: usize, at: usize) -> Option<(Fact, usize)>
+// The fact of a predicate and the terms at a lent place of the state, which moves behind them; where one is missing it stays.
+fn fact_with(state: &[u8], predicate: u16, terms: usize, at: &mut usize) -> Option<Fact>
     requires { terms ≤ most_terms }
-    ensures { FactReads (with_predicate predicate (many (settled_term state.now) terms at)) result }
+    ensures reads { FactReads (with_predicate predicate (many (settled_term state.now) terms at.old)) (option_map (λ f. (f, at.new)) result) }
+    ensures stays { result ≡ None → at.new ≡ at.old }
 {
     let zero = Argument {
         term: Term::Name(0),
     };
     let mut arguments = [zero; MOST_TERMS];
-    let mut next = at;
+    let mut next = *at;
     for argument in &mut arguments[..terms] {
         (argument.term, next) = settled_term_at(state, next)?;
     }
-    let fact = Fact {
+    *at = next;
+    Some(Fact {
         predicate,
         count: terms,
         arguments,
-    };
-    Some((fact, next))
+    })
 }
 
 // The term at a place of the state: a name, a moment or an infinity.

@@ -15,8 +15,16 @@ pub returns-then-terms-gt-MOST_TERMS : goal.returns-then-terms-gt-MOST_TERMS
 returns-then-terms-gt-MOST_TERMS c =
     too_many _ _ _ _ (sym c.in_ok-predicate.ensures.reads) _ _ (sym c.in_ok-count.ensures.reads) c.if-terms-gt-MOST_TERMS.true
 
+pub returns-in_err-fact : goal.returns-in_err-fact
+returns-in_err-fact c =
+    rw (
+      c.from_residual-in_err-fact.ensures,
+      with_terms _ _ _ _ (sym c.in_ok-predicate.ensures.reads) _ _ (sym c.in_ok-count.ensures.reads) c.if-terms-gt-MOST_TERMS.false,
+    )
+    c.in_err-fact.ensures.reads
+
 pub returns : goal.returns
 returns c =
     rw
     (with_terms _ _ _ _ (sym c.in_ok-predicate.ensures.reads) _ _ (sym c.in_ok-count.ensures.reads) c.if-terms-gt-MOST_TERMS.false)
-    c.fact_with.ensures
+    c.in_ok-fact.ensures.reads

@@ -13,8 +13,8 @@ pub loop-argument-init : goal.loop-argument-init
 unfolding pad
 loop-argument-init c = none_of_many (take-append-drop c.args.terms (replicate most_terms no_argument))
 
-pub returns-in_err-argument : goal.returns-in_err-argument
-returns-in_err-argument c =
+pub returns-in_err-argument-clause-reads : goal.returns-in_err-argument-clause-reads
+returns-in_err-argument-clause-reads c =
     let inside : c.loop-argument.argument-index < c.args.terms = grind (arith, common_steps) in
     rw c.from_residual.ensures (ap (with_predicate _) (none_of_rest c.loop-argument.invariant inside (sym c.in_err-argument.ensures)))
 
@@ -25,7 +25,7 @@ loop-argument-preserved c =
     rw set-append_left
     at (one_of_many c.loop-argument.invariant inside _ _ c.requires refl (sym c.in_ok-argument.ensures))
 
-pub returns : goal.returns
-returns c =
+pub returns-clause-reads : goal.returns-clause-reads
+returns-clause-reads c =
     let over : c.args.terms ≤ c.loop-argument.argument-index = grind (arith, common_steps) in
     fact_with _ (all_of_many c.loop-argument.invariant over) _ refl

@@ -8,7 +8,7 @@ use Rattle.state.proofs.fact_with.Given as goal
 
 abbrev pub invariant-loop-argument : goal.invariant-loop-argument
 invariant-loop-argument l =
-    ManyRead most_terms no_argument argument_of (settled_term l.state) l.terms l.at
+    ManyRead most_terms no_argument argument_of (settled_term l.state) l.terms l.fn.at
     (l.argument-items ++ drop l.terms (replicate most_terms no_argument))
     l.next
     l.argument-index
