@@ -1,8 +1,7 @@
 // The state of the machine: whether its bytes are well formed, whether a fact stands in it, and which fact stands at a place.
 #![tactic(auto)]
 
-ghost use Rattle.std.specs.Prelude.{◌≡◌, ◌≤◌, None};
-ghost use Rattle.std.specs.Option.{option_map};
+ghost use Rattle.std.specs.Prelude.{◌≡◌, ◌≤◌, None, option_map};
 ghost use Rattle.procap.specs.Tells.{Tells};
 ghost use Rattle.procap.specs.Facts.{spelled, most_terms};
 ghost use Rattle.procap.specs.Bytes.{many};
@@ -67,7 +66,7 @@ pub fn fact_at(state: &[u8], at: usize) -> Option<(Fact, usize)>
     Some((fact, next))
 }
 
-// The fact of a predicate and the terms at a lent place of the state, which moves behind them; where one is missing it stays.
+// The fact of a predicate and the terms at a place of the state. The place is lent, and moves behind the terms; where one is missing it stays.
 fn fact_with(state: &[u8], predicate: u16, terms: usize, at: &mut usize) -> Option<Fact>
     requires { terms ≤ most_terms }
     ensures reads { FactReads (with_predicate predicate (many (settled_term state.now) terms at.old)) (option_map (λ f. (f, at.new)) result) }
