@@ -66,7 +66,8 @@ pub fn fact_at(state: &[u8], at: usize) -> Option<(Fact, usize)>
     Some((fact, next))
 }
 
-// The fact of a predicate and the terms at a place of the state. The place is lent, and moves behind the terms; where one is missing it stays.
+// The fact of a predicate and the terms at a place of the state. The place is lent, and moves behind the terms; where one is missing it
+// stays.
 fn fact_with(state: &[u8], predicate: u16, terms: usize, at: &mut usize) -> Option<Fact>
     requires { terms ≤ most_terms }
     ensures reads { FactReads (with_predicate predicate (many (settled_term state.now) terms at.old)) (option_map (λ f. (f, at.new)) result) }
