@@ -15,8 +15,7 @@ use Rattle.judging.specs.declared.judge.Scope.{Scope}
 use Rattle.judging.specs.declared.rows.RowNumbers.{RowNumbers}
 use Rattle.judging.specs.declared.in_numbers.ViewNumbers.{ViewNumbers}
 use Rattle.judging.specs.declared.in_numbers.ScopeNumbers.{ScopeNumbers}
-use Rattle.judging.specs.RowsOf.{most_rows}
-use Rattle.judging.specs.RowNumbers.{row_of}
+use Rattle.judging.specs.RowsOf.{row_of, most_rows}
 use Rattle.judging.specs.Judging as judging
 use Rattle.judging.specs.Judging.{view_in}
 use Rattle.judging.specs.InNumbers.{view_of_numbers, numbers_of_view, scope_of, numbers_of_scope, part_of, plain_side, scope_by, scope_inside, one_more, scope_with}

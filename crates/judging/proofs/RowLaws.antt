@@ -21,9 +21,9 @@ use Rattle.judging.specs.declared.rows.Row.{Row}
 use Rattle.judging.specs.declared.rows.RowNumbers.{RowNumbers}
 use Rattle.formula.specs.PutIn.{terms_numbers}
 use Rattle.formula.specs.PartPromises.{front_on_ctime}
-use Rattle.judging.specs.RowsOf.{numbers_in, whose_in, row_from, row_in, most_rows, row_numbers, all_numbers}
+use Rattle.judging.specs.RowsOf.{numbers_in, whose_in, two_in, numbers_from, numbers_at, row_of, row_from, row_in, most_rows, row_numbers, all_numbers}
 use Rattle.formula.specs.Numbers.{numbers_of_judgement}
-use Rattle.judging.specs.RowNumbers.{whose_kind, whose_value, row_of, numbers_of_row, two_in, numbers_from, numbers_at, in_order, rows_put, rows_with}
+use Rattle.judging.specs.RowNumbers.{whose_kind, whose_value, numbers_of_row, in_order, rows_put, rows_with}
 
 -- ── Numbers stored one after another ──
 
@@ -149,25 +149,24 @@ module _ (rows : List ℕ) (at : ℕ) {kind : ℕ} (e : kind ≡ get_or rows at 
   unfolding whose_in
   whose_claimed other f = rw (← e, ne_eqb kind 0 other, ← f)
 
--- All rows are there, or not.
+-- All rows are there, or not: so of a row's numbers,
 module _ (rows : List ℕ) (i : ℕ) where
+  pub numbers_whole : length rows ≡ all_numbers → numbers_at rows i ≡ numbers_from rows i
+  unfolding numbers_at
+  numbers_whole all = rw (eq-eqb (length rows) all_numbers all)
+
+  pub numbers_of_none : (length rows ≡ all_numbers → ⊥) → numbers_at rows i ≡ record { whose = None; judgement = numbers_of_judgement front_on_ctime }
+  unfolding numbers_at
+  numbers_of_none apart = rw (ne_eqb (length rows) all_numbers apart)
+
+  -- and of the row that they stand for.
   pub row_whole : length rows ≡ all_numbers → row_in rows i ≡ row_from rows i
-  unfolding row_in
-  row_whole all = rw (eq-eqb (length rows) all_numbers all)
+  unfolding row_in row_from
+  row_whole all = ap row_of (numbers_whole all)
 
   pub row_of_none : (length rows ≡ all_numbers → ⊥) → row_in rows i ≡ record { whose = None; judgement = front_on_ctime }
-  unfolding row_in
-  row_of_none apart = rw (ne_eqb (length rows) all_numbers apart)
-
--- The same of their numbers.
-pub numbers_whole : (rows : List ℕ) (i : ℕ) → length rows ≡ all_numbers → numbers_at rows i ≡ numbers_from rows i
-unfolding numbers_at
-numbers_whole rows i all = rw (eq-eqb (length rows) all_numbers all)
-
-pub numbers_of_none : (rows : List ℕ) (i : ℕ) → (length rows ≡ all_numbers → ⊥)
-    → numbers_at rows i ≡ record { whose = None; judgement = numbers_of_judgement front_on_ctime }
-unfolding numbers_at
-numbers_of_none rows i apart = rw (ne_eqb (length rows) all_numbers apart)
+  unfolding row_in time_of
+  row_of_none apart = ap row_of (numbers_of_none apart)
 
 -- In rows of as many numbers, a row that is the same in its own is the same.
 same_row : (xs ys : List ℕ) (i : ℕ) → length xs ≡ length ys → numbers_from xs i ≡ numbers_from ys i → numbers_at xs i ≡ numbers_at ys i
@@ -176,14 +175,8 @@ same_row xs ys i n same = rw (n, same)
 
 -- A row is what its numbers stand for, and a row's numbers stand for it.
 pub row_by_numbers : (rows : List ℕ) (i : ℕ) → row_in rows i ≡ row_of (numbers_at rows i)
-unfolding row_in row_from numbers_at numbers_from time_of
-row_by_numbers rows i = by (eqb (length rows) all_numbers)
-  where
-    by : (all : Bool)
-        → pick all (row_from rows i) (record { whose = None; judgement = front_on_ctime })
-        ≡ row_of (pick all (numbers_from rows i) (record { whose = None; judgement = numbers_of_judgement front_on_ctime }))
-    by true = refl
-    by false = refl
+unfolding row_in
+row_by_numbers rows i = refl
 
 pub row_again : (row : Row) → row_of (numbers_of_row row) ≡ row
 row_again row = λ d. record {

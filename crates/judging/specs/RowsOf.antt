@@ -7,7 +7,10 @@ use Rattle.procap.specs.Numbered.{time_of}
 use Rattle.bl.specs.Trees.{Formula}
 use Rattle.bl.specs.Rules.{Assumption, plain, claim, shut}
 use Rattle.bl.specs.Certificates.{Statement, most_certificates}
+use Rattle.procap.specs.declared.time.TimeNumbers.{TimeNumbers}
+use Rattle.formula.specs.Numbers.{judgement_of, numbers_of_judgement}
 use Rattle.judging.specs.declared.rows.Row.{Row}
+use Rattle.judging.specs.declared.rows.RowNumbers.{RowNumbers}
 use Rattle.formula.specs.PutIn.{terms_numbers}
 use Rattle.formula.specs.Meaning.{On}
 use Rattle.formula.specs.PartPromises.{front_on_ctime}
@@ -37,9 +40,13 @@ time_in rows at = time_of (get_or rows at 0) (get_or rows (at + 1) 0)
 unfoldable pub whose_in : List ℕ → ℕ → Option ℕ
 whose_in rows at = pick (eqb (get_or rows at 0) 0) None (Some (get_or rows (at + 1) 0))
 
--- The row that sixteen numbers are, by its index.
-unfoldable pub row_from : List ℕ → ℕ → Row
-row_from rows i =
+-- The same two as they stand.
+abbrev pub two_in : List ℕ → ℕ → TimeNumbers
+two_in rows at = record { kind = get_or rows at 0; second = get_or rows (at + 1) 0 }
+
+-- The row that sixteen numbers are, by its index, with its times in numbers.
+unfoldable pub numbers_from : List ℕ → ℕ → RowNumbers
+numbers_from rows i =
     let start = i * row_numbers in
     record {
       whose = whose_in rows start;
@@ -48,14 +55,26 @@ row_from rows i =
           at = get_or rows (start + 6) 0;
           terms = record { count = get_or rows (start + 7) 0; numbers = numbers_in rows (start + 8) terms_numbers };
         };
-        from = time_in rows (start + 2);
-        to = time_in rows (start + 4);
+        from = two_in rows (start + 2);
+        to = two_in rows (start + 4);
       };
     }
 
--- The row at an index, where all rows are there; else a plain one that says nothing.
+-- The same at an index, where all rows are there; else a plain one that says nothing.
+unfoldable pub numbers_at : List ℕ → ℕ → RowNumbers
+numbers_at rows i =
+    pick (eqb (length rows) all_numbers) (numbers_from rows i) (record { whose = None; judgement = numbers_of_judgement front_on_ctime })
+
+-- The row on the times that its numbers stand for.
+abbrev pub row_of : RowNumbers → Row
+row_of row = record { whose = row.whose; judgement = judgement_of row.judgement }
+
+-- So are the row that sixteen numbers are, and the row at an index.
+unfoldable pub row_from : List ℕ → ℕ → Row
+row_from rows i = row_of (numbers_from rows i)
+
 unfoldable pub row_in : List ℕ → ℕ → Row
-row_in rows i = pick (eqb (length rows) all_numbers) (row_from rows i) (record { whose = None; judgement = front_on_ctime })
+row_in rows i = row_of (numbers_at rows i)
 
 -- The row of an index is an assumption, where the plain ones below `below` are shut out.
 pub data RowIs (buffer : List ℕ) (row : Row) (index below : ℕ) : Assumption → Type 0 where

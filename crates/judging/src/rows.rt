@@ -2,8 +2,8 @@
 ghost use Rattle.std.specs.Prelude.{◌≡◌, [], ◌∷◌, ◌+◌, ◌≤◌, ◌<◌, length};
 ghost use Rattle.std.proofs.lemmas.List.Edits.{sets};
 ghost use Rattle.formula.specs.PutIn.{terms_numbers};
-ghost use Rattle.judging.specs.RowsOf.{row_from, row_in, whose_in, time_in, numbers_in, most_rows};
-ghost use Rattle.judging.specs.RowNumbers.{whose_kind, whose_value, row_of, numbers_of_row, rows_put, rows_with};
+ghost use Rattle.judging.specs.RowsOf.{row_of, row_from, row_in, whose_in, time_in, numbers_in, most_rows};
+ghost use Rattle.judging.specs.RowNumbers.{whose_kind, whose_value, numbers_of_row, rows_put, rows_with};
 
 use formula::numbers::JudgementNumbers;
 use formula::parts::{FormulaAt, Judgement};

@@ -19,8 +19,8 @@ use Rattle.formula.specs.Meaning.{Means}
 use Rattle.judging.specs.declared.rows.RowNumbers.{RowNumbers}
 use Rattle.judging.specs.declared.judge.Scope.{Scope}
 use Rattle.judging.specs.declared.judge.Checked.{Checked}
-use Rattle.judging.specs.RowsOf.{RowIs}
-use Rattle.judging.specs.RowNumbers.{row_of, rows_put}
+use Rattle.judging.specs.RowsOf.{row_of, RowIs}
+use Rattle.judging.specs.RowNumbers.{rows_put}
 use Rattle.judging.specs.Judging.{view_in, scope_with, Passes}
 use Rattle.walk.specs.Walking.{Sources, Around, Keeps, ChecksAt}
 use Rattle.walk.proofs.Surroundings.{around_more, around_kept, scope_more, keeps_others}

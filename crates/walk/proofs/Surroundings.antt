@@ -22,9 +22,9 @@ use Rattle.judging.specs.declared.judge.Scope.{Scope}
 use Rattle.judging.specs.declared.judge.Checked.{Checked}
 use Rattle.formula.specs.PutIn.{terms_numbers}
 use Rattle.judging.specs.Judging.{one_more, scope_with}
-use Rattle.judging.specs.RowsOf.{most_rows, row_in, RowIs, is_plain, is_claim, is_shut, Assumed}
+use Rattle.judging.specs.RowsOf.{most_rows, row_of, row_in, RowIs, is_plain, is_claim, is_shut, Assumed}
 use Rattle.judging.specs.declared.rows.RowNumbers.{RowNumbers}
-use Rattle.judging.specs.RowNumbers.{row_of, rows_put}
+use Rattle.judging.specs.RowNumbers.{rows_put}
 use Rattle.judging.proofs.RowLaws.{row_of_there, earlier_numbers_stay, row_stays}
 use Rattle.walk.specs.Walking.{Sources, Around, Keeps, ChecksAt}
 

@@ -11,7 +11,7 @@ use Rattle.strength.specs.InNumbers.{StrengthsOf}
 use Rattle.steps.specs.Ends.{ToldChecking}
 use Rattle.ledger.specs.Books.{GoesOn}
 use Rattle.ledger.specs.declared.numbers.Counted.{Counted}
-use Rattle.ledger.specs.Numbers.{Book, book, Sound, Gives}
+use Rattle.ledger.specs.Numbers.{counted, Book, book, Sound, Gives}
 use Rattle.formula.specs.Meaning.{Means}
 use Rattle.judging.specs.declared.judge.Scope.{Scope}
 use Rattle.judging.specs.RowsOf.{Assumed, Certified, all_numbers}
@@ -63,7 +63,7 @@ pub record Passes (state : List ℕ) (b : Book) (w : Test) (e : ℕ) (r : Checke
 
 -- The ledger of a step, and how many facts are listed beside it.
 abbrev pub counted_in : Here → ℕ → Counted
-counted_in here count = record { ledger = here.ledger; count = count }
+counted_in here count = counted here.ledger count
 
 -- A step that checks, of at most so many levels: from a sound book, in what stands around, the step that the reader finds is checked
 -- against a goal.

@@ -16,8 +16,7 @@ use Rattle.judging.specs.declared.judge.Inferred.{Inferred}
 use Rattle.judging.specs.declared.judge.Checked.{Checked}
 use Rattle.ledger.specs.Books.{book, Sound}
 use Rattle.formula.specs.Meaning.{Means}
-use Rattle.judging.specs.RowsOf.{Assumed, Certified, all_numbers}
-use Rattle.judging.specs.RowNumbers.{numbers_at}
+use Rattle.judging.specs.RowsOf.{numbers_at, Assumed, Certified, all_numbers}
 use Rattle.judging.specs.Judging.{view_in, Yields, Passes}
 use Rattle.procap.specs.declared.fact.Fact.{Fact}
 

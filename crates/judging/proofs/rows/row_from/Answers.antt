@@ -1,9 +1,9 @@
 -- Each part of the row is what its own call found.
-use Rattle.judging.specs.RowsOf.{row_from}
+use Rattle.judging.specs.RowsOf.{row_from, numbers_from}
 use Rattle.judging.proofs.rows.row_from.Goals as goal
 
 pub returns : goal.returns
-unfolding row_from
+unfolding row_from numbers_from
 returns c = λ d. record {
   whose = c.whose_in.ensures d;
   judgement = record {
