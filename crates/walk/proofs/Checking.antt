@@ -36,7 +36,7 @@ use Rattle.judging.specs.RowNumbers.{numbers_of_row, rows_with}
 use Rattle.judging.proofs.RowLaws.{row_again}
 use Rattle.judging.specs.Judging.{view_in, view_on, scope_inside, scope_with, part_of, and_then, sides, TwoSided, and_sides, inside, top_goal, fact_goal, order_goal, Passes}
 use Rattle.judging.specs.StepPromises.{TakesSides, TakesInside, TakesInsideInferred, StaysStopped, ChecksInferred}
-use Rattle.walk.specs.Walking.{Sources, Around, Keeps, InfersAt, InfersBy, ChecksAt, ChecksBy}
+use Rattle.walk.specs.Walking.{Sources, Around, KeepsAsRead, InfersAt, InfersBy, ChecksAt, ChecksBy}
 use Rattle.walk.specs.WalkCalls.{Puts, puts_at, puts_says, puts_left, puts_right, TakesOut, takes_at, takes_says}
 use Rattle.steps.proofs.StepsRead.{PartRead, check_read, pair_read, trivial_read, state_read, compare_read, at_in_read}
 use Rattle.steps.proofs.StepsRead.{says_in_read, at_out_read, says_out_read, or_left_read, or_right_read, inferred_tag, inferred_read, begins_there}
@@ -321,7 +321,7 @@ module _ (S : Sources) (rows : List ℕ) (scope : Scope) (ledger : Ledger) (list
             (passes_halted S.state (book ledger list) _ held.ledger list₁ (taken_comes π Γ N e sound around found) _ e n next)
 
         -- The row is the assumption more.
-        pub check_take : GoesOn held.ledger → {between more : List ℕ} → Keeps scope.count rows between
+        pub check_take : GoesOn held.ledger → {between more : List ℕ} → KeepsAsRead scope.count rows between
             → more ≡ rows_with between scope.count held.row → length more ≡ length between
             → {r : Checked} {list₂ : List Fact}
             → ChecksAt S more (scope_with scope) held.ledger list₁ left goal_bytes goal inferred.next r list₂

@@ -27,7 +27,7 @@ use Rattle.judging.specs.RowNumbers.{numbers_of_row, rows_with}
 use Rattle.judging.proofs.RowLaws.{row_again}
 use Rattle.judging.specs.Judging.{view_in, scope_with, plain_side, and_then, sides, TwoSided, branches}
 use Rattle.judging.specs.StepPromises.{TakesSidesInferred, StaysStopped, ChecksFalsity}
-use Rattle.walk.specs.Walking.{Sources, Around, Keeps, InfersAt, ChecksAt, ChecksBy}
+use Rattle.walk.specs.Walking.{Sources, Around, KeepsAsRead, InfersAt, ChecksAt, ChecksBy}
 use Rattle.steps.proofs.StepsRead.{OrOutRead, or_out_read, falsity_out_read}
 use Rattle.judging.proofs.StepWalks.{or_out_walk, falsity_out_walk}
 use Rattle.judging.proofs.Coming.{Comes, comes_taken, comes_inferred, comes_checked, comes_or_stays, passes_halted, passes_then}
@@ -92,7 +92,7 @@ module _ (S : Sources) (rows : List ℕ) (scope : Scope) (ledger : Ledger) (list
           (passes_halted S.state (book ledger list) _ parts.ledger list₁ (branches_come π Γ N e sound around found told) _ e n next)
 
       -- The first branch, with the left side assumed.
-      module _ (going : GoesOn parts.ledger) {between more : List ℕ} (kept : Keeps scope.count rows between)
+      module _ (going : GoesOn parts.ledger) {between more : List ℕ} (kept : KeepsAsRead scope.count rows between)
           (put : more ≡ rows_with between scope.count (side_row parts.first)) (all : length more ≡ length between) {one : Checked} {list₂ : List Fact}
           (checks : ChecksAt S more (scope_with scope) parts.ledger list₁ left goal_bytes goal inferred.next one list₂) where
         one_comes : (π : Policy) (Γ : List Assumption) (N : Check) (e : ℕ) → Sound (book parts.ledger list₁) → Around S rows scope (suc left) π Γ
@@ -114,7 +114,7 @@ module _ (S : Sources) (rows : List ℕ) (scope : Scope) (ledger : Ledger) (list
             (one_comes π Γ N e sound around found told so.2 x.0 so.0 G means) _ e n one.next))
 
         -- And then the second, with the right side assumed.
-        pub check_cases : GoesOn one.ledger → {between₂ more₂ : List ℕ} → Keeps scope.count rows between₂
+        pub check_cases : GoesOn one.ledger → {between₂ more₂ : List ℕ} → KeepsAsRead scope.count rows between₂
             → more₂ ≡ rows_with between₂ scope.count (side_row parts.second) → length more₂ ≡ length between₂ → {other : Checked} {list₃ : List Fact}
             → ChecksAt S more₂ (scope_with scope) one.ledger list₂ left goal_bytes goal one.next other list₃
             → By OrOutTag other list₃

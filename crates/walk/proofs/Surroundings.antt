@@ -26,7 +26,7 @@ use Rattle.judging.specs.RowsOf.{most_rows, row_of, row_in, RowIs, is_plain, is_
 use Rattle.judging.specs.declared.rows.RowNumbers.{RowNumbers}
 use Rattle.judging.specs.RowNumbers.{rows_put}
 use Rattle.judging.proofs.RowLaws.{row_of_there, earlier_numbers_stay, row_stays}
-use Rattle.walk.specs.Walking.{Sources, Around, Keeps, ChecksAt}
+use Rattle.walk.specs.Walking.{Sources, Around, Keeps, KeepsAsRead, ChecksAt}
 
 -- A row inside of a says-in: a plain one is shut out, a claim stays.
 row_shut : (buffer : List ℕ) (row : Row) (index before below : ℕ) (x : Assumption) → index < below → RowIs buffer row index before x → RowIs buffer row index below (shut_out x)
@@ -67,9 +67,13 @@ row_whole buffer row index below x h (is_shut plain-Row lower) = absurd (omega a
 pub keeps_then : {count : ℕ} {before between after : List ℕ} → Keeps count before between → Keeps count between after → Keeps count before after
 keeps_then first second = record { rows = λ i below. second.rows i below ∙ first.rows i below; all = second.all ∙ first.all }
 
--- What keeps the numbers of rows keeps the rows.
-rows_kept : {count : ℕ} {before after : List ℕ} → Keeps count before after → (i : ℕ) → i < count → row_in after i ≡ row_in before i
-rows_kept {count} {before} {after} keeps i below = row_stays before after i (keeps.rows i below)
+-- The same of rows as they are read.
+pub read_then : {count : ℕ} {before between after : List ℕ} → KeepsAsRead count before between → KeepsAsRead count between after → KeepsAsRead count before after
+read_then first second = record { rows = λ i below. second.rows i below ∙ first.rows i below; all = second.all ∙ first.all }
+
+-- What keeps the numbers of rows keeps the rows as they are read.
+pub as_read : {count : ℕ} {before after : List ℕ} → Keeps count before after → KeepsAsRead count before after
+as_read {count} {before} {after} keeps = record { rows = λ i below. row_stays before after i (keeps.rows i below); all = keeps.all }
 
 -- A row that is put at the count leaves those below it.
 pub keeps_others : (count : ℕ) (before : List ℕ) (row : RowNumbers) {after : List ℕ} → after ≡ rows_put before count row → length after ≡ length before → Keeps count before after
@@ -95,6 +99,13 @@ keeps_assumed scope before row put all after =
     let below = keeps_others scope.count before row put all in
     let grows = scope_grows scope in
     record { rows = λ i l. after.rows i (omega arith) ∙ below.rows i l; all = after.all ∙ below.all }
+
+-- The same of rows as they are read.
+pub read_assumed : (scope : Scope) (before : List ℕ) (row : RowNumbers) {more after : List ℕ} → more ≡ rows_put before scope.count row → length more ≡ length before
+    → KeepsAsRead (scope_with scope).count more after → KeepsAsRead scope.count before after
+read_assumed scope before row put all after =
+    let grows = scope_grows scope in
+    read_then (as_read (keeps_others scope.count before row put all)) (record { rows = λ i l. after.rows i (omega arith); all = after.all })
 
 -- A row that is usable is so at its own index.
 pub row_usable : (buffer : List ℕ) (row : Row) (index below : ℕ) (x : Assumption) → below ≤ index → RowIs buffer row 0 0 x → RowIs buffer row index below x
@@ -122,7 +133,7 @@ module _ (S : Sources) (rows : List ℕ) (scope : Scope) (left : ℕ) (π : Poli
       }
 
   -- A part with one assumption more: the row is put past those that are there.
-  pub around_more : (more : List ℕ) (row : RowNumbers) (x : Assumption) → RowIs S.buffer (row_of row) 0 0 x → more ≡ rows_put rows scope.count row → Keeps scope.count rows more
+  pub around_more : (more : List ℕ) (row : RowNumbers) (x : Assumption) → RowIs S.buffer (row_of row) 0 0 x → more ≡ rows_put rows scope.count row → KeepsAsRead scope.count rows more
       → Around S more (one_more scope) left π (x ∷ Γ)
   unfolding Assumed
   around_more more row x usable put keeps =
@@ -134,7 +145,7 @@ module _ (S : Sources) (rows : List ℕ) (scope : Scope) (left : ℕ) (π : Poli
         assumed =
             rw (add-one scope.count) (
               rw (row_of_there rows scope.count row put around.all_there (omega arith) (row_whole S.buffer (row_of row) scope.count scope.shut x inside is)) is,
-              assumed_in S.buffer rows more scope.shut scope.count Γ (rows_kept keeps) around.assumed,
+              assumed_in S.buffer rows more scope.shut scope.count Γ keeps.rows around.assumed,
             );
         shut_inside = omega arith;
         room = omega arith;
@@ -142,12 +153,12 @@ module _ (S : Sources) (rows : List ℕ) (scope : Scope) (left : ℕ) (π : Poli
       }
 
 -- What stands around, in rows that are kept.
-pub around_kept : (S : Sources) (before after : List ℕ) (scope : Scope) (left : ℕ) (π : Policy) (Γ : List Assumption) → Keeps scope.count before after
+pub around_kept : (S : Sources) (before after : List ℕ) (scope : Scope) (left : ℕ) (π : Policy) (Γ : List Assumption) → KeepsAsRead scope.count before after
     → Around S before scope left π Γ → Around S after scope left π Γ
 around_kept S before after scope left π Γ keeps around =
     record {
       policy = around.policy;
-      assumed = assumed_in S.buffer before after scope.shut scope.count Γ (rows_kept keeps) around.assumed;
+      assumed = assumed_in S.buffer before after scope.shut scope.count Γ keeps.rows around.assumed;
       shut_inside = around.shut_inside;
       room = around.room;
       all_there = keeps.all ∙ around.all_there;
@@ -155,7 +166,7 @@ around_kept S before after scope left π Γ keeps around =
 
 -- So a call after another promises of the rows at the start what it promises of those that it finds.
 pub checks_kept : (S : Sources) (before after : List ℕ) (scope : Scope) (ledger : Ledger) (list : List Fact) (left : ℕ) (goal_bytes : List ℕ) (goal : Judgement)
-    (at : ℕ) {r : Checked} {list' : List Fact} → Keeps scope.count before after
+    (at : ℕ) {r : Checked} {list' : List Fact} → KeepsAsRead scope.count before after
     → ChecksAt S after scope ledger list left goal_bytes goal at r list'
     → ChecksAt S before scope ledger list left goal_bytes goal at r list'
 checks_kept S before after scope ledger list left goal_bytes goal at keeps checks π Γ N e sound around =

@@ -16,7 +16,7 @@ use Rattle.judging.specs.declared.judge.Inferred.{Inferred}
 use Rattle.judging.specs.declared.judge.Checked.{Checked}
 use Rattle.ledger.specs.Books.{book, Sound}
 use Rattle.formula.specs.Meaning.{Means}
-use Rattle.judging.specs.RowsOf.{numbers_at, Assumed, Certified, all_numbers}
+use Rattle.judging.specs.RowsOf.{numbers_at, row_in, Assumed, Certified, all_numbers}
 use Rattle.judging.specs.Judging.{view_in, Yields, Passes}
 use Rattle.procap.specs.declared.fact.Fact.{Fact}
 
@@ -47,6 +47,11 @@ pub record Around (S : Sources) (rows : List ℕ) (scope : Scope) (left : ℕ) (
 -- The rows below a count are as they were, with each number of their times, and as many numbers are there.
 pub record Keeps (count : ℕ) (before after : List ℕ) : Type 0 where
   pub rows : (i : ℕ) → i < count → numbers_at after i ≡ numbers_at before i
+  pub all : length after ≡ length before
+
+-- The rows below a count are read as they were, on the times that their numbers stand for, and as many numbers are there.
+pub record KeepsAsRead (count : ℕ) (before after : List ℕ) : Type 0 where
+  pub rows : (i : ℕ) → i < count → row_in after i ≡ row_in before i
   pub all : length after ≡ length before
 
 module _ (S : Sources) (rows : List ℕ) (scope : Scope) (ledger : Ledger) (list : List Fact) (left : ℕ) where
