@@ -23,7 +23,7 @@ use Rattle.judging.specs.RowsOf.{row_of, RowIs}
 use Rattle.judging.specs.RowNumbers.{rows_put}
 use Rattle.judging.specs.Judging.{view_in, scope_with, Passes}
 use Rattle.walk.specs.Walking.{Sources, Around, KeepsAsRead, ChecksAt}
-use Rattle.walk.proofs.Surroundings.{around_more, around_kept, as_read, scope_more, keeps_others}
+use Rattle.walk.proofs.Surroundings.{around_more, around_kept, keeps_as_read, scope_more, keeps_others}
 use Rattle.procap.specs.declared.fact.Fact.{Fact}
 
 module _ (S : Sources) (rows : List ℕ) (scope : Scope) (left : ℕ) (goal_bytes : List ℕ) (goal : Judgement)
@@ -37,5 +37,5 @@ module _ (S : Sources) (rows : List ℕ) (scope : Scope) (left : ℕ) (goal_byte
   part_assuming π Γ N e sound around reads told x is G means =
       let room = around.room in
       let around' = around_kept S rows between scope (suc left) π Γ kept around in
-      let more_around = around_more S between scope left π Γ around' more row x is put (as_read (keeps_others scope.count between row put all)) in
+      let more_around = around_more S between scope left π Γ around' more row x is put (keeps_as_read (keeps_others scope.count between row put all)) in
       (rw (scope_more scope (omega arith)) at checks) π (x ∷ Γ) N e sound more_around (rw (add-one scope.count) reads) told G means

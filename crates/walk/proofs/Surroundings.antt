@@ -68,12 +68,12 @@ pub keeps_then : {count : ℕ} {before between after : List ℕ} → Keeps count
 keeps_then first second = record { rows = λ i below. second.rows i below ∙ first.rows i below; all = second.all ∙ first.all }
 
 -- The same of rows as they are read.
-pub read_then : {count : ℕ} {before between after : List ℕ} → KeepsAsRead count before between → KeepsAsRead count between after → KeepsAsRead count before after
-read_then first second = record { rows = λ i below. second.rows i below ∙ first.rows i below; all = second.all ∙ first.all }
+pub as_read_then : {count : ℕ} {before between after : List ℕ} → KeepsAsRead count before between → KeepsAsRead count between after → KeepsAsRead count before after
+as_read_then first second = record { rows = λ i below. second.rows i below ∙ first.rows i below; all = second.all ∙ first.all }
 
 -- What keeps the numbers of rows keeps the rows as they are read.
-pub as_read : {count : ℕ} {before after : List ℕ} → Keeps count before after → KeepsAsRead count before after
-as_read {count} {before} {after} keeps = record { rows = λ i below. row_stays before after i (keeps.rows i below); all = keeps.all }
+pub keeps_as_read : {count : ℕ} {before after : List ℕ} → Keeps count before after → KeepsAsRead count before after
+keeps_as_read {count} {before} {after} keeps = record { rows = λ i below. row_stays before after i (keeps.rows i below); all = keeps.all }
 
 -- A row that is put at the count leaves those below it.
 pub keeps_others : (count : ℕ) (before : List ℕ) (row : RowNumbers) {after : List ℕ} → after ≡ rows_put before count row → length after ≡ length before → Keeps count before after
@@ -101,11 +101,11 @@ keeps_assumed scope before row put all after =
     record { rows = λ i l. after.rows i (omega arith) ∙ below.rows i l; all = after.all ∙ below.all }
 
 -- The same of rows as they are read.
-pub read_assumed : (scope : Scope) (before : List ℕ) (row : RowNumbers) {more after : List ℕ} → more ≡ rows_put before scope.count row → length more ≡ length before
+pub as_read_assumed : (scope : Scope) (before : List ℕ) (row : RowNumbers) {more after : List ℕ} → more ≡ rows_put before scope.count row → length more ≡ length before
     → KeepsAsRead (scope_with scope).count more after → KeepsAsRead scope.count before after
-read_assumed scope before row put all after =
+as_read_assumed scope before row put all after =
     let grows = scope_grows scope in
-    read_then (as_read (keeps_others scope.count before row put all)) (record { rows = λ i l. after.rows i (omega arith); all = after.all })
+    as_read_then (keeps_as_read (keeps_others scope.count before row put all)) (record { rows = λ i l. after.rows i (omega arith); all = after.all })
 
 -- A row that is usable is so at its own index.
 pub row_usable : (buffer : List ℕ) (row : Row) (index below : ℕ) (x : Assumption) → below ≤ index → RowIs buffer row 0 0 x → RowIs buffer row index below x

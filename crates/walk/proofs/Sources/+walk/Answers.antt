@@ -5,7 +5,7 @@ use Prim.Native.Nat.{suc, ◌-◌}
 use mathlib.Core.Path.{◌≡◌, sym, ap}
 use native.Mathlib.Omega.{arith}
 use Rattle.walk.specs.WalkCalls.{puts_at, puts_says, puts_left, puts_right, takes_at, takes_says}
-use Rattle.walk.proofs.Surroundings.{keeps_then, as_read, keeps_assumed, checks_kept}
+use Rattle.walk.proofs.Surroundings.{keeps_then, keeps_as_read, keeps_assumed, checks_kept}
 use Rattle.walk.proofs.Inferring.{infer_none, infer_tagged, infer_local, infer_certificate, infer_no_tag, infer_no_term, infer_first, infer_second, infer_instance, infer_apply_stopped, infer_apply}
 use Rattle.walk.proofs.Checking.{check_none, check_tagged, check_inferred, check_no_tag, check_trivial, check_state, check_order}
 use Rattle.walk.proofs.Checking.{check_pair_unfit, check_pair_stopped, check_pair, check_put_unfit, check_put, check_take_stopped, check_take}
@@ -70,7 +70,7 @@ apply-returns-clause-walks t c =
     infer_apply _ _ _ _ _ _ _ c.past-begin.ensures.there (rw c.part.ensures at c.infer-part.ensures.walks)
     c.end_in-second_end.ensures used.going used.stopped
     c.if-not-goes_on.ensures c.part_at.ensures
-    (checks_kept _ _ _ _ _ _ _ _ _ _ (as_read kept) (rw c.part-second.ensures at c.check-checked.ensures.walks))
+    (checks_kept _ _ _ _ _ _ _ _ _ _ (keeps_as_read kept) (rw c.part-second.ensures at c.check-checked.ensures.walks))
 
 pub check-returns-then-here-eq0-clause-walks : goal.check-returns-then-here-eq0-clause-walks
 check-returns-then-here-eq0-clause-walks t c =
@@ -156,7 +156,7 @@ pair-returns-clause-walks t c =
     c.if-not-goes_on.ensures c.past-begin.ensures.there
     (rw (c.part_at.ensures, c.part.ensures) at c.check-one.ensures.walks)
     c.if-not-goes_on-2.ensures
-    (checks_kept _ _ _ _ _ _ _ _ _ _ (as_read kept) (rw (c.part_at-2.ensures, c.part-2.ensures) at c.check.ensures.walks))
+    (checks_kept _ _ _ _ _ _ _ _ _ _ (keeps_as_read kept) (rw (c.part_at-2.ensures, c.part-2.ensures) at c.check.ensures.walks))
 
 pub put_in-returns-then-not-goes_on-clause-walks : goal.put_in-returns-then-not-goes_on-clause-walks
 put_in-returns-then-not-goes_on-clause-walks t c =
@@ -183,7 +183,7 @@ take_out-returns t c =
     let all = c.assume.auto.assumptions in
     record {
       walks = check_take _ _ _ _ _ _ _ _ _ _ c.past-begin.ensures.there (rw c.part.ensures at c.infer-inferred.ensures.walks) inside.going inside.stopped
-          c.if-not-goes_on.ensures (as_read kept) put all
+          c.if-not-goes_on.ensures (keeps_as_read kept) put all
           (rw (c.assume.ensures.scope, c.part-2.ensures) at c.check.ensures.walks);
       keeps = keeps_then kept (keeps_assumed c.args.here.scope _ _ put all (rw c.assume.ensures.scope at c.check.ensures.keeps));
     }
@@ -202,7 +202,7 @@ by_cases-returns-then-not-goes_on-2 t c =
     let all = c.assume.auto.assumptions in
     record {
       walks = check_cases_stopped _ _ _ _ _ _ _ _ _ c.past-begin.ensures.there (rw c.part.ensures at c.infer-inferred.ensures.walks) sides.going sides.stopped
-          c.if-not-goes_on.ensures (as_read kept) put all
+          c.if-not-goes_on.ensures (keeps_as_read kept) put all
           (rw (c.assume.ensures.scope, c.part-2.ensures) at c.check-one.ensures.walks)
           c.if-not-goes_on-2.ensures;
       keeps = keeps_then kept (keeps_assumed c.args.here.scope _ _ put all (rw c.assume.ensures.scope at c.check-one.ensures.keeps));
@@ -219,10 +219,10 @@ by_cases-returns t c =
     let all2 = c.assume-2.auto.assumptions in
     record {
       walks = check_cases _ _ _ _ _ _ _ _ _ c.past-begin.ensures.there (rw c.part.ensures at c.infer-inferred.ensures.walks) sides.going sides.stopped
-          c.if-not-goes_on.ensures (as_read kept) put all
+          c.if-not-goes_on.ensures (keeps_as_read kept) put all
           (rw (c.assume.ensures.scope, c.part-2.ensures) at c.check-one.ensures.walks)
           c.if-not-goes_on-2.ensures
-          (as_read kept2) put2 all2 (rw (c.assume-2.ensures.scope, c.part-3.ensures) at c.check.ensures.walks);
+          (keeps_as_read kept2) put2 all2 (rw (c.assume-2.ensures.scope, c.part-3.ensures) at c.check.ensures.walks);
       keeps = keeps_then kept2 (keeps_assumed c.args.here.scope _ _ put2 all2 (rw c.assume-2.ensures.scope at c.check.ensures.keeps));
     }
 
