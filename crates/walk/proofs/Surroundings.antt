@@ -26,7 +26,7 @@ use Rattle.judging.specs.RowsOf.{most_rows, row_of, row_in, RowIs, is_plain, is_
 use Rattle.judging.specs.declared.rows.RowNumbers.{RowNumbers}
 use Rattle.judging.specs.RowNumbers.{rows_put}
 use Rattle.judging.proofs.RowLaws.{row_of_there, earlier_numbers_stay, row_stays}
-use Rattle.walk.specs.Walking.{Sources, Around, Keeps, KeepsAsRead, ChecksAt}
+use Rattle.walk.specs.Walking.{Sources, Around, KeepsBy, Keeps, KeepsAsRead, ChecksAt}
 
 -- A row inside of a says-in: a plain one is shut out, a claim stays.
 row_shut : (buffer : List ℕ) (row : Row) (index before below : ℕ) (x : Assumption) → index < below → RowIs buffer row index before x → RowIs buffer row index below (shut_out x)
@@ -63,13 +63,10 @@ row_whole buffer row index below x h (is_shut plain-Row lower) = absurd (omega a
 
 -- ── Rows that are kept ──
 
--- What one call and the next keep, both keep.
-pub keeps_then : {count : ℕ} {before between after : List ℕ} → Keeps count before between → Keeps count between after → Keeps count before after
+-- What one call and the next keep, both keep, whatever is read of a row.
+pub keeps_then : {A : Type 0} {read : List ℕ → ℕ → A} {count : ℕ} {before between after : List ℕ} → KeepsBy read count before between
+    → KeepsBy read count between after → KeepsBy read count before after
 keeps_then first second = record { rows = λ i below. second.rows i below ∙ first.rows i below; all = second.all ∙ first.all }
-
--- The same of rows as they are read.
-pub as_read_then : {count : ℕ} {before between after : List ℕ} → KeepsAsRead count before between → KeepsAsRead count between after → KeepsAsRead count before after
-as_read_then first second = record { rows = λ i below. second.rows i below ∙ first.rows i below; all = second.all ∙ first.all }
 
 -- What keeps the numbers of rows keeps the rows as they are read.
 pub keeps_as_read : {count : ℕ} {before after : List ℕ} → Keeps count before after → KeepsAsRead count before after
@@ -92,20 +89,21 @@ pub scope_more : (scope : Scope) → scope.count < most_rows → scope_with scop
 unfolding scope_with
 scope_more scope room = rw (lt-ltb scope.count most_rows room) refl
 
+-- What is kept below the assumption more is kept below those that were there.
+keeps_fewer : {A : Type 0} {read : List ℕ → ℕ → A} (scope : Scope) {more after : List ℕ} → KeepsBy read (scope_with scope).count more after
+    → KeepsBy read scope.count more after
+keeps_fewer scope keeps = let grows = scope_grows scope in record { rows = λ i l. keeps.rows i (omega arith); all = keeps.all }
+
 -- A row is put, and then a call keeps what is below the assumption more: both keep what was there before.
 pub keeps_assumed : (scope : Scope) (before : List ℕ) (row : RowNumbers) {more after : List ℕ} → more ≡ rows_put before scope.count row → length more ≡ length before
     → Keeps (scope_with scope).count more after → Keeps scope.count before after
-keeps_assumed scope before row put all after =
-    let below = keeps_others scope.count before row put all in
-    let grows = scope_grows scope in
-    record { rows = λ i l. after.rows i (omega arith) ∙ below.rows i l; all = after.all ∙ below.all }
+keeps_assumed scope before row put all after = keeps_then (keeps_others scope.count before row put all) (keeps_fewer scope after)
 
 -- The same of rows as they are read.
 pub as_read_assumed : (scope : Scope) (before : List ℕ) (row : RowNumbers) {more after : List ℕ} → more ≡ rows_put before scope.count row → length more ≡ length before
     → KeepsAsRead (scope_with scope).count more after → KeepsAsRead scope.count before after
 as_read_assumed scope before row put all after =
-    let grows = scope_grows scope in
-    as_read_then (keeps_as_read (keeps_others scope.count before row put all)) (record { rows = λ i l. after.rows i (omega arith); all = after.all })
+    keeps_then (keeps_as_read (keeps_others scope.count before row put all)) (keeps_fewer scope after)
 
 -- A row that is usable is so at its own index.
 pub row_usable : (buffer : List ℕ) (row : Row) (index below : ℕ) (x : Assumption) → below ≤ index → RowIs buffer row 0 0 x → RowIs buffer row index below x

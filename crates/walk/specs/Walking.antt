@@ -44,15 +44,18 @@ pub record Around (S : Sources) (rows : List ℕ) (scope : Scope) (left : ℕ) (
   pub room : scope.count + left ≤ most_proof_levels
   pub all_there : length rows ≡ all_numbers
 
--- The rows below a count are as they were, with each number of their times, and as many numbers are there.
-pub record Keeps (count : ℕ) (before after : List ℕ) : Type 0 where
-  pub rows : (i : ℕ) → i < count → numbers_at after i ≡ numbers_at before i
+-- What is read of each row below a count is as it was, and as many numbers are there.
+pub record KeepsBy {A : Type 0} (read : List ℕ → ℕ → A) (count : ℕ) (before after : List ℕ) : Type 0 where
+  pub rows : (i : ℕ) → i < count → read after i ≡ read before i
   pub all : length after ≡ length before
 
+-- The rows below a count are as they were, with each number of their times, and as many numbers are there.
+abbrev pub Keeps : ℕ → List ℕ → List ℕ → Type 0
+Keeps count before after = KeepsBy numbers_at count before after
+
 -- The rows below a count are read as they were, on the times that their numbers stand for, and as many numbers are there.
-pub record KeepsAsRead (count : ℕ) (before after : List ℕ) : Type 0 where
-  pub rows : (i : ℕ) → i < count → row_in after i ≡ row_in before i
-  pub all : length after ≡ length before
+abbrev pub KeepsAsRead : ℕ → List ℕ → List ℕ → Type 0
+KeepsAsRead count before after = KeepsBy row_in count before after
 
 module _ (S : Sources) (rows : List ℕ) (scope : Scope) (ledger : Ledger) (list : List Fact) (left : ℕ) where
   -- From a sound book, in what stands around.
