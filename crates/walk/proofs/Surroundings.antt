@@ -89,21 +89,18 @@ pub scope_more : (scope : Scope) → scope.count < most_rows → scope_with scop
 unfolding scope_with
 scope_more scope room = rw (lt-ltb scope.count most_rows room) refl
 
--- What is kept below the assumption more is kept below those that were there.
-keeps_fewer : {A : Type 0} {read : List ℕ → ℕ → A} (scope : Scope) {more after : List ℕ} → KeepsBy read (scope_with scope).count more after
-    → KeepsBy read scope.count more after
-keeps_fewer scope keeps = let grows = scope_grows scope in record { rows = λ i l. keeps.rows i (omega arith); all = keeps.all }
+-- What is kept below a count is kept below a smaller one.
+keeps_fewer : {A : Type 0} {read : List ℕ → ℕ → A} {fewer count : ℕ} {before after : List ℕ} → fewer ≤ count → KeepsBy read count before after
+    → KeepsBy read fewer before after
+keeps_fewer less keeps = record { rows = λ i l. keeps.rows i (omega arith); all = keeps.all }
 
--- A row is put, and then a call keeps what is below the assumption more: both keep what was there before.
-pub keeps_assumed : (scope : Scope) (before : List ℕ) (row : RowNumbers) {more after : List ℕ} → more ≡ rows_put before scope.count row → length more ≡ length before
-    → Keeps (scope_with scope).count more after → Keeps scope.count before after
-keeps_assumed scope before row put all after = keeps_then (keeps_others scope.count before row put all) (keeps_fewer scope after)
+-- A row is put, and then a call keeps the rows with one more: both keep those that were there before; and so of rows as they are read.
+module _ (scope : Scope) (before : List ℕ) (row : RowNumbers) {more after : List ℕ} (put : more ≡ rows_put before scope.count row) (all : length more ≡ length before) where
+  pub keeps_assumed : Keeps (scope_with scope).count more after → Keeps scope.count before after
+  keeps_assumed after = keeps_then (keeps_others scope.count before row put all) (keeps_fewer (scope_grows scope) after)
 
--- The same of rows as they are read.
-pub as_read_assumed : (scope : Scope) (before : List ℕ) (row : RowNumbers) {more after : List ℕ} → more ≡ rows_put before scope.count row → length more ≡ length before
-    → KeepsAsRead (scope_with scope).count more after → KeepsAsRead scope.count before after
-as_read_assumed scope before row put all after =
-    keeps_then (keeps_as_read (keeps_others scope.count before row put all)) (keeps_fewer scope after)
+  pub as_read_assumed : KeepsAsRead (scope_with scope).count more after → KeepsAsRead scope.count before after
+  as_read_assumed after = keeps_then (keeps_as_read (keeps_others scope.count before row put all)) (keeps_fewer (scope_grows scope) after)
 
 -- A row that is usable is so at its own index.
 pub row_usable : (buffer : List ℕ) (row : Row) (index below : ℕ) (x : Assumption) → below ≤ index → RowIs buffer row 0 0 x → RowIs buffer row index below x
